@@ -4,7 +4,7 @@
  * and what compilers make of it (memcpy, memset) alone.
  *
  * Crates: trac_language trac_space trac_values trac_store trac_forms trac_devices trac_functions trac_laws trac_core trac_c
- * Sources: b44b9736a23c680ab401cf98c7b11929c68dd00071c9551300d6a2f51dc956c1
+ * Sources: 51ec415ed383df68f6b49271308c39c4ac9f3897f73e57d0487c30dfd0552542
  * Kit: rattle-kit-13f logic dac8208d650f15bf
  * Tools: wasm-opt version 108, wabt 1.0.32
  */
@@ -18,12 +18,6 @@ typedef uint32_t u32;
 typedef uint64_t u64;
 typedef int32_t i32;
 typedef int64_t i64;
-
-/* What a call of the engine has beside its arguments: a stack of its own, from the lowest address on, and where
- * what is used of it begins. */
-struct engine {
-    u64 stack, stack_pointer;
-};
 
 /* What proved code never reaches. */
 #if defined(__GNUC__) && !defined(__TINYC__)
@@ -91,9 +85,9 @@ static inline u64 clz64(u64 x) {
     return x >> 32 ? clz32((u32)(x >> 32)) : 32 + clz32((u32)x);
 }
 
-enum { DEEPEST_STACK = 912 };
+enum { DEEPEST_STACK = 928 };
 
-static const u8 tables[3040] = {
+static const u8 tables[3008] = {
     0, 1, 2, 3, 4, 5, 6, 7, 8, 9, 10, 11, 12, 13, 14, 15, 16, 17, 18, 19, 20, 21, 22, 23,
     24, 25, 26, 27, 28, 29, 30, 31, 32, 33, 34, 35, 36, 37, 38, 39, 40, 41, 42, 43, 44, 45, 46, 47,
     48, 49, 50, 51, 52, 53, 54, 55, 56, 57, 58, 59, 60, 61, 62, 63, 64, 97, 98, 99, 100, 101, 102, 103,
@@ -219,102 +213,101 @@ static const u8 tables[3040] = {
     54, 52, 54, 53, 54, 54, 54, 55, 54, 56, 54, 57, 55, 48, 55, 49, 55, 50, 55, 51, 55, 52, 55, 53,
     55, 54, 55, 55, 55, 56, 55, 57, 56, 48, 56, 49, 56, 50, 56, 51, 56, 52, 56, 53, 56, 54, 56, 55,
     56, 56, 56, 57, 57, 48, 57, 49, 57, 50, 57, 51, 57, 52, 57, 53, 57, 54, 57, 55, 57, 56, 57, 57,
-    1, 2, 0, 0, 0, 0, 0, 0, 0, 0, 0, 0, 0, 0, 0, 0, 0, 0, 0, 0, 0, 0, 0, 0,
-    0, 0, 0, 0, 0, 0, 0, 0, 0, 0, 0, 0, 0, 0, 0, 0,
+    0, 0, 0, 0, 0, 0, 0, 0,
 };
 
-static void multi3(struct engine *e, u64 l0, u64 l1, u64 l2, u64 l3, u64 l4);
-static void ashlti3(struct engine *e, u64 l0, u64 l1, u64 l2, u32 l3);
-static void lshrti3(struct engine *e, u64 l0, u64 l1, u64 l2, u32 l3);
-static u32 core_machine_Machine_awaits(struct engine *e, u64 l0);
-static void functions_arguments_Arguments_next(struct engine *e, u64 l0, u64 l1, u64 l2);
-static void functions_function_function_of(struct engine *e, u64 l0, u64 l1, u64 l2);
-static u32 store_arguments_before_far_comma(struct engine *e, u64 l0, u64 l1);
-static void core_scan_pass(struct engine *e, u64 l0, u64 l1, u64 l2, u64 l3, u64 l4);
-static u32 space_space_Space_try_claim_spare(struct engine *e, u64 l0, u64 l1);
-static void devices_slice_source_SliceSourceSource_take_held(struct engine *e, u64 l0, u32 l1, u64 l2);
-static u32 space_space_Space_push_over_spare(struct engine *e, u64 l0, u64 l1);
-static void forms_work_Work_find_among_more(struct engine *e, u64 l0, u64 l1, u32 l2, u32 l3);
-static void forms_work_Work_find_among_few(struct engine *e, u64 l0, u64 l1, u32 l2, u32 l3);
-static void forms_work_Work_stored(struct engine *e, u64 l0, u64 l1, u32 l2);
-static u32 core_display_show_form(struct engine *e, u64 l0, u64 l1);
-static void functions_comparing_equal(struct engine *e, u64 l0, u64 l1, u64 l2);
-static void functions_comparing_greater(struct engine *e, u64 l0, u64 l1, u64 l2);
-static void functions_arithmetic_arithmetic(struct engine *e, u64 l0, u64 l1, u32 l2, u64 l3);
-static void functions_bit_strings_union(struct engine *e, u64 l0, u64 l1, u64 l2);
-static void functions_bit_strings_intersection(struct engine *e, u64 l0, u64 l1, u64 l2);
-static void functions_bit_strings_give_bits(struct engine *e, u64 l0, u64 l1, u32 l2, u32 l3, u64 l4);
-static void functions_bit_strings_shift(struct engine *e, u64 l0, u64 l1, u64 l2);
-static void functions_bit_strings_rotate(struct engine *e, u64 l0, u64 l1, u64 l2);
-static void functions_form_parts_call_segment(struct engine *e, u64 l0, u64 l1, u64 l2);
-static void functions_form_parts_call_character(struct engine *e, u64 l0, u64 l1, u64 l2);
-static void functions_form_parts_call_number(struct engine *e, u64 l0, u64 l1, u64 l2);
-static void functions_form_parts_initial_part(struct engine *e, u64 l0, u64 l1, u64 l2);
-static void functions_form_parts_call_restore(struct engine *e, u64 l0, u64 l1, u64 l2);
-static void functions_form_calls_define_string(struct engine *e, u64 l0, u64 l1, u64 l2);
-static void functions_form_calls_segment_string(struct engine *e, u64 l0, u64 l1, u64 l2);
-static void functions_form_calls_delete_definition(struct engine *e, u64 l0, u64 l1, u64 l2);
-static void functions_form_calls_delete_all(struct engine *e, u64 l0, u64 l1);
-static void functions_form_calls_list_names(struct engine *e, u64 l0, u64 l1, u64 l2);
-static void core_slice_edits_slice_T_copy_from_slice(struct engine *e, u64 l0, u64 l1, u64 l2);
-static void store_item_copies_load_items_over_spare(struct engine *e, u64 l0, u64 l1, u32 l2, u32 l3);
-static u32 forms_work_Work_fill_other(struct engine *e, u64 l0, u32 l1, u32 l2, u32 l3);
-static u32 store_item_copies_fill_items(struct engine *e, u64 l0, u32 l1, u32 l2, u32 l3, u32 l4);
-static void space_copies_copy_long(struct engine *e, u64 l0, u64 l1, u64 l2, u64 l3);
-static void core_delivery_deliver(struct engine *e, u64 l0, u32 l1, u32 l2);
-static void space_copies_copy_more(struct engine *e, u64 l0, u64 l1, u64 l2, u64 l3);
-static void space_copies_copy_parts(struct engine *e, u64 l0, u64 l1, u64 l2);
-static void space_space_Space_move_active(struct engine *e, u64 l0, u32 l1);
-static u64 c_filling_put_characters(struct engine *e, u64 l0, u64 l1, u64 l2, u64 l3, u64 l4);
-static void store_index_index_worthwhile(struct engine *e, u64 l0, u32 l1, u64 l2);
-static void store_form_cells_find_some(struct engine *e, u64 l0, u64 l1, u32 l2, u32 l3, u32 l4, u64 l5, u64 l6);
-static void store_form_cells_find_round(struct engine *e, u64 l0, u64 l1, u32 l2, u32 l3, u32 l4, u64 l5, u64 l6);
-static u32 store_index_index_fitting(struct engine *e, u64 l0, u32 l1);
-static void store_index_index_from(struct engine *e, u64 l0, u32 l1, u32 l2, u32 l3);
-static u32 store_form_cells_place_of(struct engine *e, u64 l0, u32 l1, u32 l2, u32 l3);
-static u32 core_display_show_items(struct engine *e, u64 l0, u32 l1, u32 l2, u64 l3);
-static void itoa_Buffer_format(struct engine *e, u64 l0, u64 l1, u32 l2);
-static u32 forms_work_Work_load_other_part(struct engine *e, u64 l0, u32 l1, u32 l2);
-static u32 functions_arguments_put_part(struct engine *e, u64 l0, u32 l1, u32 l2);
-static u32 values_number_long_greater(struct engine *e, u64 l0, u64 l1, u64 l2, u64 l3);
-static void values_number_long_tail(struct engine *e, u64 l0, u64 l1, u64 l2);
-static u32 forms_work_Work_pointer(struct engine *e, u64 l0, u32 l1);
-static u32 forms_work_Work_body_len(struct engine *e, u64 l0, u32 l1);
-static void functions_form_parts_take_part(struct engine *e, u64 l0, u64 l1, u32 l2, u32 l3, u32 l4, u32 l5);
-static void forms_work_Work_next_char(struct engine *e, u64 l0, u64 l1, u32 l2, u32 l3);
-static void forms_work_Work_set_pointer(struct engine *e, u64 l0, u32 l1, u32 l2);
-static u32 forms_work_Work_copy_body(struct engine *e, u64 l0, u32 l1, u32 l2, u32 l3);
-static u32 space_space_Space_copy_store(struct engine *e, u64 l0, u32 l1, u32 l2);
-static void store_borders_lay_borders(struct engine *e, u64 l0, u32 l1, u32 l2);
-static void space_space_Space_write_part(struct engine *e, u64 l0, u32 l1, u32 l2, u32 l3);
-static void forms_work_Work_remove(struct engine *e, u64 l0, u32 l1, u32 l2);
-static void space_space_Space_remove_store(struct engine *e, u64 l0, u32 l1, u32 l2);
-static u32 forms_work_Work_fill_body(struct engine *e, u64 l0, u32 l1, u32 l2, u32 l3);
-static void space_filling_fill_each(struct engine *e, u64 l0, u64 l1, u64 l2, u64 l3, u64 l4, u64 l5, u64 l6);
-static void forms_work_Work_form(struct engine *e, u64 l0, u64 l1, u32 l2);
-static u32 core_machine_printing_call_len(struct engine *e, u64 l0, u32 l1);
-static u32 core_display_show_items2(struct engine *e, u64 l0, u32 l1, u32 l2, u64 l3);
-static u64 engine_active(struct engine *e, u64 l0, u64 l1, u64 l2);
-static void engine_again(struct engine *e, u64 l0, u64 l1);
-static u32 engine_awaits(struct engine *e, u64 l0);
-static u64 engine_form_count(struct engine *e, u64 l0);
-static u64 engine_machine_size(struct engine *e);
-static u32 engine_meta(struct engine *e, u64 l0);
-static u64 engine_neutral(struct engine *e, u64 l0, u64 l1, u64 l2);
-static u32 engine_open(struct engine *e, u64 l0, u64 l1, u64 l2, u64 l3);
-static u64 engine_part(struct engine *e, u64 l0, u32 l1);
-static u32 engine_rule(struct engine *e, u64 l0);
-static void engine_run(struct engine *e, u64 l0, u64 l1, u64 l2, u64 l3, u64 l4, u64 l5, u64 l6, u64 l7);
-static u64 engine_form_codes(struct engine *e, u64 l0, u64 l1, u64 l2, u64 l3);
-static u64 engine_form_name(struct engine *e, u64 l0, u64 l1, u64 l2, u64 l3);
-static u64 engine_form_pointer(struct engine *e, u64 l0, u64 l1);
-static u64 engine_form_text(struct engine *e, u64 l0, u64 l1, u64 l2, u64 l3);
-static void engine_turn(struct engine *e, u64 l0, u64 l1, u64 l2, u64 l3, u64 l4, u64 l5, u32 l6, u64 l7);
+static void multi3(u64 stack, u64 l0, u64 l1, u64 l2, u64 l3, u64 l4);
+static void ashlti3(u64 stack, u64 l0, u64 l1, u64 l2, u32 l3);
+static void lshrti3(u64 stack, u64 l0, u64 l1, u64 l2, u32 l3);
+static void core_machine_Machine_next_function(u64 stack, u64 l0, u64 l1);
+static void functions_arguments_Arguments_next(u64 stack, u64 l0, u64 l1, u64 l2);
+static void functions_function_function_of(u64 stack, u64 l0, u64 l1, u64 l2);
+static u32 store_arguments_before_far_comma(u64 stack, u64 l0, u64 l1);
+static void core_scan_pass(u64 stack, u64 l0, u64 l1, u64 l2, u64 l3, u64 l4);
+static u32 space_space_Space_try_claim_spare(u64 stack, u64 l0, u64 l1);
+static void devices_slice_source_SliceSourceSource_take_held(u64 stack, u64 l0, u32 l1, u64 l2);
+static u32 space_space_Space_push_over_spare(u64 stack, u64 l0, u64 l1);
+static void forms_work_Work_find_among_more(u64 stack, u64 l0, u64 l1, u32 l2, u32 l3);
+static void forms_work_Work_find_among_few(u64 stack, u64 l0, u64 l1, u32 l2, u32 l3);
+static void forms_work_Work_stored(u64 stack, u64 l0, u64 l1, u32 l2);
+static u32 core_display_show_form(u64 stack, u64 l0, u64 l1);
+static void functions_comparing_equal(u64 stack, u64 l0, u64 l1, u64 l2);
+static void functions_comparing_greater(u64 stack, u64 l0, u64 l1, u64 l2);
+static void functions_arithmetic_arithmetic(u64 stack, u64 l0, u64 l1, u32 l2, u64 l3);
+static void functions_bit_strings_union(u64 stack, u64 l0, u64 l1, u64 l2);
+static void functions_bit_strings_intersection(u64 stack, u64 l0, u64 l1, u64 l2);
+static void functions_bit_strings_give_bits(u64 stack, u64 l0, u64 l1, u32 l2, u32 l3, u64 l4);
+static void functions_bit_strings_shift(u64 stack, u64 l0, u64 l1, u64 l2);
+static void functions_bit_strings_rotate(u64 stack, u64 l0, u64 l1, u64 l2);
+static void functions_form_parts_call_segment(u64 stack, u64 l0, u64 l1, u64 l2);
+static void functions_form_parts_call_character(u64 stack, u64 l0, u64 l1, u64 l2);
+static void functions_form_parts_call_number(u64 stack, u64 l0, u64 l1, u64 l2);
+static void functions_form_parts_initial_part(u64 stack, u64 l0, u64 l1, u64 l2);
+static void functions_form_parts_call_restore(u64 stack, u64 l0, u64 l1, u64 l2);
+static void functions_form_calls_define_string(u64 stack, u64 l0, u64 l1, u64 l2);
+static void functions_form_calls_segment_string(u64 stack, u64 l0, u64 l1, u64 l2);
+static void functions_form_calls_delete_definition(u64 stack, u64 l0, u64 l1, u64 l2);
+static void functions_form_calls_delete_all(u64 stack, u64 l0, u64 l1);
+static void functions_form_calls_list_names(u64 stack, u64 l0, u64 l1, u64 l2);
+static void core_slice_edits_slice_T_copy_from_slice(u64 stack, u64 l0, u64 l1, u64 l2);
+static void store_item_copies_load_items_over_spare(u64 stack, u64 l0, u64 l1, u32 l2, u32 l3);
+static u32 forms_work_Work_fill_other(u64 stack, u64 l0, u32 l1, u32 l2, u32 l3);
+static u32 store_item_copies_fill_items(u64 stack, u64 l0, u32 l1, u32 l2, u32 l3, u32 l4);
+static void space_copies_copy_long(u64 stack, u64 l0, u64 l1, u64 l2, u64 l3);
+static void core_delivery_deliver(u64 stack, u64 l0, u32 l1, u32 l2);
+static void space_copies_copy_more(u64 stack, u64 l0, u64 l1, u64 l2, u64 l3);
+static void space_copies_copy_parts(u64 stack, u64 l0, u64 l1, u64 l2);
+static void space_space_Space_move_active(u64 stack, u64 l0, u32 l1);
+static u64 c_filling_put_characters(u64 stack, u64 l0, u64 l1, u64 l2, u64 l3, u64 l4);
+static void store_index_index_worthwhile(u64 stack, u64 l0, u32 l1, u64 l2);
+static void store_form_cells_find_some(u64 stack, u64 l0, u64 l1, u32 l2, u32 l3, u32 l4, u64 l5, u64 l6);
+static void store_form_cells_find_round(u64 stack, u64 l0, u64 l1, u32 l2, u32 l3, u32 l4, u64 l5, u64 l6);
+static u32 store_index_index_fitting(u64 stack, u64 l0, u32 l1);
+static void store_index_index_from(u64 stack, u64 l0, u32 l1, u32 l2, u32 l3);
+static u32 store_form_cells_place_of(u64 stack, u64 l0, u32 l1, u32 l2, u32 l3);
+static u32 core_display_show_items(u64 stack, u64 l0, u32 l1, u32 l2, u64 l3);
+static void itoa_Buffer_format(u64 stack, u64 l0, u64 l1, u32 l2);
+static u32 forms_work_Work_load_other_part(u64 stack, u64 l0, u32 l1, u32 l2);
+static u32 functions_arguments_put_part(u64 stack, u64 l0, u32 l1, u32 l2);
+static u32 values_number_long_greater(u64 stack, u64 l0, u64 l1, u64 l2, u64 l3);
+static void values_number_long_tail(u64 stack, u64 l0, u64 l1, u64 l2);
+static u32 forms_work_Work_pointer(u64 stack, u64 l0, u32 l1);
+static u32 forms_work_Work_body_len(u64 stack, u64 l0, u32 l1);
+static void functions_form_parts_take_part(u64 stack, u64 l0, u64 l1, u32 l2, u32 l3, u32 l4, u32 l5);
+static void forms_work_Work_next_char(u64 stack, u64 l0, u64 l1, u32 l2, u32 l3);
+static void forms_work_Work_set_pointer(u64 stack, u64 l0, u32 l1, u32 l2);
+static u32 forms_work_Work_copy_body(u64 stack, u64 l0, u32 l1, u32 l2, u32 l3);
+static u32 space_space_Space_copy_store(u64 stack, u64 l0, u32 l1, u32 l2);
+static void store_borders_lay_borders(u64 stack, u64 l0, u32 l1, u32 l2);
+static void space_space_Space_write_part(u64 stack, u64 l0, u32 l1, u32 l2, u32 l3);
+static void forms_work_Work_remove(u64 stack, u64 l0, u32 l1, u32 l2);
+static void space_space_Space_remove_store(u64 stack, u64 l0, u32 l1, u32 l2);
+static u32 forms_work_Work_fill_body(u64 stack, u64 l0, u32 l1, u32 l2, u32 l3);
+static void space_filling_fill_each(u64 stack, u64 l0, u64 l1, u64 l2, u64 l3, u64 l4, u64 l5, u64 l6);
+static void forms_work_Work_form(u64 stack, u64 l0, u64 l1, u32 l2);
+static u32 core_machine_printing_call_len(u64 stack, u64 l0, u32 l1);
+static u32 core_display_show_items2(u64 stack, u64 l0, u32 l1, u32 l2, u64 l3);
+static u64 engine_active(u64 stack, u64 l0, u64 l1, u64 l2);
+static void engine_again(u64 stack, u64 l0, u64 l1);
+static u32 engine_awaits(u64 stack, u64 l0);
+static u64 engine_form_count(u64 stack, u64 l0);
+static u64 engine_machine_size(u64 stack);
+static u32 engine_meta(u64 stack, u64 l0);
+static u64 engine_neutral(u64 stack, u64 l0, u64 l1, u64 l2);
+static u32 engine_open(u64 stack, u64 l0, u64 l1, u64 l2, u64 l3);
+static u64 engine_part(u64 stack, u64 l0, u32 l1);
+static u32 engine_rule(u64 stack, u64 l0);
+static void engine_run(u64 stack, u64 l0, u64 l1, u64 l2, u64 l3, u64 l4, u64 l5, u64 l6, u64 l7);
+static u64 engine_form_codes(u64 stack, u64 l0, u64 l1, u64 l2, u64 l3);
+static u64 engine_form_name(u64 stack, u64 l0, u64 l1, u64 l2, u64 l3);
+static u64 engine_form_pointer(u64 stack, u64 l0, u64 l1);
+static u64 engine_form_text(u64 stack, u64 l0, u64 l1, u64 l2, u64 l3);
+static void engine_turn(u64 stack, u64 l0, u64 l1, u64 l2, u64 l3, u64 l4, u64 l5, u32 l6, u64 l7);
 
-static void multi3(struct engine *e, u64 l0, u64 l1, u64 l2, u64 l3, u64 l4) {
+static void multi3(u64 stack, u64 l0, u64 l1, u64 l2, u64 l3, u64 l4) {
     u64 l5 = 0;
     u64 l6 = 0;
-    (void)e;
+    (void)stack;
     l5 = l3 >> 32;
     l6 = l1 >> 32;
     const u64 t1 = ((l5 * l6) + (l2 * l3)) + (l1 * l4);
@@ -327,9 +320,9 @@ static void multi3(struct engine *e, u64 l0, u64 l1, u64 l2, u64 l3, u64 l4) {
     store64(l0, (l2 & 4294967295ull) | (l1 << 32));
 }
 
-static void ashlti3(struct engine *e, u64 l0, u64 l1, u64 l2, u32 l3) {
+static void ashlti3(u64 stack, u64 l0, u64 l1, u64 l2, u32 l3) {
     u64 l4 = 0;
-    (void)e;
+    (void)stack;
     u64 v1;
     {
         if (l3 & 64u) {
@@ -346,9 +339,9 @@ static void ashlti3(struct engine *e, u64 l0, u64 l1, u64 l2, u32 l3) {
     store64(l0, l1);
 }
 
-static void lshrti3(struct engine *e, u64 l0, u64 l1, u64 l2, u32 l3) {
+static void lshrti3(u64 stack, u64 l0, u64 l1, u64 l2, u32 l3) {
     u64 l4 = 0;
-    (void)e;
+    (void)stack;
     const u64 t1 = l0;
     u64 v2;
     {
@@ -365,67 +358,76 @@ static void lshrti3(struct engine *e, u64 l0, u64 l1, u64 l2, u32 l3) {
     store64(l0, l1);
 }
 
-static u32 core_machine_Machine_awaits(struct engine *e, u64 l0) {
-    u64 l1 = 0;
+static void core_machine_Machine_next_function(u64 stack, u64 l0, u64 l1) {
     u64 l2 = 0;
-    u32 l3 = 0;
+    u64 l3 = 0;
     u32 l4 = 0;
     u32 l5 = 0;
     u32 l6 = 0;
-    l1 = e->stack_pointer - 32ull;
-    e->stack_pointer = l1;
-    if ((i64)(l1 - e->stack) >= (i64)16ull) {
+    u32 l7 = 0;
+    u32 l8 = 0;
+    l2 = stack - 32ull;
+    stack = l2;
+    u32 v1;
+    {
         {
-            const u32 t3 = load8(l0 + 84ull);
-            if (t3 == 1u) goto L2;
-            const u64 t4 = load64(l0 + 72ull);
-            const u64 t5 = load64(l0 + 64ull);
-            if (t4 >= t5) goto L2;
-            const u32 t6 = load32(l0 + 24ull);
-            l3 = t6;
-            if (l3 == 0) goto L2;
-            const u64 t7 = load64(l0);
-            l2 = t7;
-            const u32 t8 = load32(l0 + 28ull);
-            const u32 t9 = load8((l2 + ((u64)(t8 - l3) << 3)) + 1ull);
-            if (t9 != 41u) goto L2;
-            const u32 t10 = load32(l0 + 32ull);
-            l3 = t10;
-            if (l3 == 0) goto L2;
-            store32(l1 + 24u, 0u);
-            store32(l1 + 12u, l3);
-            const u32 t11 = load32(l0 + 20ull);
-            l3 = t11;
-            store32(l1 + 20u, l3);
-            store32(l1 + 16u, l3);
-            functions_arguments_Arguments_next(e, l1, l1 + 12ull, l0);
-            const u32 t12 = load32(l0 + 16ull);
-            l3 = t12;
-            const u32 t13 = load32(l1 + 4u);
-            l5 = t13;
-            const u32 t14 = load32(l1);
-            l6 = t14;
-            store8(l1 + 30u, (u8)0u);
-            store16(l1 + 28u, (u16)0u);
-            l0 = (u64)(l3 + l6);
-            if (((u64)(l3 + l5) - l0) != 2ull) goto L2;
-            l0 = l2 + (l0 << 3);
-            functions_function_function_of(e, l1 + 28ull, l0, l0 + 8ull);
-            const u32 t15 = load8(l1 + 28u);
-            if (t15 != 1u) goto L2;
-            const u64 t16 = load8(l1 + 29u);
-            const u32 t17 = load8(t16 + TABLES + 3000u);
-            l4 = t17;
+            {
+                const u32 t4 = load8(l1 + 84ull);
+                if (t4 == 1u) goto L2;
+                const u64 t5 = load64(l1 + 72ull);
+                const u64 t6 = load64(l1 + 64ull);
+                if (t5 >= t6) goto L2;
+                const u32 t7 = load32(l1 + 24ull);
+                l4 = t7;
+                if (l4 == 0) goto L2;
+                const u64 t8 = load64(l1);
+                l3 = t8;
+                const u32 t9 = load32(l1 + 28ull);
+                const u32 t10 = load8((l3 + ((u64)(t9 - l4) << 3)) + 1ull);
+                if (t10 != 41u) goto L2;
+                const u32 t11 = load32(l1 + 32ull);
+                l4 = t11;
+                if (l4 == 0) { v1 = 0u; goto L1; }
+                store32(l2 + 24u, 0u);
+                store32(l2 + 12u, l4);
+                const u32 t12 = load32(l1 + 20ull);
+                l4 = t12;
+                store32(l2 + 20u, l4);
+                store32(l2 + 16u, l4);
+                functions_arguments_Arguments_next(stack, l2, l2 + 12ull, l1);
+                const u32 t13 = load32(l1 + 16ull);
+                l4 = t13;
+                const u32 t14 = load32(l2 + 4u);
+                l7 = t14;
+                const u32 t15 = load32(l2);
+                l8 = t15;
+                store8(l2 + 30u, (u8)0u);
+                store16(l2 + 28u, (u16)0u);
+                l1 = (u64)(l4 + l8);
+                if (((u64)(l4 + l7) - l1) != 2ull) { v1 = 0u; goto L1; }
+                l1 = l3 + (l1 << 3);
+                functions_function_function_of(stack, l2 + 28ull, l1, l1 + 8ull);
+                const u32 t16 = load8(l2 + 30u);
+                l5 = t16;
+                const u32 t17 = load8(l2 + 28u);
+                l6 = t17;
+                const u32 t18 = load8(l2 + 29u);
+                v1 = t18; goto L1;
+            }
+            trap();
         }
         L2:;
-        e->stack_pointer = l1 + 32ull;
-        return l4;
+        v1 = 0u;
     }
-    trap();
-    return 0;
+    L1:;
+    l4 = v1;
+    store8(l0, (u8)l6);
+    store8(l0 + 2ull, (u8)l5);
+    store8(l0 + 1ull, (u8)l4);
+    stack = l2 + 32ull;
 }
 
-static void functions_arguments_Arguments_next(struct engine *e, u64 l0, u64 l1, u64 l2) {
+static void functions_arguments_Arguments_next(u64 stack, u64 l0, u64 l1, u64 l2) {
     u64 l3 = 0;
     u64 l4 = 0;
     u32 l5 = 0;
@@ -436,8 +438,8 @@ static void functions_arguments_Arguments_next(struct engine *e, u64 l0, u64 l1,
             u32 v3;
             {
                 {
-                    l4 = e->stack_pointer;
-                    if ((i64)(l4 - e->stack) >= (i64)16ull) {
+                    l4 = stack;
+                    {
                         const u32 t6 = load32(l1 + 4ull);
                         l5 = t6;
                         const u32 t7 = load32(l1);
@@ -484,7 +486,7 @@ static void functions_arguments_Arguments_next(struct engine *e, u64 l0, u64 l1,
                         if (t21 == 2u) { v3 = 2u; goto L3; }
                         const u32 t22 = load8(l2 + 24u);
                         if (t22 == 2u) { v3 = 3u; goto L3; }
-                        const u32 t23 = store_arguments_before_far_comma(e, l2, l3);
+                        const u32 t23 = store_arguments_before_far_comma(stack, l2, l3);
                         v3 = t23; goto L3;
                     }
                     trap();
@@ -501,16 +503,17 @@ static void functions_arguments_Arguments_next(struct engine *e, u64 l0, u64 l1,
     L1:;
     store32(l0 + 4u, l5);
     store32(l0, l6);
-    e->stack_pointer = l4;
+    stack = l4;
 }
 
-static void functions_function_function_of(struct engine *e, u64 l0, u64 l1, u64 l2) {
+static void functions_function_function_of(u64 stack, u64 l0, u64 l1, u64 l2) {
     u32 l3 = 0;
     u32 l4 = 0;
     u32 l5 = 0;
     u32 l6 = 0;
     u64 l7 = 0;
-    if ((i64)(e->stack_pointer - e->stack) >= (i64)16ull) {
+    (void)stack;
+    {
         const u32 t2 = load8(l1);
         u64 v3;
         if (t2) {
@@ -756,14 +759,15 @@ static void functions_function_function_of(struct engine *e, u64 l0, u64 l1, u64
     trap();
 }
 
-static u32 store_arguments_before_far_comma(struct engine *e, u64 l0, u64 l1) {
+static u32 store_arguments_before_far_comma(u64 stack, u64 l0, u64 l1) {
     u64 l2 = 0;
     u64 l3 = 0;
     u64 l4 = 0;
     u64 l5 = 0;
     u64 l6 = 0;
     u32 l7 = 0;
-    if ((i64)(e->stack_pointer - e->stack) >= (i64)16ull) {
+    (void)stack;
+    {
         l3 = 18446744073709551612ull;
         l5 = 4ull;
         {
@@ -838,7 +842,7 @@ static u32 store_arguments_before_far_comma(struct engine *e, u64 l0, u64 l1) {
     return 0;
 }
 
-static void core_scan_pass(struct engine *e, u64 l0, u64 l1, u64 l2, u64 l3, u64 l4) {
+static void core_scan_pass(u64 stack, u64 l0, u64 l1, u64 l2, u64 l3, u64 l4) {
     u32 l5 = 0;
     u32 l6 = 0;
     u32 l7 = 0;
@@ -868,14 +872,14 @@ static void core_scan_pass(struct engine *e, u64 l0, u64 l1, u64 l2, u64 l3, u64
                         {
                             {
                                 {
-                                    l19 = e->stack_pointer;
-                                    if ((i64)(l19 - e->stack) >= (i64)16ull) {
+                                    l19 = stack;
+                                    {
                                         const u32 t10 = load32(l1 + 24ull);
                                         l6 = t10;
                                         if (l6 == 0) {
                                             store64(l0, 1ull);
                                             store64(l0 + 8ull, 0ull);
-                                            e->stack_pointer = l19;
+                                            stack = l19;
                                             return;
                                         }
                                         {
@@ -904,8 +908,8 @@ static void core_scan_pass(struct engine *e, u64 l0, u64 l1, u64 l2, u64 l3, u64
                                                             l16 = 0ull;
                                                             l6 = 0u;
                                                             {
-                                                                l18 = e->stack_pointer;
-                                                                if ((i64)(l18 - e->stack) >= (i64)16ull) {
+                                                                l18 = stack;
+                                                                {
                                                                     const u32 t23 = load32(l1 + 16ull);
                                                                     l10 = t23;
                                                                     const u32 t24 = load32(l1 + 20ull);
@@ -1177,7 +1181,7 @@ static void core_scan_pass(struct engine *e, u64 l0, u64 l1, u64 l2, u64 l3, u64
                                                                                 store32(l4 + 4ull, t93);
                                                                                 goto L90;
                                                                             }
-                                                                            space_copies_copy_more(e, l17, l16, l2, l4);
+                                                                            space_copies_copy_more(stack, l17, l16, l2, l4);
                                                                         }
                                                                         L90:;
                                                                         l4 = l1 + 20ull;
@@ -1187,7 +1191,7 @@ static void core_scan_pass(struct engine *e, u64 l0, u64 l1, u64 l2, u64 l3, u64
                                                                     }
                                                                     L28:;
                                                                     store32(l1 + 24ull, l9);
-                                                                    e->stack_pointer = l18;
+                                                                    stack = l18;
                                                                     goto L21;
                                                                 }
                                                                 trap();
@@ -1195,7 +1199,7 @@ static void core_scan_pass(struct engine *e, u64 l0, u64 l1, u64 l2, u64 l3, u64
                                                             L21:;
                                                             store64(l0 + 8ull, 1ull);
                                                             store64(l0, 0ull);
-                                                            e->stack_pointer = l19;
+                                                            stack = l19;
                                                             return;
                                                         }
                                                         L16:;
@@ -1216,7 +1220,7 @@ static void core_scan_pass(struct engine *e, u64 l0, u64 l1, u64 l2, u64 l3, u64
                                                         l5 = l5 != 0u;
                                                         store32(l0 + 4ull, l5);
                                                         store32(l0, l5);
-                                                        e->stack_pointer = l19;
+                                                        stack = l19;
                                                         return;
                                                     }
                                                     L15:;
@@ -1460,8 +1464,8 @@ static void core_scan_pass(struct engine *e, u64 l0, u64 l1, u64 l2, u64 l3, u64
                                                 u64 v156;
                                                 {
                                                     l5 = 0u;
-                                                    l22 = e->stack_pointer;
-                                                    if ((i64)(l22 - e->stack) >= (i64)16ull) {
+                                                    l22 = stack;
+                                                    {
                                                         const u32 t158 = load32(l1 + 28ull);
                                                         l9 = t158;
                                                         const u32 t159 = load32(l1 + 24ull);
@@ -1494,7 +1498,7 @@ static void core_scan_pass(struct engine *e, u64 l0, u64 l1, u64 l2, u64 l3, u64
                                                             {
                                                                 l16 = l18;
                                                                 l2 = l20;
-                                                                if ((i64)(e->stack_pointer - e->stack) >= (i64)16ull) {
+                                                                {
                                                                     {
                                                                         l18 = l16 - l2;
                                                                         if (l18 < 8ull) goto L167;
@@ -1567,14 +1571,14 @@ static void core_scan_pass(struct engine *e, u64 l0, u64 l1, u64 l2, u64 l3, u64
                                                                 store32(l2 + 4ull, t195);
                                                                 goto L192;
                                                             }
-                                                            space_copies_copy_more(e, l17, l16, l15, l2);
+                                                            space_copies_copy_more(stack, l17, l16, l15, l2);
                                                         }
                                                         L192:;
                                                         store32(l1 + 24ull, l6);
                                                         l1 = l1 + 20ull;
                                                         const u32 t196 = load32(l1);
                                                         store32(l1, t196 + l5);
-                                                        e->stack_pointer = l22;
+                                                        stack = l22;
                                                         v156 = (u64)l5; goto L156;
                                                     }
                                                     trap();
@@ -1682,7 +1686,7 @@ static void core_scan_pass(struct engine *e, u64 l0, u64 l1, u64 l2, u64 l3, u64
                         store32(l1 + 24ull, l6 - l7);
                         store64(l0 + 8ull, (u64)l7);
                         store64(l0, 0ull);
-                        e->stack_pointer = l19;
+                        stack = l19;
                         return;
                     }
                     L5:;
@@ -1746,13 +1750,13 @@ static void core_scan_pass(struct engine *e, u64 l0, u64 l1, u64 l2, u64 l3, u64
                 store32(l4, l5);
                 store64(l0 + 8ull, l2);
                 store64(l0, 0ull);
-                e->stack_pointer = l19;
+                stack = l19;
                 return;
             }
             L3:;
             store64(l0, 0ull);
             store64(l0 + 8ull, l4);
-            e->stack_pointer = l19;
+            stack = l19;
             return;
         }
         L2:;
@@ -1805,30 +1809,30 @@ static void core_scan_pass(struct engine *e, u64 l0, u64 l1, u64 l2, u64 l3, u64
     l2 = v1;
     store64(l0, 0ull);
     store64(l0 + 8ull, l2);
-    e->stack_pointer = l19;
+    stack = l19;
 }
 
-static u32 space_space_Space_try_claim_spare(struct engine *e, u64 l0, u64 l1) {
+static u32 space_space_Space_try_claim_spare(u64 stack, u64 l0, u64 l1) {
     u64 l2 = 0;
     u32 l3 = 0;
-    l2 = e->stack_pointer;
-    if ((i64)(l2 - e->stack) >= (i64)16ull) {
+    l2 = stack;
+    {
         const u32 t2 = load32(l0 + 8ull);
         const u32 t3 = load32(l0 + 24ull);
         const u32 t4 = load32(l0 + 16ull);
         const u32 t5 = load32(l0 + 20ull);
         l3 = l1 <= (u64)((t2 - (t3 + (t4 + t5))));
         if (l3) {
-            space_space_Space_move_active(e, l0, 0u);
+            space_space_Space_move_active(stack, l0, 0u);
         }
-        e->stack_pointer = l2;
+        stack = l2;
         return l3;
     }
     trap();
     return 0;
 }
 
-static void devices_slice_source_SliceSourceSource_take_held(struct engine *e, u64 l0, u32 l1, u64 l2) {
+static void devices_slice_source_SliceSourceSource_take_held(u64 stack, u64 l0, u32 l1, u64 l2) {
     u64 l3 = 0;
     u64 l4 = 0;
     u64 l5 = 0;
@@ -1844,8 +1848,8 @@ static void devices_slice_source_SliceSourceSource_take_held(struct engine *e, u
     u32 l15 = 0;
     u32 l16 = 0;
     u32 l17 = 0;
-    l12 = e->stack_pointer;
-    if ((i64)(l12 - e->stack) >= (i64)16ull) {
+    l12 = stack;
+    {
         const u64 t2 = load64(l0);
         l8 = t2;
         {
@@ -1980,7 +1984,7 @@ static void devices_slice_source_SliceSourceSource_take_held(struct engine *e, u
         l15 = (u32)l9;
         const u32 t47 = load32(l2 + 28ull);
         if (l15 > (t47 - l17)) {
-            space_space_Space_move_active(e, l2, 0u);
+            space_space_Space_move_active(stack, l2, 0u);
             const u32 t49 = load32(l2 + 20ull);
             const u32 t50 = load32(l2 + 16ull);
             l16 = t49 + t50;
@@ -2069,13 +2073,13 @@ static void devices_slice_source_SliceSourceSource_take_held(struct engine *e, u
         store64(l0 + 8u, t69 - l9);
         const u64 t70 = load64(l0);
         store64(l0, t70 + l9);
-        e->stack_pointer = l12;
+        stack = l12;
         return;
     }
     trap();
 }
 
-static u32 space_space_Space_push_over_spare(struct engine *e, u64 l0, u64 l1) {
+static u32 space_space_Space_push_over_spare(u64 stack, u64 l0, u64 l1) {
     u32 l2 = 0;
     u32 l3 = 0;
     u32 l4 = 0;
@@ -2086,15 +2090,15 @@ static u32 space_space_Space_push_over_spare(struct engine *e, u64 l0, u64 l1) {
     u64 l9 = 0;
     u64 l10 = 0;
     u64 l11 = 0;
-    l9 = e->stack_pointer;
-    if ((i64)(l9 - e->stack) >= (i64)16ull) {
+    l9 = stack;
+    {
         const u32 t2 = load32(l1 + 4ull);
         l3 = t2;
         const u32 t3 = load8(l1 + 1ull);
         l6 = t3;
         const u32 t4 = load8(l1);
         l2 = t4;
-        const u32 t5 = space_space_Space_try_claim_spare(e, l0, 1ull);
+        const u32 t5 = space_space_Space_try_claim_spare(stack, l0, 1ull);
         l7 = t5;
         if (l7) {
             l10 = l0 + 32ull;
@@ -2123,14 +2127,14 @@ static u32 space_space_Space_push_over_spare(struct engine *e, u64 l0, u64 l1) {
             store32(l11, l2);
             store32(l10, (l8 == 1u) ? l2 : l4);
         }
-        e->stack_pointer = l9;
+        stack = l9;
         return l7;
     }
     trap();
     return 0;
 }
 
-static void forms_work_Work_find_among_more(struct engine *e, u64 l0, u64 l1, u32 l2, u32 l3) {
+static void forms_work_Work_find_among_more(u64 stack, u64 l0, u64 l1, u32 l2, u32 l3) {
     u64 l4 = 0;
     u64 l5 = 0;
     u64 l6 = 0;
@@ -2154,8 +2158,8 @@ static void forms_work_Work_find_among_more(struct engine *e, u64 l0, u64 l1, u3
     u32 l24 = 0;
     u32 l25 = 0;
     u32 l26 = 0;
-    l4 = e->stack_pointer - 48ull;
-    e->stack_pointer = l4;
+    l4 = stack - 48ull;
+    stack = l4;
     {
         {
             {
@@ -2163,7 +2167,6 @@ static void forms_work_Work_find_among_more(struct engine *e, u64 l0, u64 l1, u3
                     {
                         {
                             l10 = l4;
-                            if ((i64)(l10 - e->stack) < (i64)16ull) goto L6;
                             l11 = l1 + 52ull;
                             {
                                 const u32 t8 = load32(l1 + 40ull);
@@ -2171,7 +2174,7 @@ static void forms_work_Work_find_among_more(struct engine *e, u64 l0, u64 l1, u3
                                 if (l23 < 12u) goto L7;
                                 const u32 t9 = load32(l11);
                                 if (l23 >= (t9 >> 3)) goto L7;
-                                store_index_index_worthwhile(e, l1, l23, l11);
+                                store_index_index_worthwhile(stack, l1, l23, l11);
                                 const u32 t10 = load32(l1 + 40ull);
                                 l23 = t10;
                             }
@@ -2340,7 +2343,7 @@ static void forms_work_Work_find_among_more(struct engine *e, u64 l0, u64 l1, u3
                                     store32(l11, (l2 < l23) ? 4294967295u : l2);
                                     goto L1;
                                 }
-                                store_form_cells_find_some(e, l10 + 16ull, l6, l25, l26, l23, l14, l7);
+                                store_form_cells_find_some(stack, l10 + 16ull, l6, l25, l26, l23, l14, l7);
                                 const u32 t51 = load8(l10 + 16u);
                                 if (t51 == 1u) {
                                     const u64 t53 = load64(l10 + 20u);
@@ -2357,7 +2360,7 @@ static void forms_work_Work_find_among_more(struct engine *e, u64 l0, u64 l1, u3
                                     l3 = 1u;
                                     goto L1;
                                 }
-                                store_form_cells_find_some(e, l10 + 32ull, l6, 0u, 0u, l25, l14, l7);
+                                store_form_cells_find_some(stack, l10 + 32ull, l6, 0u, 0u, l25, l14, l7);
                                 const u32 t56 = load32(l10 + 36u);
                                 const u32 t57 = load8(l10 + 32u);
                                 l3 = t57;
@@ -2450,7 +2453,7 @@ static void forms_work_Work_find_among_more(struct engine *e, u64 l0, u64 l1, u3
                                 }
                                 goto L3;
                             }
-                            store_form_cells_find_round(e, l10, l6, l25, l26, l23, l14, l7);
+                            store_form_cells_find_round(stack, l10, l6, l25, l26, l23, l14, l7);
                             const u32 t81 = load8(l10);
                             l3 = t81;
                             goto L2;
@@ -2622,10 +2625,10 @@ static void forms_work_Work_find_among_more(struct engine *e, u64 l0, u64 l1, u3
     }
     store32(t119 + 4u, v120);
     store8(l0, (u8)l3);
-    e->stack_pointer = l10 + 48ull;
+    stack = l10 + 48ull;
 }
 
-static void forms_work_Work_find_among_few(struct engine *e, u64 l0, u64 l1, u32 l2, u32 l3) {
+static void forms_work_Work_find_among_few(u64 stack, u64 l0, u64 l1, u32 l2, u32 l3) {
     u64 l4 = 0;
     u64 l5 = 0;
     u64 l6 = 0;
@@ -2637,10 +2640,11 @@ static void forms_work_Work_find_among_few(struct engine *e, u64 l0, u64 l1, u32
     u64 l12 = 0;
     u32 l13 = 0;
     u32 l14 = 0;
+    (void)stack;
     u32 v1;
     {
         {
-            if ((i64)(e->stack_pointer - e->stack) >= (i64)16ull) {
+            {
                 const u64 t4 = load64(l1);
                 l5 = t4;
                 const u32 t5 = load32(l1 + 40ull);
@@ -2734,7 +2738,7 @@ static void forms_work_Work_find_among_few(struct engine *e, u64 l0, u64 l1, u32
     store8(l0, (u8)l3);
 }
 
-static void forms_work_Work_stored(struct engine *e, u64 l0, u64 l1, u32 l2) {
+static void forms_work_Work_stored(u64 stack, u64 l0, u64 l1, u32 l2) {
     u32 l3 = 0;
     u32 l4 = 0;
     u32 l5 = 0;
@@ -2743,7 +2747,8 @@ static void forms_work_Work_stored(struct engine *e, u64 l0, u64 l1, u32 l2) {
     u32 l8 = 0;
     u64 l9 = 0;
     u64 l10 = 0;
-    if ((i64)(e->stack_pointer - e->stack) >= (i64)16ull) {
+    (void)stack;
+    {
         const u32 t2 = load32(l1 + 48ull);
         l3 = t2;
         {
@@ -2846,17 +2851,17 @@ static void forms_work_Work_stored(struct engine *e, u64 l0, u64 l1, u32 l2) {
     trap();
 }
 
-static u32 core_display_show_form(struct engine *e, u64 l0, u64 l1) {
+static u32 core_display_show_form(u64 stack, u64 l0, u64 l1) {
     u64 l2 = 0;
     u64 l3 = 0;
     u64 l4 = 0;
     u64 l5 = 0;
     u32 l6 = 0;
-    l4 = e->stack_pointer;
-    if ((i64)(l4 - e->stack) >= (i64)16ull) {
+    l4 = stack;
+    {
         const u32 t2 = load32(l0 + 32ull);
         l6 = t2;
-        const u32 t3 = core_display_show_items(e, l0, 0u, l6, l1);
+        const u32 t3 = core_display_show_items(stack, l0, 0u, l6, l1);
         if ((t3 & 255u) == 0) {
             {
                 l3 = l1 + 16ull;
@@ -2885,9 +2890,9 @@ static u32 core_display_show_form(struct engine *e, u64 l0, u64 l1) {
                 const u64 t15 = load64(l3);
                 store64(l3, t15 + 1ull);
                 const u32 t16 = load32(l0 + 24ull);
-                const u32 t17 = core_display_show_items(e, l0, l6, t16, l1);
+                const u32 t17 = core_display_show_items(stack, l0, l6, t16, l1);
                 l6 = t17;
-                e->stack_pointer = l4;
+                stack = l4;
                 return l6 & 255u;
             }
             L5:;
@@ -2895,14 +2900,14 @@ static u32 core_display_show_form(struct engine *e, u64 l0, u64 l1) {
             const u64 t18 = load64(l1);
             store64(l1, t18 + 1ull);
         }
-        e->stack_pointer = l4;
+        stack = l4;
         return 1u;
     }
     trap();
     return 0;
 }
 
-static void functions_comparing_equal(struct engine *e, u64 l0, u64 l1, u64 l2) {
+static void functions_comparing_equal(u64 stack, u64 l0, u64 l1, u64 l2) {
     u64 l3 = 0;
     u64 l4 = 0;
     u64 l5 = 0;
@@ -2917,34 +2922,34 @@ static void functions_comparing_equal(struct engine *e, u64 l0, u64 l1, u64 l2) 
     u32 l14 = 0;
     u32 l15 = 0;
     u32 l16 = 0;
-    l3 = e->stack_pointer - 48ull;
-    e->stack_pointer = l3;
+    l3 = stack - 48ull;
+    stack = l3;
     u64 v1;
     {
         {
-            if ((i64)(l3 - e->stack) >= (i64)16ull) {
+            {
                 const u64 t4 = load64(l2 + 8u);
                 store64(l3 + 40u, t4);
                 const u64 t5 = load64(l2);
                 store64(l3 + 32u, t5);
                 const u32 t6 = load8(l3 + 44u);
                 l9 = t6;
-                functions_arguments_Arguments_next(e, l3 + 24ull, l3 + 32ull, l1);
+                functions_arguments_Arguments_next(stack, l3 + 24ull, l3 + 32ull, l1);
                 const u32 t7 = load32(l3 + 28u);
                 l10 = t7;
                 const u32 t8 = load32(l3 + 24u);
                 l11 = t8;
-                functions_arguments_Arguments_next(e, l3 + 16ull, l3 + 32ull, l1);
+                functions_arguments_Arguments_next(stack, l3 + 16ull, l3 + 32ull, l1);
                 const u32 t9 = load32(l3 + 20u);
                 l7 = t9;
                 const u32 t10 = load32(l3 + 16u);
                 l12 = t10;
-                functions_arguments_Arguments_next(e, l3 + 8ull, l3 + 32ull, l1);
+                functions_arguments_Arguments_next(stack, l3 + 8ull, l3 + 32ull, l1);
                 const u32 t11 = load32(l3 + 12u);
                 l13 = t11;
                 const u32 t12 = load32(l3 + 8u);
                 l14 = t12;
-                functions_arguments_Arguments_next(e, l3, l3 + 32ull, l1);
+                functions_arguments_Arguments_next(stack, l3, l3 + 32ull, l1);
                 const u64 t13 = load64(l1);
                 l5 = t13;
                 const u32 t14 = load32(l3 + 4u);
@@ -3004,15 +3009,15 @@ static void functions_comparing_equal(struct engine *e, u64 l0, u64 l1, u64 l2) 
                     l6 = (u64)l7;
                     {
                         if (l7 >= 4u) {
-                            core_slice_edits_slice_T_copy_from_slice(e, l5 + (l4 << 3), l5 + (l2 << 3), 4ull);
+                            core_slice_edits_slice_T_copy_from_slice(stack, l5 + (l4 << 3), l5 + (l2 << 3), 4ull);
                             l6 = l6 - 4ull;
-                            core_slice_edits_slice_T_copy_from_slice(e, l5 + ((l6 + l4) << 3), l5 + ((l2 + l6) << 3), 4ull);
+                            core_slice_edits_slice_T_copy_from_slice(stack, l5 + ((l6 + l4) << 3), l5 + ((l2 + l6) << 3), 4ull);
                             goto L28;
                         }
                         if (l7 >= 2u) {
-                            core_slice_edits_slice_T_copy_from_slice(e, l5 + (l4 << 3), l5 + (l2 << 3), 2ull);
+                            core_slice_edits_slice_T_copy_from_slice(stack, l5 + (l4 << 3), l5 + (l2 << 3), 2ull);
                             l6 = l6 - 2ull;
-                            core_slice_edits_slice_T_copy_from_slice(e, l5 + ((l6 + l4) << 3), l5 + ((l2 + l6) << 3), 2ull);
+                            core_slice_edits_slice_T_copy_from_slice(stack, l5 + ((l6 + l4) << 3), l5 + ((l2 + l6) << 3), 2ull);
                             goto L28;
                         }
                         if (l7 != 1u) goto L28;
@@ -3029,14 +3034,14 @@ static void functions_comparing_equal(struct engine *e, u64 l0, u64 l1, u64 l2) 
                 }
                 L24:;
                 l9 = 0u;
-                const u32 t33 = forms_work_Work_load_other_part(e, l1, l10, l11);
+                const u32 t33 = forms_work_Work_load_other_part(stack, l1, l10, l11);
                 if (t33 == 0) { v21 = 0u; goto L21; }
             }
             L23:;
             l9 = 2u;
             v21 = l7; goto L21;
         }
-        const u32 t34 = functions_arguments_put_part(e, l1, l10, l11);
+        const u32 t34 = functions_arguments_put_part(stack, l1, l10, l11);
         l9 = t34;
         v21 = 0u;
     }
@@ -3045,10 +3050,10 @@ static void functions_comparing_equal(struct engine *e, u64 l0, u64 l1, u64 l2) 
     store8(l0, (u8)l9);
     store32(l0 + 4ull, l8);
     store8(l0 + 1ull, (u8)0u);
-    e->stack_pointer = l3 + 48ull;
+    stack = l3 + 48ull;
 }
 
-static void functions_comparing_greater(struct engine *e, u64 l0, u64 l1, u64 l2) {
+static void functions_comparing_greater(u64 stack, u64 l0, u64 l1, u64 l2) {
     u64 l3 = 0;
     u64 l4 = 0;
     u64 l5 = 0;
@@ -3070,36 +3075,36 @@ static void functions_comparing_greater(struct engine *e, u64 l0, u64 l1, u64 l2
     u32 l21 = 0;
     u32 l22 = 0;
     u32 l23 = 0;
-    l3 = e->stack_pointer - 48ull;
-    e->stack_pointer = l3;
+    l3 = stack - 48ull;
+    stack = l3;
     u64 v1;
     {
         {
             {
                 {
-                    if ((i64)(l3 - e->stack) >= (i64)16ull) {
+                    {
                         const u64 t6 = load64(l2 + 8u);
                         store64(l3 + 40u, t6);
                         const u64 t7 = load64(l2);
                         store64(l3 + 32u, t7);
                         const u32 t8 = load8(l3 + 44u);
                         l18 = t8;
-                        functions_arguments_Arguments_next(e, l3 + 24ull, l3 + 32ull, l1);
+                        functions_arguments_Arguments_next(stack, l3 + 24ull, l3 + 32ull, l1);
                         const u32 t9 = load32(l3 + 28u);
                         l16 = t9;
                         const u32 t10 = load32(l3 + 24u);
                         l19 = t10;
-                        functions_arguments_Arguments_next(e, l3 + 16ull, l3 + 32ull, l1);
+                        functions_arguments_Arguments_next(stack, l3 + 16ull, l3 + 32ull, l1);
                         const u32 t11 = load32(l3 + 20u);
                         l17 = t11;
                         const u32 t12 = load32(l3 + 16u);
                         l21 = t12;
-                        functions_arguments_Arguments_next(e, l3 + 8ull, l3 + 32ull, l1);
+                        functions_arguments_Arguments_next(stack, l3 + 8ull, l3 + 32ull, l1);
                         const u32 t13 = load32(l3 + 12u);
                         l22 = t13;
                         const u32 t14 = load32(l3 + 8u);
                         l23 = t14;
-                        functions_arguments_Arguments_next(e, l3, l3 + 32ull, l1);
+                        functions_arguments_Arguments_next(stack, l3, l3 + 32ull, l1);
                         const u32 t15 = load32(l1 + 16ull);
                         l20 = t15;
                         l14 = (u64)(l17 + l20);
@@ -3127,7 +3132,7 @@ static void functions_comparing_greater(struct engine *e, u64 l0, u64 l1, u64 l2
                                 if (((t23 - 48u) & 255u) > 9u) goto L19;
                             }
                             L20:;
-                            const u32 t24 = values_number_long_greater(e, l12, l9, l11, l8);
+                            const u32 t24 = values_number_long_greater(stack, l12, l9, l11, l8);
                             if (t24 == 0) goto L3;
                             goto L2;
                         }
@@ -3215,7 +3220,7 @@ static void functions_comparing_greater(struct engine *e, u64 l0, u64 l1, u64 l2
                     trap();
                 }
                 L4:;
-                const u32 t41 = values_number_long_greater(e, l12, l9, l11, l8);
+                const u32 t41 = values_number_long_greater(stack, l12, l9, l11, l8);
                 if (t41) goto L2;
             }
             L3:;
@@ -3247,15 +3252,15 @@ static void functions_comparing_greater(struct engine *e, u64 l0, u64 l1, u64 l2
                     l5 = (u64)l17;
                     {
                         if (l17 >= 4u) {
-                            core_slice_edits_slice_T_copy_from_slice(e, l6 + (l4 << 3), l6 + (l2 << 3), 4ull);
+                            core_slice_edits_slice_T_copy_from_slice(stack, l6 + (l4 << 3), l6 + (l2 << 3), 4ull);
                             l5 = l5 - 4ull;
-                            core_slice_edits_slice_T_copy_from_slice(e, l6 + ((l5 + l4) << 3), l6 + ((l2 + l5) << 3), 4ull);
+                            core_slice_edits_slice_T_copy_from_slice(stack, l6 + ((l5 + l4) << 3), l6 + ((l2 + l5) << 3), 4ull);
                             goto L49;
                         }
                         if (l17 >= 2u) {
-                            core_slice_edits_slice_T_copy_from_slice(e, l6 + (l4 << 3), l6 + (l2 << 3), 2ull);
+                            core_slice_edits_slice_T_copy_from_slice(stack, l6 + (l4 << 3), l6 + (l2 << 3), 2ull);
                             l5 = l5 - 2ull;
-                            core_slice_edits_slice_T_copy_from_slice(e, l6 + ((l5 + l4) << 3), l6 + ((l2 + l5) << 3), 2ull);
+                            core_slice_edits_slice_T_copy_from_slice(stack, l6 + ((l5 + l4) << 3), l6 + ((l2 + l5) << 3), 2ull);
                             goto L49;
                         }
                         if (l17 != 1u) goto L49;
@@ -3272,14 +3277,14 @@ static void functions_comparing_greater(struct engine *e, u64 l0, u64 l1, u64 l2
                 }
                 L45:;
                 l18 = 0u;
-                const u32 t54 = forms_work_Work_load_other_part(e, l1, l16, l19);
+                const u32 t54 = forms_work_Work_load_other_part(stack, l1, l16, l19);
                 if (t54 == 0) { v42 = 0u; goto L42; }
             }
             L44:;
             l18 = 2u;
             v42 = l17; goto L42;
         }
-        const u32 t55 = functions_arguments_put_part(e, l1, l16, l19);
+        const u32 t55 = functions_arguments_put_part(stack, l1, l16, l19);
         l18 = t55;
         v42 = 0u;
     }
@@ -3288,10 +3293,10 @@ static void functions_comparing_greater(struct engine *e, u64 l0, u64 l1, u64 l2
     store8(l0, (u8)l18);
     store32(l0 + 4ull, l20);
     store8(l0 + 1ull, (u8)0u);
-    e->stack_pointer = l3 + 48ull;
+    stack = l3 + 48ull;
 }
 
-static void functions_arithmetic_arithmetic(struct engine *e, u64 l0, u64 l1, u32 l2, u64 l3) {
+static void functions_arithmetic_arithmetic(u64 stack, u64 l0, u64 l1, u32 l2, u64 l3) {
     u64 l4 = 0;
     u64 l5 = 0;
     u64 l6 = 0;
@@ -3318,8 +3323,8 @@ static void functions_arithmetic_arithmetic(struct engine *e, u64 l0, u64 l1, u3
     u32 l27 = 0;
     u32 l28 = 0;
     u32 l29 = 0;
-    l6 = e->stack_pointer - 256ull;
-    e->stack_pointer = l6;
+    l6 = stack - 256ull;
+    stack = l6;
     u32 v1;
     {
         {
@@ -3328,19 +3333,19 @@ static void functions_arithmetic_arithmetic(struct engine *e, u64 l0, u64 l1, u3
                     {
                         {
                             {
-                                if ((i64)(l6 - e->stack) >= (i64)16ull) {
+                                {
                                     const u64 t9 = load64(l3 + 8u);
                                     store64(l6 + 200u, t9);
                                     const u64 t10 = load64(l3);
                                     store64(l6 + 192u, t10);
                                     const u32 t11 = load8(l6 + 204u);
                                     l29 = t11;
-                                    functions_arguments_Arguments_next(e, l6 + 184ull, l6 + 192ull, l1);
+                                    functions_arguments_Arguments_next(stack, l6 + 184ull, l6 + 192ull, l1);
                                     const u32 t12 = load32(l6 + 188u);
                                     l21 = t12;
                                     const u32 t13 = load32(l6 + 184u);
                                     l26 = t13;
-                                    functions_arguments_Arguments_next(e, l6 + 176ull, l6 + 192ull, l1);
+                                    functions_arguments_Arguments_next(stack, l6 + 176ull, l6 + 192ull, l1);
                                     const u32 t14 = load32(l1 + 16ull);
                                     l23 = t14;
                                     const u64 t15 = load64(l1);
@@ -3406,7 +3411,7 @@ static void functions_arithmetic_arithmetic(struct engine *e, u64 l0, u64 l1, u3
                                             v18 = (u32)l8; goto L18;
                                         }
                                         L19:;
-                                        values_number_long_tail(e, l6 + 208ull, l11, l8);
+                                        values_number_long_tail(stack, l6 + 208ull, l11, l8);
                                         const u32 t29 = load8(l6 + 224u);
                                         l25 = t29 == 1u;
                                         const u64 t30 = load64(l6 + 248u);
@@ -3472,7 +3477,7 @@ static void functions_arithmetic_arithmetic(struct engine *e, u64 l0, u64 l1, u3
                                             goto L33;
                                         }
                                         L34:;
-                                        values_number_long_tail(e, l6 + 208ull, l15, l9);
+                                        values_number_long_tail(stack, l6 + 208ull, l15, l9);
                                         const u32 t43 = load8(l6 + 224u);
                                         l21 = t43 == 1u;
                                         const u64 t44 = load64(l6 + 248u);
@@ -3498,13 +3503,13 @@ static void functions_arithmetic_arithmetic(struct engine *e, u64 l0, u64 l1, u3
                                                 l5 = l21 ? (0ull - l4) : l4;
                                                 l22 = (i64)l10 < (i64)0ull;
                                                 l8 = l22 ? (0ull - l7) : l7;
-                                                multi3(e, l6 + 96ull, l5, 0ull, l8, 0ull);
+                                                multi3(stack, l6 + 96ull, l5, 0ull, l8, 0ull);
                                                 l9 = l21 ? (0ull - (l3 + (u64)(l4 != 0ull))) : l3;
-                                                multi3(e, l6 + 128ull, l9, 0ull, l8, 0ull);
+                                                multi3(stack, l6 + 128ull, l9, 0ull, l8, 0ull);
                                                 l8 = l22 ? (0ull - (l10 + (u64)(l7 != 0ull))) : l10;
-                                                multi3(e, l6 + 80ull, l5, 0ull, l8, 0ull);
-                                                multi3(e, l6 + 112ull, l9, 0ull, l8, 0ull);
-                                                multi3(e, l6 + 64ull, l4, l3, l7, l10);
+                                                multi3(stack, l6 + 80ull, l5, 0ull, l8, 0ull);
+                                                multi3(stack, l6 + 112ull, l9, 0ull, l8, 0ull);
+                                                multi3(stack, l6 + 64ull, l4, l3, l7, l10);
                                                 const u64 t50 = load64(l6 + 96u);
                                                 l3 = (l3 ^ l10) >> 63;
                                                 l4 = l3 + 9223372036854775807ull;
@@ -3577,7 +3582,7 @@ static void functions_arithmetic_arithmetic(struct engine *e, u64 l0, u64 l1, u3
                                                 l16 = (u64)((i64)(l3 ^ l10) >> 63);
                                                 if (l21) goto L5;
                                                 if (((l5 ^ 127ull) | l9) == 0) goto L5;
-                                                ashlti3(e, l6 + 160ull, l7, l8, 127u - (u32)l5);
+                                                ashlti3(stack, l6 + 160ull, l7, l8, 127u - (u32)l5);
                                                 const u64 t69 = load64(l6 + 168u);
                                                 l4 = t69;
                                                 const u64 t70 = load64(l6 + 160u);
@@ -3585,7 +3590,7 @@ static void functions_arithmetic_arithmetic(struct engine *e, u64 l0, u64 l1, u3
                                                 l5 = l5 + 1ull;
                                                 l9 = l9 + (u64)(l5 == 0);
                                                 if ((l5 | l9) == 0) goto L7;
-                                                lshrti3(e, l6 + 144ull, l7, l8, (u32)l5);
+                                                lshrti3(stack, l6 + 144ull, l7, l8, (u32)l5);
                                                 l20 = l18 - 1ull;
                                                 l13 = l17 - (u64)(l18 == 0);
                                                 const u64 t71 = load64(l6 + 152u);
@@ -3728,7 +3733,7 @@ static void functions_arithmetic_arithmetic(struct engine *e, u64 l0, u64 l1, u3
                             {
                                 if (l21) goto L92;
                                 if (((l5 ^ 127ull) | l7) == 0) goto L92;
-                                ashlti3(e, l6 + 48ull, l19, l16, 127u - (u32)l5);
+                                ashlti3(stack, l6 + 48ull, l19, l16, 127u - (u32)l5);
                                 const u64 t93 = load64(l6 + 56u);
                                 l4 = t93;
                                 const u64 t94 = load64(l6 + 48u);
@@ -3737,7 +3742,7 @@ static void functions_arithmetic_arithmetic(struct engine *e, u64 l0, u64 l1, u3
                                     l5 = l5 + 1ull;
                                     l11 = l7 + (u64)(l5 == 0);
                                     if (((l5 | l11) == 0) == 0) {
-                                        lshrti3(e, l6 + 32ull, l19, l16, (u32)l5);
+                                        lshrti3(stack, l6 + 32ull, l19, l16, (u32)l5);
                                         l18 = 9ull;
                                         l20 = 0ull;
                                         const u64 t97 = load64(l6 + 40u);
@@ -3772,7 +3777,7 @@ static void functions_arithmetic_arithmetic(struct engine *e, u64 l0, u64 l1, u3
                                 l3 = l9 | (l3 << 1);
                             }
                             L92:;
-                            multi3(e, l6 + 16ull, l3, l6, 10ull, 0ull);
+                            multi3(stack, l6 + 16ull, l3, l6, 10ull, 0ull);
                             const u64 t100 = load64(l6 + 16u);
                             store8((l6 + 208ull) + l13, (u8)(((u32)(l19 - t100) | 48u)));
                             if (l16 > 9ull) goto L91;
@@ -3846,7 +3851,7 @@ static void functions_arithmetic_arithmetic(struct engine *e, u64 l0, u64 l1, u3
                 const u32 t116 = load32(l3);
                 l24 = t116;
                 if (l23 > (l24 - l21)) {
-                    space_space_Space_move_active(e, l1, 0u);
+                    space_space_Space_move_active(stack, l1, 0u);
                     const u32 t118 = load32(l3);
                     l24 = t118;
                     const u64 t119 = load64(l1);
@@ -3947,15 +3952,15 @@ static void functions_arithmetic_arithmetic(struct engine *e, u64 l0, u64 l1, u3
                     l3 = t141;
                     {
                         if (l27 >= 4u) {
-                            core_slice_edits_slice_T_copy_from_slice(e, l3 + (l4 << 3), l3 + (l5 << 3), 4ull);
+                            core_slice_edits_slice_T_copy_from_slice(stack, l3 + (l4 << 3), l3 + (l5 << 3), 4ull);
                             l7 = l7 - 4ull;
-                            core_slice_edits_slice_T_copy_from_slice(e, l3 + ((l7 + l4) << 3), l3 + ((l5 + l7) << 3), 4ull);
+                            core_slice_edits_slice_T_copy_from_slice(stack, l3 + ((l7 + l4) << 3), l3 + ((l5 + l7) << 3), 4ull);
                             goto L142;
                         }
                         if (l27 >= 2u) {
-                            core_slice_edits_slice_T_copy_from_slice(e, l3 + (l4 << 3), l3 + (l5 << 3), 2ull);
+                            core_slice_edits_slice_T_copy_from_slice(stack, l3 + (l4 << 3), l3 + (l5 << 3), 2ull);
                             l7 = l7 - 2ull;
-                            core_slice_edits_slice_T_copy_from_slice(e, l3 + ((l7 + l4) << 3), l3 + ((l5 + l7) << 3), 2ull);
+                            core_slice_edits_slice_T_copy_from_slice(stack, l3 + ((l7 + l4) << 3), l3 + ((l5 + l7) << 3), 2ull);
                             goto L142;
                         }
                         if (l27 != 1u) goto L142;
@@ -3971,11 +3976,11 @@ static void functions_arithmetic_arithmetic(struct engine *e, u64 l0, u64 l1, u3
                     v1 = l28; goto L1;
                 }
                 L137:;
-                (void)forms_work_Work_load_other_part(e, l1, l26, l22);
+                (void)forms_work_Work_load_other_part(stack, l1, l26, l22);
                 v1 = l28; goto L1;
             }
             if (l22 > l26) {
-                (void)functions_arguments_put_part(e, l1, l26, l22);
+                (void)functions_arguments_put_part(stack, l1, l26, l22);
                 const u32 t150 = load32(l1 + 20ull);
                 const u32 t151 = load32(l1 + 16ull);
                 l25 = t150 + t151;
@@ -3985,7 +3990,7 @@ static void functions_arithmetic_arithmetic(struct engine *e, u64 l0, u64 l1, u3
             {
                 const u32 t154 = load32(l1 + 28ull);
                 if ((u64)(t154 - l21) < l11) {
-                    const u32 t156 = space_space_Space_try_claim_spare(e, l1, l11);
+                    const u32 t156 = space_space_Space_try_claim_spare(stack, l1, l11);
                     if (t156 == 0) goto L153;
                     const u32 t157 = load32(l1 + 20ull);
                     const u32 t158 = load32(l1 + 16ull);
@@ -4075,7 +4080,7 @@ static void functions_arithmetic_arithmetic(struct engine *e, u64 l0, u64 l1, u3
             v1 = 0u; goto L1;
         }
         L2:;
-        functions_arguments_Arguments_next(e, l6 + 8ull, l6 + 192ull, l1);
+        functions_arguments_Arguments_next(stack, l6 + 8ull, l6 + 192ull, l1);
         {
             {
                 const u32 t179 = load32(l6 + 12u);
@@ -4096,15 +4101,15 @@ static void functions_arithmetic_arithmetic(struct engine *e, u64 l0, u64 l1, u3
                 l4 = (u64)l21;
                 {
                     if (l21 >= 4u) {
-                        core_slice_edits_slice_T_copy_from_slice(e, l12 + (l5 << 3), l12 + (l3 << 3), 4ull);
+                        core_slice_edits_slice_T_copy_from_slice(stack, l12 + (l5 << 3), l12 + (l3 << 3), 4ull);
                         l4 = l4 - 4ull;
-                        core_slice_edits_slice_T_copy_from_slice(e, l12 + ((l4 + l5) << 3), l12 + ((l3 + l4) << 3), 4ull);
+                        core_slice_edits_slice_T_copy_from_slice(stack, l12 + ((l4 + l5) << 3), l12 + ((l3 + l4) << 3), 4ull);
                         goto L184;
                     }
                     if (l21 >= 2u) {
-                        core_slice_edits_slice_T_copy_from_slice(e, l12 + (l5 << 3), l12 + (l3 << 3), 2ull);
+                        core_slice_edits_slice_T_copy_from_slice(stack, l12 + (l5 << 3), l12 + (l3 << 3), 2ull);
                         l4 = l4 - 2ull;
-                        core_slice_edits_slice_T_copy_from_slice(e, l12 + ((l4 + l5) << 3), l12 + ((l3 + l4) << 3), 2ull);
+                        core_slice_edits_slice_T_copy_from_slice(stack, l12 + ((l4 + l5) << 3), l12 + ((l3 + l4) << 3), 2ull);
                         goto L184;
                     }
                     if (l21 != 1u) goto L184;
@@ -4121,7 +4126,7 @@ static void functions_arithmetic_arithmetic(struct engine *e, u64 l0, u64 l1, u3
             }
             L178:;
             l24 = 0u;
-            const u32 t189 = forms_work_Work_load_other_part(e, l1, l26, l25);
+            const u32 t189 = forms_work_Work_load_other_part(stack, l1, l26, l25);
             if (t189 == 0) { v1 = 0u; goto L1; }
         }
         L177:;
@@ -4133,10 +4138,10 @@ static void functions_arithmetic_arithmetic(struct engine *e, u64 l0, u64 l1, u3
     store8(l0, (u8)l24);
     store32(l0 + 4ull, l22);
     store8(l0 + 1ull, (u8)0u);
-    e->stack_pointer = l6 + 256ull;
+    stack = l6 + 256ull;
 }
 
-static void functions_bit_strings_union(struct engine *e, u64 l0, u64 l1, u64 l2) {
+static void functions_bit_strings_union(u64 stack, u64 l0, u64 l1, u64 l2) {
     u64 l3 = 0;
     u64 l4 = 0;
     u64 l5 = 0;
@@ -4148,21 +4153,21 @@ static void functions_bit_strings_union(struct engine *e, u64 l0, u64 l1, u64 l2
     u32 l11 = 0;
     u32 l12 = 0;
     u32 l13 = 0;
-    l4 = e->stack_pointer - 64ull;
-    e->stack_pointer = l4;
+    l4 = stack - 64ull;
+    stack = l4;
     l3 = l4;
-    if ((i64)(l3 - e->stack) >= (i64)16ull) {
+    {
         store64(l3 + 56u, 0ull);
         const u64 t2 = load64(l2);
         store64(l3 + 40u, t2);
         const u64 t3 = load64(l2 + 8u);
         store64(l3 + 48u, t3);
-        functions_arguments_Arguments_next(e, l3 + 8ull, l3 + 40ull, l1);
+        functions_arguments_Arguments_next(stack, l3 + 8ull, l3 + 40ull, l1);
         const u32 t4 = load32(l3 + 8u);
         l12 = t4;
         const u32 t5 = load32(l3 + 12u);
         l9 = t5;
-        functions_arguments_Arguments_next(e, l3, l3 + 40ull, l1);
+        functions_arguments_Arguments_next(stack, l3, l3 + 40ull, l1);
         const u32 t6 = load32(l1 + 16ull);
         l7 = t6;
         l2 = (u64)(l7 + l9);
@@ -4216,18 +4221,18 @@ static void functions_bit_strings_union(struct engine *e, u64 l0, u64 l1, u64 l2
         store32(l3 + 28u, l9);
         store32(l3 + 24u, l11);
         store32(l3 + 20u, 0u);
-        functions_bit_strings_give_bits(e, l3 + 56ull, l1, l12, l11, l3 + 20ull);
+        functions_bit_strings_give_bits(stack, l3 + 56ull, l1, l12, l11, l3 + 20ull);
         const u32 t18 = load16(l3 + 56u);
         store16(l0, (u16)t18);
         const u32 t19 = load32(l3 + 60u);
         store32(l0 + 4ull, t19);
-        e->stack_pointer = l3 + 64ull;
+        stack = l3 + 64ull;
         return;
     }
     trap();
 }
 
-static void functions_bit_strings_intersection(struct engine *e, u64 l0, u64 l1, u64 l2) {
+static void functions_bit_strings_intersection(u64 stack, u64 l0, u64 l1, u64 l2) {
     u64 l3 = 0;
     u64 l4 = 0;
     u64 l5 = 0;
@@ -4239,21 +4244,21 @@ static void functions_bit_strings_intersection(struct engine *e, u64 l0, u64 l1,
     u32 l11 = 0;
     u32 l12 = 0;
     u32 l13 = 0;
-    l4 = e->stack_pointer - 64ull;
-    e->stack_pointer = l4;
+    l4 = stack - 64ull;
+    stack = l4;
     l3 = l4;
-    if ((i64)(l3 - e->stack) >= (i64)16ull) {
+    {
         store64(l3 + 56u, 0ull);
         const u64 t2 = load64(l2);
         store64(l3 + 40u, t2);
         const u64 t3 = load64(l2 + 8u);
         store64(l3 + 48u, t3);
-        functions_arguments_Arguments_next(e, l3 + 8ull, l3 + 40ull, l1);
+        functions_arguments_Arguments_next(stack, l3 + 8ull, l3 + 40ull, l1);
         const u32 t4 = load32(l3 + 8u);
         l12 = t4;
         const u32 t5 = load32(l3 + 12u);
         l9 = t5;
-        functions_arguments_Arguments_next(e, l3, l3 + 40ull, l1);
+        functions_arguments_Arguments_next(stack, l3, l3 + 40ull, l1);
         const u32 t6 = load32(l1 + 16ull);
         l7 = t6;
         l2 = (u64)(l7 + l9);
@@ -4307,18 +4312,18 @@ static void functions_bit_strings_intersection(struct engine *e, u64 l0, u64 l1,
         store32(l3 + 28u, l9);
         store32(l3 + 24u, l11);
         store32(l3 + 20u, 1u);
-        functions_bit_strings_give_bits(e, l3 + 56ull, l1, l12, l11, l3 + 20ull);
+        functions_bit_strings_give_bits(stack, l3 + 56ull, l1, l12, l11, l3 + 20ull);
         const u32 t18 = load16(l3 + 56u);
         store16(l0, (u16)t18);
         const u32 t19 = load32(l3 + 60u);
         store32(l0 + 4ull, t19);
-        e->stack_pointer = l3 + 64ull;
+        stack = l3 + 64ull;
         return;
     }
     trap();
 }
 
-static void functions_bit_strings_give_bits(struct engine *e, u64 l0, u64 l1, u32 l2, u32 l3, u64 l4) {
+static void functions_bit_strings_give_bits(u64 stack, u64 l0, u64 l1, u32 l2, u32 l3, u64 l4) {
     u64 l5 = 0;
     u64 l6 = 0;
     u64 l7 = 0;
@@ -4338,9 +4343,9 @@ static void functions_bit_strings_give_bits(struct engine *e, u64 l0, u64 l1, u3
     u32 l21 = 0;
     u32 l22 = 0;
     u32 l23 = 0;
-    l11 = e->stack_pointer - 32ull;
-    e->stack_pointer = l11;
-    if ((i64)(l11 - e->stack) >= (i64)16ull) {
+    l11 = stack - 32ull;
+    stack = l11;
+    {
         const u32 t2 = load32(l4 + 16ull);
         l22 = t2;
         const u32 t3 = load32(l4 + 12ull);
@@ -4396,7 +4401,7 @@ static void functions_bit_strings_give_bits(struct engine *e, u64 l0, u64 l1, u3
                 store32(l0 + 4ull, 0u);
                 goto L6;
             }
-            (void)functions_arguments_put_part(e, l1, l2, l3);
+            (void)functions_arguments_put_part(stack, l1, l2, l3);
             u32 v20;
             {
                 {
@@ -4558,7 +4563,7 @@ static void functions_bit_strings_give_bits(struct engine *e, u64 l0, u64 l1, u3
                                 l17 = 0u;
                                 l18 = 0u;
                                 {
-                                    if ((i64)(e->stack_pointer - e->stack) >= (i64)16ull) {
+                                    {
                                         l5 = (u64)l16;
                                         if (l5 < l8) {
                                             l6 = l5 * 3ull;
@@ -4692,7 +4697,7 @@ static void functions_bit_strings_give_bits(struct engine *e, u64 l0, u64 l1, u3
                             l16 = 0u;
                             l17 = 0u;
                             {
-                                if ((i64)(e->stack_pointer - e->stack) >= (i64)16ull) {
+                                {
                                     l7 = (u64)l2;
                                     if (l7 < l6) {
                                         u32 v92;
@@ -4816,7 +4821,7 @@ static void functions_bit_strings_give_bits(struct engine *e, u64 l0, u64 l1, u3
                         l3 = l17 + l3;
                         const u32 t120 = load32(l1 + 24ull);
                         if (t118 == (l3 + t120)) {
-                            (void)space_space_Space_push_over_spare(e, l1, l11 + 24ull);
+                            (void)space_space_Space_push_over_spare(stack, l1, l11 + 24ull);
                             goto L28;
                         }
                         l7 = l1 + 32ull;
@@ -4841,13 +4846,13 @@ static void functions_bit_strings_give_bits(struct engine *e, u64 l0, u64 l1, u3
             store32(l0 + 4ull, 0u);
         }
         L6:;
-        e->stack_pointer = l11 + 32ull;
+        stack = l11 + 32ull;
         return;
     }
     trap();
 }
 
-static void functions_bit_strings_shift(struct engine *e, u64 l0, u64 l1, u64 l2) {
+static void functions_bit_strings_shift(u64 stack, u64 l0, u64 l1, u64 l2) {
     u64 l3 = 0;
     u64 l4 = 0;
     u64 l5 = 0;
@@ -4862,21 +4867,21 @@ static void functions_bit_strings_shift(struct engine *e, u64 l0, u64 l1, u64 l2
     u32 l14 = 0;
     u32 l15 = 0;
     u32 l16 = 0;
-    l4 = e->stack_pointer - 64ull;
-    e->stack_pointer = l4;
+    l4 = stack - 64ull;
+    stack = l4;
     l3 = l4;
-    if ((i64)(l3 - e->stack) >= (i64)16ull) {
+    {
         store64(l3 + 56u, 0ull);
         const u64 t2 = load64(l2);
         store64(l3 + 40u, t2);
         const u64 t3 = load64(l2 + 8u);
         store64(l3 + 48u, t3);
-        functions_arguments_Arguments_next(e, l3 + 8ull, l3 + 40ull, l1);
+        functions_arguments_Arguments_next(stack, l3 + 8ull, l3 + 40ull, l1);
         const u32 t4 = load32(l3 + 12u);
         l10 = t4;
         const u32 t5 = load32(l3 + 8u);
         l9 = t5;
-        functions_arguments_Arguments_next(e, l3, l3 + 40ull, l1);
+        functions_arguments_Arguments_next(stack, l3, l3 + 40ull, l1);
         const u32 t6 = load32(l1 + 16ull);
         l12 = t6;
         l2 = (u64)(l10 + l12);
@@ -5003,18 +5008,18 @@ static void functions_bit_strings_shift(struct engine *e, u64 l0, u64 l1, u64 l2
         store32(l3 + 36u, l13);
         store32(l3 + 32u, l10);
         store32(l3 + 28u, l9);
-        functions_bit_strings_give_bits(e, l3 + 56ull, l1, l15, l10, l3 + 20ull);
+        functions_bit_strings_give_bits(stack, l3 + 56ull, l1, l15, l10, l3 + 20ull);
         const u32 t35 = load16(l3 + 56u);
         store16(l0, (u16)t35);
         const u32 t36 = load32(l3 + 60u);
         store32(l0 + 4ull, t36);
-        e->stack_pointer = l3 + 64ull;
+        stack = l3 + 64ull;
         return;
     }
     trap();
 }
 
-static void functions_bit_strings_rotate(struct engine *e, u64 l0, u64 l1, u64 l2) {
+static void functions_bit_strings_rotate(u64 stack, u64 l0, u64 l1, u64 l2) {
     u64 l3 = 0;
     u64 l4 = 0;
     u64 l5 = 0;
@@ -5029,22 +5034,22 @@ static void functions_bit_strings_rotate(struct engine *e, u64 l0, u64 l1, u64 l
     u32 l14 = 0;
     u32 l15 = 0;
     u32 l16 = 0;
-    l4 = e->stack_pointer - 64ull;
-    e->stack_pointer = l4;
+    l4 = stack - 64ull;
+    stack = l4;
     l3 = l4;
-    if ((i64)(l3 - e->stack) >= (i64)16ull) {
+    {
         store32(l3 + 36u, 0u);
         store64(l3 + 56u, 0ull);
         const u64 t2 = load64(l2);
         store64(l3 + 40u, t2);
         const u64 t3 = load64(l2 + 8u);
         store64(l3 + 48u, t3);
-        functions_arguments_Arguments_next(e, l3 + 8ull, l3 + 40ull, l1);
+        functions_arguments_Arguments_next(stack, l3 + 8ull, l3 + 40ull, l1);
         const u32 t4 = load32(l3 + 12u);
         l14 = t4;
         const u32 t5 = load32(l3 + 8u);
         l15 = t5;
-        functions_arguments_Arguments_next(e, l3, l3 + 40ull, l1);
+        functions_arguments_Arguments_next(stack, l3, l3 + 40ull, l1);
         const u32 t6 = load32(l1 + 16ull);
         l10 = t6;
         const u32 t7 = load32(l3);
@@ -5128,18 +5133,18 @@ static void functions_bit_strings_rotate(struct engine *e, u64 l0, u64 l1, u64 l
         store32(l3 + 28u, l12);
         store32(l3 + 24u, l8);
         store32(l3 + 20u, 4u);
-        functions_bit_strings_give_bits(e, l3 + 56ull, l1, l16, l12, l3 + 20ull);
+        functions_bit_strings_give_bits(stack, l3 + 56ull, l1, l16, l12, l3 + 20ull);
         const u32 t26 = load16(l3 + 56u);
         store16(l0, (u16)t26);
         const u32 t27 = load32(l3 + 60u);
         store32(l0 + 4ull, t27);
-        e->stack_pointer = l3 + 64ull;
+        stack = l3 + 64ull;
         return;
     }
     trap();
 }
 
-static void functions_form_parts_call_segment(struct engine *e, u64 l0, u64 l1, u64 l2) {
+static void functions_form_parts_call_segment(u64 stack, u64 l0, u64 l1, u64 l2) {
     u64 l3 = 0;
     u64 l4 = 0;
     u64 l5 = 0;
@@ -5158,24 +5163,24 @@ static void functions_form_parts_call_segment(struct engine *e, u64 l0, u64 l1, 
     u32 l18 = 0;
     u32 l19 = 0;
     u32 l20 = 0;
-    l4 = e->stack_pointer - 64ull;
-    e->stack_pointer = l4;
+    l4 = stack - 64ull;
+    stack = l4;
     const u64 t1 = l0;
     u32 v2;
     {
         {
             {
-                if ((i64)(l4 - e->stack) >= (i64)16ull) {
+                {
                     const u64 t6 = load64(l2 + 8u);
                     store64(l4 + 48u, t6);
                     const u64 t7 = load64(l2);
                     store64(l4 + 40u, t7);
-                    functions_arguments_Arguments_next(e, l4 + 32ull, l4 + 40ull, l1);
+                    functions_arguments_Arguments_next(stack, l4 + 32ull, l4 + 40ull, l1);
                     const u32 t8 = load32(l4 + 36u);
                     l12 = t8;
                     const u32 t9 = load32(l4 + 32u);
                     l13 = t9;
-                    functions_arguments_Arguments_next(e, l4 + 24ull, l4 + 40ull, l1);
+                    functions_arguments_Arguments_next(stack, l4 + 24ull, l4 + 40ull, l1);
                     const u32 t10 = load32(l4 + 28u);
                     l18 = t10;
                     const u32 t11 = load32(l4 + 24u);
@@ -5185,7 +5190,7 @@ static void functions_form_parts_call_segment(struct engine *e, u64 l0, u64 l1, 
                         const u32 t13 = load32(l1 + 40ull);
                         l15 = t13;
                         if (l15 >= 8u) {
-                            forms_work_Work_find_among_more(e, l4 + 8ull, l1, l13, l12);
+                            forms_work_Work_find_among_more(stack, l4 + 8ull, l1, l13, l12);
                             const u32 t15 = load32(l4 + 12u);
                             l16 = t15;
                             const u32 t16 = load8(l4 + 8u);
@@ -5217,7 +5222,7 @@ static void functions_form_parts_call_segment(struct engine *e, u64 l0, u64 l1, 
                             }
                         }
                         L17:;
-                        forms_work_Work_find_among_few(e, l4 + 16ull, l1, l13, l12);
+                        forms_work_Work_find_among_few(stack, l4 + 16ull, l1, l13, l12);
                         const u32 t24 = load32(l4 + 20u);
                         l16 = t24;
                         const u32 t25 = load8(l4 + 16u);
@@ -5237,9 +5242,9 @@ static void functions_form_parts_call_segment(struct engine *e, u64 l0, u64 l1, 
         }
         L3:;
         store64(l4 + 56u, 0ull);
-        const u32 t26 = forms_work_Work_pointer(e, l1, l16);
+        const u32 t26 = forms_work_Work_pointer(stack, l1, l16);
         l19 = t26;
-        const u32 t27 = forms_work_Work_body_len(e, l1, l16);
+        const u32 t27 = forms_work_Work_body_len(stack, l1, l16);
         l20 = t27;
         if (l19 == l20) {
             {
@@ -5337,9 +5342,9 @@ static void functions_form_parts_call_segment(struct engine *e, u64 l0, u64 l1, 
                             goto L36;
                         }
                         if (l14 >= 2u) {
-                            core_slice_edits_slice_T_copy_from_slice(e, l2 + (l7 << 3), l2 + (l6 << 3), 2ull);
+                            core_slice_edits_slice_T_copy_from_slice(stack, l2 + (l7 << 3), l2 + (l6 << 3), 2ull);
                             l3 = l10 - 2ull;
-                            core_slice_edits_slice_T_copy_from_slice(e, l2 + ((l3 + l7) << 3), l2 + ((l3 + l6) << 3), 2ull);
+                            core_slice_edits_slice_T_copy_from_slice(stack, l2 + ((l3 + l7) << 3), l2 + ((l3 + l6) << 3), 2ull);
                             goto L36;
                         }
                         if (l14 != 1u) goto L36;
@@ -5357,7 +5362,7 @@ static void functions_form_parts_call_segment(struct engine *e, u64 l0, u64 l1, 
                 L30:;
                 l13 = 0u;
                 l15 = 0u;
-                const u32 t68 = forms_work_Work_load_other_part(e, l1, l17, l18);
+                const u32 t68 = forms_work_Work_load_other_part(stack, l1, l17, l18);
                 if (t68 == 0) { v2 = 0u; goto L2; }
             }
             L29:;
@@ -5485,11 +5490,11 @@ static void functions_form_parts_call_segment(struct engine *e, u64 l0, u64 l1, 
                         if ((l3 == 0) == 0) goto L106;
                     }
                 }
-                functions_form_parts_take_part(e, l4 + 56ull, l1, l16, l19, l20, l20);
+                functions_form_parts_take_part(stack, l4 + 56ull, l1, l16, l19, l20, l20);
                 goto L95;
             }
             L96:;
-            functions_form_parts_take_part(e, l4 + 56ull, l1, l16, l19, l12, l12 + 1u);
+            functions_form_parts_take_part(stack, l4 + 56ull, l1, l16, l19, l12, l12 + 1u);
         }
         L95:;
         const u32 t108 = load32(l4 + 60u);
@@ -5503,10 +5508,10 @@ static void functions_form_parts_call_segment(struct engine *e, u64 l0, u64 l1, 
     store8(t1, (u8)v2);
     store32(l0 + 4ull, l13);
     store8(l0 + 1ull, (u8)l15);
-    e->stack_pointer = l4 + 64ull;
+    stack = l4 + 64ull;
 }
 
-static void functions_form_parts_call_character(struct engine *e, u64 l0, u64 l1, u64 l2) {
+static void functions_form_parts_call_character(u64 stack, u64 l0, u64 l1, u64 l2) {
     u64 l3 = 0;
     u64 l4 = 0;
     u64 l5 = 0;
@@ -5522,23 +5527,23 @@ static void functions_form_parts_call_character(struct engine *e, u64 l0, u64 l1
     u32 l15 = 0;
     u32 l16 = 0;
     u32 l17 = 0;
-    l5 = e->stack_pointer - 64ull;
-    e->stack_pointer = l5;
+    l5 = stack - 64ull;
+    stack = l5;
     u32 v1;
     {
         {
             {
-                if ((i64)(l5 - e->stack) >= (i64)16ull) {
+                {
                     const u64 t5 = load64(l2 + 8u);
                     store64(l5 + 56u, t5);
                     const u64 t6 = load64(l2);
                     store64(l5 + 48u, t6);
-                    functions_arguments_Arguments_next(e, l5 + 40ull, l5 + 48ull, l1);
+                    functions_arguments_Arguments_next(stack, l5 + 40ull, l5 + 48ull, l1);
                     const u32 t7 = load32(l5 + 44u);
                     l12 = t7;
                     const u32 t8 = load32(l5 + 40u);
                     l13 = t8;
-                    functions_arguments_Arguments_next(e, l5 + 32ull, l5 + 48ull, l1);
+                    functions_arguments_Arguments_next(stack, l5 + 32ull, l5 + 48ull, l1);
                     const u32 t9 = load32(l5 + 36u);
                     l17 = t9;
                     const u32 t10 = load32(l5 + 32u);
@@ -5548,7 +5553,7 @@ static void functions_form_parts_call_character(struct engine *e, u64 l0, u64 l1
                         const u32 t12 = load32(l1 + 40ull);
                         l14 = t12;
                         if (l14 >= 8u) {
-                            forms_work_Work_find_among_more(e, l5 + 16ull, l1, l13, l12);
+                            forms_work_Work_find_among_more(stack, l5 + 16ull, l1, l13, l12);
                             const u32 t14 = load8(l5 + 16u);
                             l15 = t14;
                             const u32 t15 = load32(l5 + 20u);
@@ -5580,7 +5585,7 @@ static void functions_form_parts_call_character(struct engine *e, u64 l0, u64 l1
                             }
                         }
                         L16:;
-                        forms_work_Work_find_among_few(e, l5 + 24ull, l1, l13, l12);
+                        forms_work_Work_find_among_few(stack, l5 + 24ull, l1, l13, l12);
                         const u32 t23 = load8(l5 + 24u);
                         l15 = t23;
                         const u32 t24 = load32(l5 + 28u);
@@ -5599,18 +5604,18 @@ static void functions_form_parts_call_character(struct engine *e, u64 l0, u64 l1
             l12 = 0u;
         }
         L2:;
-        const u32 t25 = forms_work_Work_pointer(e, l1, l12);
-        forms_work_Work_next_char(e, l5 + 8ull, l1, l12, t25);
+        const u32 t25 = forms_work_Work_pointer(stack, l1, l12);
+        forms_work_Work_next_char(stack, l5 + 8ull, l1, l12, t25);
         const u32 t26 = load8(l5 + 8u);
         if (t26 == 1u) {
             const u32 t28 = load32(l5 + 12u);
             l15 = t28;
-            (void)forms_work_Work_body_len(e, l1, l12);
+            (void)forms_work_Work_body_len(stack, l1, l12);
             l13 = 0u;
             l16 = l15 + 1u;
-            const u32 t30 = forms_work_Work_copy_body(e, l1, l12, l15, l16);
+            const u32 t30 = forms_work_Work_copy_body(stack, l1, l12, l15, l16);
             if (t30 == 0) { v1 = 0u; goto L1; }
-            forms_work_Work_set_pointer(e, l1, l12, l16);
+            forms_work_Work_set_pointer(stack, l1, l12, l16);
             l13 = 1u;
             v1 = 0u; goto L1;
         }
@@ -5709,9 +5714,9 @@ static void functions_form_parts_call_character(struct engine *e, u64 l0, u64 l1
                         goto L38;
                     }
                     if (l12 >= 2u) {
-                        core_slice_edits_slice_T_copy_from_slice(e, l2 + (l7 << 3), l2 + (l6 << 3), 2ull);
+                        core_slice_edits_slice_T_copy_from_slice(stack, l2 + (l7 << 3), l2 + (l6 << 3), 2ull);
                         l3 = l10 - 2ull;
-                        core_slice_edits_slice_T_copy_from_slice(e, l2 + ((l3 + l7) << 3), l2 + ((l3 + l6) << 3), 2ull);
+                        core_slice_edits_slice_T_copy_from_slice(stack, l2 + ((l3 + l7) << 3), l2 + ((l3 + l6) << 3), 2ull);
                         goto L38;
                     }
                     if (l12 != 1u) goto L38;
@@ -5728,7 +5733,7 @@ static void functions_form_parts_call_character(struct engine *e, u64 l0, u64 l1
             }
             L32:;
             l13 = 0u;
-            const u32 t70 = forms_work_Work_load_other_part(e, l1, l16, l17);
+            const u32 t70 = forms_work_Work_load_other_part(stack, l1, l16, l17);
             if (t70 == 0) { v1 = 0u; goto L1; }
         }
         L31:;
@@ -5740,10 +5745,10 @@ static void functions_form_parts_call_character(struct engine *e, u64 l0, u64 l1
     store8(l0, (u8)l13);
     store32(l0 + 4ull, l14);
     store8(l0 + 1ull, (u8)0u);
-    e->stack_pointer = l5 + 64ull;
+    stack = l5 + 64ull;
 }
 
-static void functions_form_parts_call_number(struct engine *e, u64 l0, u64 l1, u64 l2) {
+static void functions_form_parts_call_number(u64 stack, u64 l0, u64 l1, u64 l2) {
     u32 l3 = 0;
     u32 l4 = 0;
     u32 l5 = 0;
@@ -5765,30 +5770,30 @@ static void functions_form_parts_call_number(struct engine *e, u64 l0, u64 l1, u
     u64 l21 = 0;
     u64 l22 = 0;
     u64 l23 = 0;
-    l18 = e->stack_pointer - 80ull;
-    e->stack_pointer = l18;
+    l18 = stack - 80ull;
+    stack = l18;
     const u64 t1 = l0;
     u32 v2;
     {
         {
             {
                 l20 = l18;
-                if ((i64)(l20 - e->stack) >= (i64)16ull) {
+                {
                     const u64 t6 = load64(l2 + 8u);
                     store64(l20 + 56u, t6);
                     const u64 t7 = load64(l2);
                     store64(l20 + 48u, t7);
-                    functions_arguments_Arguments_next(e, l20 + 40ull, l20 + 48ull, l1);
+                    functions_arguments_Arguments_next(stack, l20 + 40ull, l20 + 48ull, l1);
                     const u32 t8 = load32(l20 + 44u);
                     l9 = t8;
                     const u32 t9 = load32(l20 + 40u);
                     l8 = t9;
-                    functions_arguments_Arguments_next(e, l20 + 32ull, l20 + 48ull, l1);
+                    functions_arguments_Arguments_next(stack, l20 + 32ull, l20 + 48ull, l1);
                     const u32 t10 = load32(l20 + 36u);
                     l5 = t10;
                     const u32 t11 = load32(l20 + 32u);
                     l3 = t11;
-                    functions_arguments_Arguments_next(e, l20 + 24ull, l20 + 48ull, l1);
+                    functions_arguments_Arguments_next(stack, l20 + 24ull, l20 + 48ull, l1);
                     const u32 t12 = load32(l1 + 16ull);
                     l7 = t12;
                     l2 = (u64)(l5 + l7);
@@ -5893,7 +5898,7 @@ static void functions_form_parts_call_number(struct engine *e, u64 l0, u64 l1, u
                         const u32 t38 = load32(l1 + 40ull);
                         l3 = t38;
                         if (l3 >= 8u) {
-                            forms_work_Work_find_among_more(e, l20 + 8ull, l1, l8, l9);
+                            forms_work_Work_find_among_more(stack, l20 + 8ull, l1, l8, l9);
                             const u32 t40 = load8(l20 + 8u);
                             l7 = t40;
                             const u32 t41 = load32(l20 + 12u);
@@ -5921,7 +5926,7 @@ static void functions_form_parts_call_number(struct engine *e, u64 l0, u64 l1, u
                             }
                         }
                         L42:;
-                        forms_work_Work_find_among_few(e, l20 + 16ull, l1, l8, l9);
+                        forms_work_Work_find_among_few(stack, l20 + 16ull, l1, l8, l9);
                         const u32 t47 = load8(l20 + 16u);
                         l7 = t47;
                         const u32 t48 = load32(l20 + 20u);
@@ -5943,9 +5948,9 @@ static void functions_form_parts_call_number(struct engine *e, u64 l0, u64 l1, u
         L3:;
         store64(l20 + 64u, 0ull);
         if (l5 == 0) {
-            const u32 t50 = forms_work_Work_pointer(e, l1, l8);
+            const u32 t50 = forms_work_Work_pointer(stack, l1, l8);
             l5 = t50;
-            functions_form_parts_take_part(e, l20 + 64ull, l1, l8, l5, l5, l5);
+            functions_form_parts_take_part(stack, l20 + 64ull, l1, l8, l5, l5, l5);
             const u32 t51 = load32(l20 + 68u);
             l6 = t51;
             const u32 t52 = load8(l20 + 65u);
@@ -5958,7 +5963,7 @@ static void functions_form_parts_call_number(struct engine *e, u64 l0, u64 l1, u
                 {
                     if (l12) {
                         store64(l20 + 72u, 0ull);
-                        const u32 t58 = forms_work_Work_pointer(e, l1, l8);
+                        const u32 t58 = forms_work_Work_pointer(stack, l1, l8);
                         l11 = t58;
                         const u32 t59 = load32(l1 + 16ull);
                         l6 = t59;
@@ -6146,14 +6151,14 @@ static void functions_form_parts_call_number(struct engine *e, u64 l0, u64 l1, u
                         goto L55;
                     }
                     store64(l20 + 72u, 0ull);
-                    const u32 t106 = forms_work_Work_pointer(e, l1, l8);
+                    const u32 t106 = forms_work_Work_pointer(stack, l1, l8);
                     l6 = t106;
-                    (void)forms_work_Work_body_len(e, l1, l8);
+                    (void)forms_work_Work_body_len(stack, l1, l8);
                     l3 = l6;
                     L108:;
                     {
                         {
-                            forms_work_Work_next_char(e, l20, l1, l8, l3);
+                            forms_work_Work_next_char(stack, l20, l1, l8, l3);
                             const u32 t110 = load8(l20);
                             if (t110 != 1u) goto L109;
                             const u32 t111 = load32(l20 + 4u);
@@ -6184,15 +6189,15 @@ static void functions_form_parts_call_number(struct engine *e, u64 l0, u64 l1, u
                                 l2 = t119;
                                 {
                                     if (l5 >= 4u) {
-                                        core_slice_edits_slice_T_copy_from_slice(e, l2 + (l19 << 3), l2 + (l18 << 3), 4ull);
+                                        core_slice_edits_slice_T_copy_from_slice(stack, l2 + (l19 << 3), l2 + (l18 << 3), 4ull);
                                         l21 = l21 - 4ull;
-                                        core_slice_edits_slice_T_copy_from_slice(e, l2 + ((l21 + l19) << 3), l2 + ((l18 + l21) << 3), 4ull);
+                                        core_slice_edits_slice_T_copy_from_slice(stack, l2 + ((l21 + l19) << 3), l2 + ((l18 + l21) << 3), 4ull);
                                         goto L120;
                                     }
                                     if (l5 >= 2u) {
-                                        core_slice_edits_slice_T_copy_from_slice(e, l2 + (l19 << 3), l2 + (l18 << 3), 2ull);
+                                        core_slice_edits_slice_T_copy_from_slice(stack, l2 + (l19 << 3), l2 + (l18 << 3), 2ull);
                                         l21 = l21 - 2ull;
-                                        core_slice_edits_slice_T_copy_from_slice(e, l2 + ((l21 + l19) << 3), l2 + ((l18 + l21) << 3), 2ull);
+                                        core_slice_edits_slice_T_copy_from_slice(stack, l2 + ((l21 + l19) << 3), l2 + ((l18 + l21) << 3), 2ull);
                                         goto L120;
                                     }
                                     if (l5 != 1u) goto L120;
@@ -6210,7 +6215,7 @@ static void functions_form_parts_call_number(struct engine *e, u64 l0, u64 l1, u
                             L114:;
                             l6 = 0u;
                             l4 = 0u;
-                            const u32 t125 = forms_work_Work_load_other_part(e, l1, l14, l15);
+                            const u32 t125 = forms_work_Work_load_other_part(stack, l1, l14, l15);
                             if (t125 == 0) { v2 = 0u; goto L2; }
                         }
                         L113:;
@@ -6218,7 +6223,7 @@ static void functions_form_parts_call_number(struct engine *e, u64 l0, u64 l1, u
                         l6 = l5;
                         v2 = 2u; goto L2;
                     }
-                    functions_form_parts_take_part(e, l20 + 72ull, l1, l8, l6, l3, l3);
+                    functions_form_parts_take_part(stack, l20 + 72ull, l1, l8, l6, l3, l3);
                     goto L54;
                 }
                 L56:;
@@ -6290,15 +6295,15 @@ static void functions_form_parts_call_number(struct engine *e, u64 l0, u64 l1, u
                         l21 = (u64)l5;
                         {
                             if (l5 >= 4u) {
-                                core_slice_edits_slice_T_copy_from_slice(e, l2 + (l19 << 3), l2 + (l18 << 3), 4ull);
+                                core_slice_edits_slice_T_copy_from_slice(stack, l2 + (l19 << 3), l2 + (l18 << 3), 4ull);
                                 l21 = l21 - 4ull;
-                                core_slice_edits_slice_T_copy_from_slice(e, l2 + ((l21 + l19) << 3), l2 + ((l18 + l21) << 3), 4ull);
+                                core_slice_edits_slice_T_copy_from_slice(stack, l2 + ((l21 + l19) << 3), l2 + ((l18 + l21) << 3), 4ull);
                                 goto L143;
                             }
                             if (l5 >= 2u) {
-                                core_slice_edits_slice_T_copy_from_slice(e, l2 + (l19 << 3), l2 + (l18 << 3), 2ull);
+                                core_slice_edits_slice_T_copy_from_slice(stack, l2 + (l19 << 3), l2 + (l18 << 3), 2ull);
                                 l21 = l21 - 2ull;
-                                core_slice_edits_slice_T_copy_from_slice(e, l2 + ((l21 + l19) << 3), l2 + ((l18 + l21) << 3), 2ull);
+                                core_slice_edits_slice_T_copy_from_slice(stack, l2 + ((l21 + l19) << 3), l2 + ((l18 + l21) << 3), 2ull);
                                 goto L143;
                             }
                             if (l5 != 1u) goto L143;
@@ -6316,7 +6321,7 @@ static void functions_form_parts_call_number(struct engine *e, u64 l0, u64 l1, u
                     L139:;
                     l6 = 0u;
                     l4 = 0u;
-                    const u32 t148 = forms_work_Work_load_other_part(e, l1, l14, l15);
+                    const u32 t148 = forms_work_Work_load_other_part(stack, l1, l14, l15);
                     if (t148 == 0) { v2 = 0u; goto L2; }
                 }
                 L138:;
@@ -6324,7 +6329,7 @@ static void functions_form_parts_call_number(struct engine *e, u64 l0, u64 l1, u
                 l6 = l5;
                 v2 = 2u; goto L2;
             }
-            functions_form_parts_take_part(e, l20 + 72ull, l1, l8, l3, l11, l3);
+            functions_form_parts_take_part(stack, l20 + 72ull, l1, l8, l3, l11, l3);
         }
         L54:;
         const u32 t149 = load32(l20 + 76u);
@@ -6338,10 +6343,10 @@ static void functions_form_parts_call_number(struct engine *e, u64 l0, u64 l1, u
     store8(t1, (u8)v2);
     store32(l0 + 4ull, l6);
     store8(l0 + 1ull, (u8)l4);
-    e->stack_pointer = l20 + 80ull;
+    stack = l20 + 80ull;
 }
 
-static void functions_form_parts_initial_part(struct engine *e, u64 l0, u64 l1, u64 l2) {
+static void functions_form_parts_initial_part(u64 stack, u64 l0, u64 l1, u64 l2) {
     u32 l3 = 0;
     u32 l4 = 0;
     u32 l5 = 0;
@@ -6362,28 +6367,28 @@ static void functions_form_parts_initial_part(struct engine *e, u64 l0, u64 l1, 
     u64 l20 = 0;
     u64 l21 = 0;
     u64 l22 = 0;
-    l16 = e->stack_pointer - 80ull;
-    e->stack_pointer = l16;
+    l16 = stack - 80ull;
+    stack = l16;
     u32 v1;
     {
         {
             {
-                if ((i64)(l16 - e->stack) >= (i64)16ull) {
+                {
                     const u64 t5 = load64(l2 + 8u);
                     store64(l16 + 56u, t5);
                     const u64 t6 = load64(l2);
                     store64(l16 + 48u, t6);
-                    functions_arguments_Arguments_next(e, l16 + 40ull, l16 + 48ull, l1);
+                    functions_arguments_Arguments_next(stack, l16 + 40ull, l16 + 48ull, l1);
                     const u32 t7 = load32(l16 + 44u);
                     l3 = t7;
                     const u32 t8 = load32(l16 + 40u);
                     l4 = t8;
-                    functions_arguments_Arguments_next(e, l16 + 32ull, l16 + 48ull, l1);
+                    functions_arguments_Arguments_next(stack, l16 + 32ull, l16 + 48ull, l1);
                     const u32 t9 = load32(l16 + 36u);
                     l11 = t9;
                     const u32 t10 = load32(l16 + 32u);
                     l12 = t10;
-                    functions_arguments_Arguments_next(e, l16 + 24ull, l16 + 48ull, l1);
+                    functions_arguments_Arguments_next(stack, l16 + 24ull, l16 + 48ull, l1);
                     const u32 t11 = load32(l16 + 28u);
                     l14 = t11;
                     const u32 t12 = load32(l16 + 24u);
@@ -6393,7 +6398,7 @@ static void functions_form_parts_initial_part(struct engine *e, u64 l0, u64 l1, 
                         const u32 t14 = load32(l1 + 40ull);
                         l5 = t14;
                         if (l5 >= 8u) {
-                            forms_work_Work_find_among_more(e, l16 + 8ull, l1, l4, l3);
+                            forms_work_Work_find_among_more(stack, l16 + 8ull, l1, l4, l3);
                             const u32 t16 = load32(l16 + 12u);
                             l8 = t16;
                             const u32 t17 = load8(l16 + 8u);
@@ -6425,7 +6430,7 @@ static void functions_form_parts_initial_part(struct engine *e, u64 l0, u64 l1, 
                             }
                         }
                         L18:;
-                        forms_work_Work_find_among_few(e, l16 + 16ull, l1, l4, l3);
+                        forms_work_Work_find_among_few(stack, l16 + 16ull, l1, l4, l3);
                         const u32 t25 = load32(l16 + 20u);
                         l8 = t25;
                         const u32 t26 = load8(l16 + 16u);
@@ -6446,10 +6451,10 @@ static void functions_form_parts_initial_part(struct engine *e, u64 l0, u64 l1, 
         L2:;
         store64(l16 + 72u, 0ull);
         store64(l16 + 64u, 0ull);
-        const u32 t27 = forms_work_Work_pointer(e, l1, l8);
+        const u32 t27 = forms_work_Work_pointer(stack, l1, l8);
         l10 = t27;
         if (l11 == l12) {
-            functions_form_parts_take_part(e, l16 + 72ull, l1, l8, l10, l10, l10);
+            functions_form_parts_take_part(stack, l16 + 72ull, l1, l8, l10, l10, l10);
             const u32 t29 = load8(l16 + 73u);
             l5 = t29;
             const u32 t30 = load8(l16 + 72u);
@@ -6551,7 +6556,7 @@ static void functions_form_parts_initial_part(struct engine *e, u64 l0, u64 l1, 
             const u32 t65 = load8(l2);
             l5 = (t65 == 4u) ? t64 : 0u;
         }
-        store_borders_lay_borders(e, l1, l12, l11);
+        store_borders_lay_borders(stack, l1, l12, l11);
         const u64 t66 = load64(l1);
         l2 = t66;
         l17 = (u64)l4;
@@ -6566,7 +6571,7 @@ static void functions_form_parts_initial_part(struct engine *e, u64 l0, u64 l1, 
         l22 = l17;
         l3 = 0u;
         {
-            if ((i64)(e->stack_pointer - e->stack) >= (i64)16ull) {
+            {
                 const u64 t70 = l16;
                 u32 v71;
                 {
@@ -6699,7 +6704,7 @@ static void functions_form_parts_initial_part(struct engine *e, u64 l0, u64 l1, 
             if (l17 != 0ull) goto L95;
         }
         if (l15 == 1u) {
-            functions_form_parts_take_part(e, l16 + 64ull, l1, l8, l10, l9, (l11 - l12) + l9);
+            functions_form_parts_take_part(stack, l16 + 64ull, l1, l8, l10, l9, (l11 - l12) + l9);
             const u32 t103 = load8(l16 + 65u);
             l5 = t103;
             const u32 t104 = load8(l16 + 64u);
@@ -6727,15 +6732,15 @@ static void functions_form_parts_initial_part(struct engine *e, u64 l0, u64 l1, 
                 l2 = t112;
                 {
                     if (l6 >= 4u) {
-                        core_slice_edits_slice_T_copy_from_slice(e, l2 + (l18 << 3), l2 + (l17 << 3), 4ull);
+                        core_slice_edits_slice_T_copy_from_slice(stack, l2 + (l18 << 3), l2 + (l17 << 3), 4ull);
                         l20 = l20 - 4ull;
-                        core_slice_edits_slice_T_copy_from_slice(e, l2 + ((l20 + l18) << 3), l2 + ((l17 + l20) << 3), 4ull);
+                        core_slice_edits_slice_T_copy_from_slice(stack, l2 + ((l20 + l18) << 3), l2 + ((l17 + l20) << 3), 4ull);
                         goto L113;
                     }
                     if (l6 >= 2u) {
-                        core_slice_edits_slice_T_copy_from_slice(e, l2 + (l18 << 3), l2 + (l17 << 3), 2ull);
+                        core_slice_edits_slice_T_copy_from_slice(stack, l2 + (l18 << 3), l2 + (l17 << 3), 2ull);
                         l20 = l20 - 2ull;
-                        core_slice_edits_slice_T_copy_from_slice(e, l2 + ((l20 + l18) << 3), l2 + ((l17 + l20) << 3), 2ull);
+                        core_slice_edits_slice_T_copy_from_slice(stack, l2 + ((l20 + l18) << 3), l2 + ((l17 + l20) << 3), 2ull);
                         goto L113;
                     }
                     if (l6 != 1u) goto L113;
@@ -6753,7 +6758,7 @@ static void functions_form_parts_initial_part(struct engine *e, u64 l0, u64 l1, 
             L107:;
             l5 = 0u;
             l3 = 0u;
-            const u32 t118 = forms_work_Work_load_other_part(e, l1, l13, l14);
+            const u32 t118 = forms_work_Work_load_other_part(stack, l1, l13, l14);
             if (t118 == 0) { v1 = 0u; goto L1; }
         }
         L106:;
@@ -6766,10 +6771,10 @@ static void functions_form_parts_initial_part(struct engine *e, u64 l0, u64 l1, 
     store8(l0, (u8)l3);
     store32(l0 + 4ull, l4);
     store8(l0 + 1ull, (u8)l5);
-    e->stack_pointer = l16 + 80ull;
+    stack = l16 + 80ull;
 }
 
-static void functions_form_parts_call_restore(struct engine *e, u64 l0, u64 l1, u64 l2) {
+static void functions_form_parts_call_restore(u64 stack, u64 l0, u64 l1, u64 l2) {
     u64 l3 = 0;
     u64 l4 = 0;
     u64 l5 = 0;
@@ -6778,17 +6783,17 @@ static void functions_form_parts_call_restore(struct engine *e, u64 l0, u64 l1, 
     u32 l8 = 0;
     u32 l9 = 0;
     u32 l10 = 0;
-    l3 = e->stack_pointer - 48ull;
-    e->stack_pointer = l3;
+    l3 = stack - 48ull;
+    stack = l3;
     {
         {
             {
-                if ((i64)(l3 - e->stack) >= (i64)16ull) {
+                {
                     const u64 t5 = load64(l2 + 8u);
                     store64(l3 + 40u, t5);
                     const u64 t6 = load64(l2);
                     store64(l3 + 32u, t6);
-                    functions_arguments_Arguments_next(e, l3 + 24ull, l3 + 32ull, l1);
+                    functions_arguments_Arguments_next(stack, l3 + 24ull, l3 + 32ull, l1);
                     const u32 t7 = load32(l3 + 28u);
                     l8 = t7;
                     const u32 t8 = load32(l3 + 24u);
@@ -6798,7 +6803,7 @@ static void functions_form_parts_call_restore(struct engine *e, u64 l0, u64 l1, 
                         const u32 t10 = load32(l1 + 40ull);
                         l10 = t10;
                         if (l10 >= 8u) {
-                            forms_work_Work_find_among_more(e, l3 + 8ull, l1, l9, l8);
+                            forms_work_Work_find_among_more(stack, l3 + 8ull, l1, l9, l8);
                             const u32 t12 = load8(l3 + 8u);
                             l8 = t12;
                             const u32 t13 = load32(l3 + 12u);
@@ -6830,7 +6835,7 @@ static void functions_form_parts_call_restore(struct engine *e, u64 l0, u64 l1, 
                             }
                         }
                         L14:;
-                        forms_work_Work_find_among_few(e, l3 + 16ull, l1, l9, l8);
+                        forms_work_Work_find_among_few(stack, l3 + 16ull, l1, l9, l8);
                         const u32 t21 = load8(l3 + 16u);
                         l8 = t21;
                         const u32 t22 = load32(l3 + 20u);
@@ -6848,15 +6853,15 @@ static void functions_form_parts_call_restore(struct engine *e, u64 l0, u64 l1, 
             l9 = 0u;
         }
         L2:;
-        forms_work_Work_set_pointer(e, l1, l9, 0u);
+        forms_work_Work_set_pointer(stack, l1, l9, 0u);
     }
     L1:;
     store16(l0, (u16)1u);
     store32(l0 + 4ull, 0u);
-    e->stack_pointer = l3 + 48ull;
+    stack = l3 + 48ull;
 }
 
-static void functions_form_calls_define_string(struct engine *e, u64 l0, u64 l1, u64 l2) {
+static void functions_form_calls_define_string(u64 stack, u64 l0, u64 l1, u64 l2) {
     u64 l3 = 0;
     u64 l4 = 0;
     u64 l5 = 0;
@@ -6890,8 +6895,8 @@ static void functions_form_calls_define_string(struct engine *e, u64 l0, u64 l1,
     u32 l33 = 0;
     u32 l34 = 0;
     u32 l35 = 0;
-    l3 = e->stack_pointer - 80ull;
-    e->stack_pointer = l3;
+    l3 = stack - 80ull;
+    stack = l3;
     const u64 t1 = l0;
     u32 v2;
     {
@@ -6905,17 +6910,16 @@ static void functions_form_calls_define_string(struct engine *e, u64 l0, u64 l1,
                                 {
                                     {
                                         l8 = l3;
-                                        if ((i64)(l8 - e->stack) < (i64)16ull) goto L10;
                                         const u64 t11 = load64(l2 + 8u);
                                         store64(l8 + 24u, t11);
                                         const u64 t12 = load64(l2);
                                         store64(l8 + 16u, t12);
-                                        functions_arguments_Arguments_next(e, l8 + 8ull, l8 + 16ull, l1);
+                                        functions_arguments_Arguments_next(stack, l8 + 8ull, l8 + 16ull, l1);
                                         const u32 t13 = load32(l8 + 12u);
                                         l25 = t13;
                                         const u32 t14 = load32(l8 + 8u);
                                         l27 = t14;
-                                        functions_arguments_Arguments_next(e, l8, l8 + 16ull, l1);
+                                        functions_arguments_Arguments_next(stack, l8, l8 + 16ull, l1);
                                         l13 = l1 + 52ull;
                                         const u32 t15 = load32(l8 + 4u);
                                         l29 = t15;
@@ -6927,7 +6931,7 @@ static void functions_form_calls_define_string(struct engine *e, u64 l0, u64 l1,
                                             if (l23 < 12u) goto L17;
                                             const u32 t19 = load32(l13);
                                             if (l23 >= (t19 >> 3)) goto L17;
-                                            store_index_index_worthwhile(e, l1, l23, l13);
+                                            store_index_index_worthwhile(stack, l1, l23, l13);
                                             const u32 t20 = load32(l1 + 40ull);
                                             l23 = t20;
                                         }
@@ -7096,7 +7100,7 @@ static void functions_form_calls_define_string(struct engine *e, u64 l0, u64 l1,
                                                 store32(l13, (l21 > l24) ? 4294967295u : l24);
                                                 goto L4;
                                             }
-                                            store_form_cells_find_some(e, l8 + 48ull, l4, l21, l22, l23, l11, l6);
+                                            store_form_cells_find_some(stack, l8 + 48ull, l4, l21, l22, l23, l11, l6);
                                             const u32 t61 = load8(l8 + 48u);
                                             if (t61 == 1u) {
                                                 const u64 t63 = load64(l8 + 52u);
@@ -7113,7 +7117,7 @@ static void functions_form_calls_define_string(struct engine *e, u64 l0, u64 l1,
                                                 l22 = 1u;
                                                 goto L4;
                                             }
-                                            store_form_cells_find_some(e, l8 + 64ull, l4, 0u, 0u, l21, l11, l6);
+                                            store_form_cells_find_some(stack, l8 + 64ull, l4, 0u, 0u, l21, l11, l6);
                                             const u32 t66 = load32(l8 + 68u);
                                             const u32 t67 = load8(l8 + 64u);
                                             l22 = t67;
@@ -7212,7 +7216,7 @@ static void functions_form_calls_define_string(struct engine *e, u64 l0, u64 l1,
                                     }
                                     goto L6;
                                 }
-                                store_form_cells_find_round(e, l8 + 32ull, l4, l21, l22, l23, l11, l6);
+                                store_form_cells_find_round(stack, l8 + 32ull, l4, l21, l22, l23, l11, l6);
                                 const u32 t90 = load8(l8 + 32u);
                                 v5 = t90; goto L5;
                             }
@@ -7405,7 +7409,7 @@ static void functions_form_calls_define_string(struct engine *e, u64 l0, u64 l1,
             } else {
                 v135 = 0u;
             }
-            space_space_Space_write_part(e, t134, (v135 + l31) + 3u, l30, l29);
+            space_space_Space_write_part(stack, t134, (v135 + l31) + 3u, l30, l29);
             const u64 t138 = load64(l1);
             l3 = t138 + ((u64)l28 << 3);
             store16(l3, (u16)4u);
@@ -7428,7 +7432,7 @@ static void functions_form_calls_define_string(struct engine *e, u64 l0, u64 l1,
         l35 = l28 + t142;
         if (l22 > (t140 - l35)) { v2 = 0u; goto L2; }
         if (l32 == 0) {
-            forms_work_Work_remove(e, l1, l33, l31);
+            forms_work_Work_remove(stack, l1, l33, l31);
             const u32 t144 = load32(l1 + 16ull);
             l26 = t144;
             const u32 t145 = load32(l1 + 20ull);
@@ -7441,7 +7445,7 @@ static void functions_form_calls_define_string(struct engine *e, u64 l0, u64 l1,
         l24 = l26;
         const u32 t148 = load32(l1 + 28ull);
         if (l22 > (t148 - l35)) {
-            space_space_Space_move_active(e, l1, 0u);
+            space_space_Space_move_active(stack, l1, 0u);
             const u32 t150 = load32(l1 + 16ull);
             l24 = t150;
             const u32 t151 = load32(l1 + 20ull);
@@ -7576,7 +7580,7 @@ static void functions_form_calls_define_string(struct engine *e, u64 l0, u64 l1,
                 goto L153;
             }
             L154:;
-            space_copies_copy_long(e, l10, l14, l3, l11);
+            space_copies_copy_long(stack, l10, l14, l3, l11);
         }
         L153:;
         l2 = l1 + 16ull;
@@ -7595,8 +7599,8 @@ static void functions_form_calls_define_string(struct engine *e, u64 l0, u64 l1,
         store16(l2, (u16)4u);
         store32(l2 + 4ull, 0u);
         l21 = l24 + 3u;
-        space_space_Space_write_part(e, l1, l21, l27, l25);
-        space_space_Space_write_part(e, l1, l21 + l34, l30, l29);
+        space_space_Space_write_part(stack, l1, l21, l27, l25);
+        space_space_Space_write_part(stack, l1, l21 + l34, l30, l29);
         {
             const u64 t193 = load64(l1 + 8ull);
             l9 = t193;
@@ -7608,13 +7612,13 @@ static void functions_form_calls_define_string(struct engine *e, u64 l0, u64 l1,
                 if (l21 == l25) goto L192;
                 l24 = l23 + 1u;
                 {
-                    l2 = e->stack_pointer;
-                    if ((i64)(l2 - e->stack) >= (i64)16ull) {
-                        const u32 t198 = store_index_index_fitting(e, l1, l24);
+                    l2 = stack;
+                    {
+                        const u32 t198 = store_index_index_fitting(stack, l1, l24);
                         if (t198 == 0) {
-                            space_space_Space_move_active(e, l1, 0u);
+                            space_space_Space_move_active(stack, l1, 0u);
                         }
-                        e->stack_pointer = l2;
+                        stack = l2;
                         goto L196;
                     }
                     trap();
@@ -7710,7 +7714,7 @@ static void functions_form_calls_define_string(struct engine *e, u64 l0, u64 l1,
                 goto L192;
             }
             L213:;
-            space_space_Space_move_active(e, l1, 0u);
+            space_space_Space_move_active(stack, l1, 0u);
         }
         L192:;
         store32(l1 + 48ull, l26);
@@ -7725,10 +7729,10 @@ static void functions_form_calls_define_string(struct engine *e, u64 l0, u64 l1,
     store8(t1, (u8)v2);
     store32(l0 + 4ull, l24);
     store8(l0 + 1ull, (u8)0u);
-    e->stack_pointer = l8 + 80ull;
+    stack = l8 + 80ull;
 }
 
-static void functions_form_calls_segment_string(struct engine *e, u64 l0, u64 l1, u64 l2) {
+static void functions_form_calls_segment_string(u64 stack, u64 l0, u64 l1, u64 l2) {
     u64 l3 = 0;
     u64 l4 = 0;
     u64 l5 = 0;
@@ -7758,18 +7762,18 @@ static void functions_form_calls_segment_string(struct engine *e, u64 l0, u64 l1
     u32 l29 = 0;
     u32 l30 = 0;
     u32 l31 = 0;
-    l3 = e->stack_pointer - 48ull;
-    e->stack_pointer = l3;
+    l3 = stack - 48ull;
+    stack = l3;
     {
         {
             {
                 l7 = l3;
-                if ((i64)(l7 - e->stack) >= (i64)16ull) {
+                {
                     const u64 t5 = load64(l2 + 8u);
                     store64(l7 + 40u, t5);
                     const u64 t6 = load64(l2);
                     store64(l7 + 32u, t6);
-                    functions_arguments_Arguments_next(e, l7 + 24ull, l7 + 32ull, l1);
+                    functions_arguments_Arguments_next(stack, l7 + 24ull, l7 + 32ull, l1);
                     const u32 t7 = load32(l7 + 28u);
                     l15 = t7;
                     const u32 t8 = load32(l7 + 24u);
@@ -7779,7 +7783,7 @@ static void functions_form_calls_segment_string(struct engine *e, u64 l0, u64 l1
                         const u32 t10 = load32(l1 + 40ull);
                         l17 = t10;
                         if (l17 >= 8u) {
-                            forms_work_Work_find_among_more(e, l7 + 8ull, l1, l16, l15);
+                            forms_work_Work_find_among_more(stack, l7 + 8ull, l1, l16, l15);
                             const u32 t12 = load32(l7 + 12u);
                             l21 = t12;
                             const u32 t13 = load8(l7 + 8u);
@@ -7811,7 +7815,7 @@ static void functions_form_calls_segment_string(struct engine *e, u64 l0, u64 l1
                             }
                         }
                         L14:;
-                        forms_work_Work_find_among_few(e, l7 + 16ull, l1, l16, l15);
+                        forms_work_Work_find_among_few(stack, l7 + 16ull, l1, l16, l15);
                         const u32 t21 = load32(l7 + 20u);
                         l21 = t21;
                         const u32 t22 = load8(l7 + 16u);
@@ -7829,14 +7833,14 @@ static void functions_form_calls_segment_string(struct engine *e, u64 l0, u64 l1
             store64(l1 + 44ull, 0ull);
         }
         L2:;
-        forms_work_Work_set_pointer(e, l1, l21, 0u);
+        forms_work_Work_set_pointer(stack, l1, l21, 0u);
         const u32 t23 = load32(l7 + 36u);
         const u32 t24 = load32(l7 + 32u);
         if (t23 >= t24) {
             l30 = l21 + 1u;
             L26:;
             {
-                functions_arguments_Arguments_next(e, l7, l7 + 32ull, l1);
+                functions_arguments_Arguments_next(stack, l7, l7 + 32ull, l1);
                 const u32 t27 = load32(l1 + 48ull);
                 l22 = t27;
                 const u32 t28 = load32(l7 + 4u);
@@ -8014,7 +8018,7 @@ static void functions_form_calls_segment_string(struct engine *e, u64 l0, u64 l1
                 l27 = v80 + l23;
                 l19 = l27;
                 if (l26 != l28) {
-                    store_borders_lay_borders(e, l1, l26, l28);
+                    store_borders_lay_borders(stack, l1, l26, l28);
                     const u64 t85 = load64(l1);
                     l5 = t85;
                     {
@@ -8205,7 +8209,7 @@ static void functions_form_calls_segment_string(struct engine *e, u64 l0, u64 l1
                                     store32(l3 + 4ull, t135);
                                     goto L111;
                                 }
-                                space_copies_copy_long(e, l5, l8, l2, l11);
+                                space_copies_copy_long(stack, l5, l8, l2, l11);
                             }
                             L111:;
                             const u64 t136 = load64(l1);
@@ -8322,11 +8326,11 @@ static void functions_form_calls_segment_string(struct engine *e, u64 l0, u64 l1
                             store32(l3 + 4ull, t163);
                             goto L139;
                         }
-                        space_copies_copy_long(e, l5, l8, l13, l12);
+                        space_copies_copy_long(stack, l5, l8, l13, l12);
                     }
                     L139:;
                     l19 = (l27 - l24) + l25;
-                    space_space_Space_remove_store(e, l1, l19, l27);
+                    space_space_Space_remove_store(stack, l1, l19, l27);
                     const u32 t164 = load32(l1 + 16ull);
                     l15 = t164;
                     l2 = (u64)(l15 + l26);
@@ -8423,10 +8427,10 @@ static void functions_form_calls_segment_string(struct engine *e, u64 l0, u64 l1
         store32(l0 + 4ull, 0u);
     }
     L1:;
-    e->stack_pointer = l7 + 48ull;
+    stack = l7 + 48ull;
 }
 
-static void functions_form_calls_delete_definition(struct engine *e, u64 l0, u64 l1, u64 l2) {
+static void functions_form_calls_delete_definition(u64 stack, u64 l0, u64 l1, u64 l2) {
     u64 l3 = 0;
     u64 l4 = 0;
     u64 l5 = 0;
@@ -8462,13 +8466,12 @@ static void functions_form_calls_delete_definition(struct engine *e, u64 l0, u64
     u32 l35 = 0;
     u32 l36 = 0;
     u32 l37 = 0;
-    l3 = e->stack_pointer - 112ull;
-    e->stack_pointer = l3;
+    l3 = stack - 112ull;
+    stack = l3;
     {
         {
             {
                 l6 = l3;
-                if ((i64)(l6 - e->stack) < (i64)16ull) goto L3;
                 const u64 t4 = load64(l2);
                 l3 = t4;
                 store64(l6 + 48u, l3);
@@ -8476,7 +8479,7 @@ static void functions_form_calls_delete_definition(struct engine *e, u64 l0, u64
                 store64(l6 + 56u, t5);
                 const u32 t6 = load32(l6 + 52u);
                 if (t6 < (u32)l3) goto L2;
-                functions_arguments_Arguments_next(e, l6 + 40ull, l6 + 48ull, l1);
+                functions_arguments_Arguments_next(stack, l6 + 40ull, l6 + 48ull, l1);
                 const u32 t7 = load32(l6 + 44u);
                 l25 = t7;
                 const u32 t8 = load32(l6 + 40u);
@@ -8490,7 +8493,7 @@ static void functions_form_calls_delete_definition(struct engine *e, u64 l0, u64
                                     const u32 t14 = load32(l1 + 40ull);
                                     l26 = t14;
                                     if (l26 >= 8u) {
-                                        forms_work_Work_find_among_more(e, l6 + 24ull, l1, l24, l25);
+                                        forms_work_Work_find_among_more(stack, l6 + 24ull, l1, l24, l25);
                                         const u32 t16 = load32(l6 + 28u);
                                         l27 = t16;
                                         const u32 t17 = load8(l6 + 24u);
@@ -8522,7 +8525,7 @@ static void functions_form_calls_delete_definition(struct engine *e, u64 l0, u64
                                         }
                                     }
                                     L18:;
-                                    forms_work_Work_find_among_few(e, l6 + 32ull, l1, l24, l25);
+                                    forms_work_Work_find_among_few(stack, l6 + 32ull, l1, l24, l25);
                                     const u32 t25 = load32(l6 + 36u);
                                     l27 = t25;
                                     const u32 t26 = load8(l6 + 32u);
@@ -8607,13 +8610,13 @@ static void functions_form_calls_delete_definition(struct engine *e, u64 l0, u64
                         l25 = 0u;
                     }
                     L10:;
-                    forms_work_Work_remove(e, l1, l27, l25);
+                    forms_work_Work_remove(stack, l1, l27, l25);
                 }
                 L9:;
                 const u32 t50 = load32(l6 + 52u);
                 const u32 t51 = load32(l6 + 48u);
                 if (t50 < t51) goto L2;
-                functions_arguments_Arguments_next(e, l6 + 16ull, l6 + 48ull, l1);
+                functions_arguments_Arguments_next(stack, l6 + 16ull, l6 + 48ull, l1);
                 const u32 t52 = load32(l6 + 20u);
                 l25 = t52;
                 const u32 t53 = load32(l6 + 16u);
@@ -8653,13 +8656,13 @@ static void functions_form_calls_delete_definition(struct engine *e, u64 l0, u64
                                             }
                                         }
                                         L61:;
-                                        forms_work_Work_find_among_few(e, l6 + 8ull, l1, l24, l25);
+                                        forms_work_Work_find_among_few(stack, l6 + 8ull, l1, l24, l25);
                                         const u32 t68 = load32(l6 + 12u);
                                         l27 = t68;
                                         const u32 t69 = load8(l6 + 8u);
                                         v58 = t69; goto L58;
                                     }
-                                    forms_work_Work_find_among_more(e, l6, l1, l24, l25);
+                                    forms_work_Work_find_among_more(stack, l6, l1, l24, l25);
                                     const u32 t70 = load32(l6 + 4u);
                                     l27 = t70;
                                     const u32 t71 = load8(l6);
@@ -8744,7 +8747,7 @@ static void functions_form_calls_delete_definition(struct engine *e, u64 l0, u64
                         l25 = 0u;
                     }
                     L55:;
-                    forms_work_Work_remove(e, l1, l27, l25);
+                    forms_work_Work_remove(stack, l1, l27, l25);
                 }
                 L54:;
                 const u32 t95 = load32(l6 + 52u);
@@ -8810,7 +8813,7 @@ static void functions_form_calls_delete_definition(struct engine *e, u64 l0, u64
                                 if (t115 == 2u) { v105 = 2u; goto L105; }
                                 const u32 t116 = load8(l3 + 24u);
                                 if (t116 == 2u) { v105 = 3u; goto L105; }
-                                const u32 t117 = store_arguments_before_far_comma(e, l3, l5);
+                                const u32 t117 = store_arguments_before_far_comma(stack, l3, l5);
                                 v105 = t117; goto L105;
                             }
                             L106:;
@@ -8823,7 +8826,7 @@ static void functions_form_calls_delete_definition(struct engine *e, u64 l0, u64
                             if (l27) goto L118;
                             const u32 t119 = load32(l12);
                             if (l25 >= (t119 >> 3)) goto L118;
-                            store_index_index_worthwhile(e, l1, l25, l12);
+                            store_index_index_worthwhile(stack, l1, l25, l12);
                             const u32 t120 = load32(l1 + 16ull);
                             l26 = t120;
                             l2 = (u64)(l26 + l24);
@@ -8997,7 +9000,7 @@ static void functions_form_calls_delete_definition(struct engine *e, u64 l0, u64
                                                             store32(l12, (l26 > l27) ? 4294967295u : l27);
                                                             goto L126;
                                                         }
-                                                        store_form_cells_find_some(e, l6 + 80ull, l4, l30, l32, l25, l13, l9);
+                                                        store_form_cells_find_some(stack, l6 + 80ull, l4, l30, l32, l25, l13, l9);
                                                         const u32 t165 = load8(l6 + 80u);
                                                         if (t165 == 1u) {
                                                             const u64 t167 = load64(l6 + 84u);
@@ -9014,7 +9017,7 @@ static void functions_form_calls_delete_definition(struct engine *e, u64 l0, u64
                                                             l24 = 1u;
                                                             goto L126;
                                                         }
-                                                        store_form_cells_find_some(e, l6 + 96ull, l4, 0u, 0u, l30, l13, l9);
+                                                        store_form_cells_find_some(stack, l6 + 96ull, l4, 0u, 0u, l30, l13, l9);
                                                         const u32 t170 = load32(l6 + 100u);
                                                         const u32 t171 = load8(l6 + 96u);
                                                         l24 = t171;
@@ -9110,7 +9113,7 @@ static void functions_form_calls_delete_definition(struct engine *e, u64 l0, u64
                                                 }
                                                 v124 = l31; goto L124;
                                             }
-                                            store_form_cells_find_round(e, l6 + 64ull, l4, l30, l32, l25, l13, l9);
+                                            store_form_cells_find_round(stack, l6 + 64ull, l4, l30, l32, l25, l13, l9);
                                             const u32 t194 = load8(l6 + 64u);
                                             l24 = t194;
                                             const u64 t195 = load64(l6 + 68u);
@@ -9431,7 +9434,7 @@ static void functions_form_calls_delete_definition(struct engine *e, u64 l0, u64
                                             store32(l2 + 4ull, t281);
                                             goto L257;
                                         }
-                                        space_copies_copy_long(e, l4, l12, l3, l10);
+                                        space_copies_copy_long(stack, l4, l12, l3, l10);
                                     }
                                     L257:;
                                     l29 = (l29 - l28) + l25;
@@ -9446,8 +9449,8 @@ static void functions_form_calls_delete_definition(struct engine *e, u64 l0, u64
                             if (l26 != l32) goto L246;
                         }
                     }
-                    space_space_Space_remove_store(e, l1, l29, l28);
-                    store_index_index_from(e, l1, l27, l31, l30);
+                    space_space_Space_remove_store(stack, l1, l29, l28);
+                    store_index_index_from(stack, l1, l27, l31, l30);
                     store64(l1 + 44ull, 0ull);
                     store32(l1 + 40ull, l30);
                 }
@@ -9463,10 +9466,10 @@ static void functions_form_calls_delete_definition(struct engine *e, u64 l0, u64
         store32(l0 + 4ull, 0u);
     }
     L1:;
-    e->stack_pointer = l6 + 112ull;
+    stack = l6 + 112ull;
 }
 
-static void functions_form_calls_delete_all(struct engine *e, u64 l0, u64 l1) {
+static void functions_form_calls_delete_all(u64 stack, u64 l0, u64 l1) {
     u64 l2 = 0;
     u64 l3 = 0;
     u64 l4 = 0;
@@ -9477,10 +9480,10 @@ static void functions_form_calls_delete_all(struct engine *e, u64 l0, u64 l1) {
     u64 l9 = 0;
     u64 l10 = 0;
     u32 l11 = 0;
-    l9 = e->stack_pointer;
-    if ((i64)(l9 - e->stack) >= (i64)16ull) {
+    l9 = stack;
+    {
         const u32 t2 = load32(l1 + 16ull);
-        space_space_Space_remove_store(e, l1, 0u, t2);
+        space_space_Space_remove_store(stack, l1, 0u, t2);
         {
             const u32 t4 = load32(l1 + 40ull);
             const u64 t5 = load64(l1 + 8ull);
@@ -9488,7 +9491,7 @@ static void functions_form_calls_delete_all(struct engine *e, u64 l0, u64 l1) {
             const u32 t6 = load32(l1 + 28ull);
             l11 = t6;
             if (t4 < (((u32)l2 - l11) >> 5)) {
-                space_space_Space_move_active(e, l1, 0u);
+                space_space_Space_move_active(stack, l1, 0u);
                 goto L3;
             }
             l3 = (u64)l11;
@@ -9556,13 +9559,13 @@ static void functions_form_calls_delete_all(struct engine *e, u64 l0, u64 l1) {
         store64(l1 + 40ull, 0ull);
         store32(l0 + 4ull, 0u);
         store16(l0, (u16)1u);
-        e->stack_pointer = l9;
+        stack = l9;
         return;
     }
     trap();
 }
 
-static void functions_form_calls_list_names(struct engine *e, u64 l0, u64 l1, u64 l2) {
+static void functions_form_calls_list_names(u64 stack, u64 l0, u64 l1, u64 l2) {
     u32 l3 = 0;
     u32 l4 = 0;
     u32 l5 = 0;
@@ -9574,15 +9577,15 @@ static void functions_form_calls_list_names(struct engine *e, u64 l0, u64 l1, u6
     u32 l11 = 0;
     u32 l12 = 0;
     u64 l13 = 0;
-    l13 = e->stack_pointer - 32ull;
-    e->stack_pointer = l13;
+    l13 = stack - 32ull;
+    stack = l13;
     {
-        if ((i64)(l13 - e->stack) >= (i64)16ull) {
+        {
             const u64 t3 = load64(l2 + 8u);
             store64(l13 + 24u, t3);
             const u64 t4 = load64(l2);
             store64(l13 + 16u, t4);
-            functions_arguments_Arguments_next(e, l13 + 8ull, l13 + 16ull, l1);
+            functions_arguments_Arguments_next(stack, l13 + 8ull, l13 + 16ull, l1);
             const u32 t5 = load32(l1 + 40ull);
             l10 = t5;
             if (l10) {
@@ -9592,13 +9595,13 @@ static void functions_form_calls_list_names(struct engine *e, u64 l0, u64 l1, u6
                 l12 = t8;
                 L9:;
                 {
-                    forms_work_Work_form(e, l13, l1, l8);
+                    forms_work_Work_form(stack, l13, l1, l8);
                     {
                         const u32 t11 = load8(l13);
                         if (t11 != 1u) goto L10;
                         const u32 t12 = load32(l13 + 4u);
                         l4 = t12;
-                        const u32 t13 = functions_arguments_put_part(e, l1, l12, l11);
+                        const u32 t13 = functions_arguments_put_part(stack, l1, l12, l11);
                         if (t13) {
                             const u32 t15 = load32(l1 + 48ull);
                             l3 = t15;
@@ -9683,7 +9686,7 @@ static void functions_form_calls_list_names(struct engine *e, u64 l0, u64 l1, u6
                                 l4 = (t44 == 4u) ? t43 : 0u;
                             }
                             l3 = l3 + 3u;
-                            const u32 t45 = space_space_Space_copy_store(e, l1, l3, l3 + l4);
+                            const u32 t45 = space_space_Space_copy_store(stack, l1, l3, l3 + l4);
                             if (t45) goto L10;
                         }
                         store16(l0, (u16)0u);
@@ -9702,17 +9705,18 @@ static void functions_form_calls_list_names(struct engine *e, u64 l0, u64 l1, u6
         trap();
     }
     L1:;
-    e->stack_pointer = l13 + 32ull;
+    stack = l13 + 32ull;
 }
 
-static void core_slice_edits_slice_T_copy_from_slice(struct engine *e, u64 l0, u64 l1, u64 l2) {
+static void core_slice_edits_slice_T_copy_from_slice(u64 stack, u64 l0, u64 l1, u64 l2) {
     u64 l3 = 0;
     u64 l4 = 0;
     u64 l5 = 0;
     u64 l6 = 0;
     u64 l7 = 0;
     u32 l8 = 0;
-    if ((i64)(e->stack_pointer - e->stack) >= (i64)16ull) {
+    (void)stack;
+    {
         {
             l3 = l2 << 3;
             if (l3 > (l0 - l1)) {
@@ -9760,7 +9764,7 @@ static void core_slice_edits_slice_T_copy_from_slice(struct engine *e, u64 l0, u
     trap();
 }
 
-static void store_item_copies_load_items_over_spare(struct engine *e, u64 l0, u64 l1, u32 l2, u32 l3) {
+static void store_item_copies_load_items_over_spare(u64 stack, u64 l0, u64 l1, u32 l2, u32 l3) {
     u64 l4 = 0;
     u64 l5 = 0;
     u64 l6 = 0;
@@ -9783,8 +9787,8 @@ static void store_item_copies_load_items_over_spare(struct engine *e, u64 l0, u6
     u32 l23 = 0;
     u32 l24 = 0;
     u32 l25 = 0;
-    l14 = e->stack_pointer;
-    if ((i64)(l14 - e->stack) >= (i64)16ull) {
+    l14 = stack;
+    {
         l9 = (u64)l2;
         const u64 t2 = load64(l1);
         l8 = t2;
@@ -9863,7 +9867,7 @@ static void store_item_copies_load_items_over_spare(struct engine *e, u64 l0, u6
             l3 = t26;
             u32 v27;
             if (l2 > (l3 - l25)) {
-                space_space_Space_move_active(e, l1, 0u);
+                space_space_Space_move_active(stack, l1, 0u);
                 const u32 t28 = load32(l1 + 24ull);
                 l24 = t28;
                 const u64 t29 = load64(l1);
@@ -9877,7 +9881,7 @@ static void store_item_copies_load_items_over_spare(struct engine *e, u64 l0, u6
             l12 = (u64)(v27 - l23);
             {
                 if (l2 >= 25u) {
-                    space_copies_copy_long(e, l8, l9, l9 + l10, l12);
+                    space_copies_copy_long(stack, l8, l9, l9 + l10, l12);
                     goto L31;
                 }
                 if (l2 >= 8u) {
@@ -10101,9 +10105,9 @@ static void store_item_copies_load_items_over_spare(struct engine *e, u64 l0, u6
                     goto L31;
                 }
                 if (l2 >= 2u) {
-                    core_slice_edits_slice_T_copy_from_slice(e, l8 + (l12 << 3), l8 + (l9 << 3), 2ull);
+                    core_slice_edits_slice_T_copy_from_slice(stack, l8 + (l12 << 3), l8 + (l9 << 3), 2ull);
                     l4 = l10 - 2ull;
-                    core_slice_edits_slice_T_copy_from_slice(e, l8 + ((l4 + l12) << 3), l8 + ((l4 + l9) << 3), 2ull);
+                    core_slice_edits_slice_T_copy_from_slice(stack, l8 + ((l4 + l12) << 3), l8 + ((l4 + l9) << 3), 2ull);
                     goto L31;
                 }
                 if (l2 != 1u) goto L31;
@@ -10122,13 +10126,13 @@ static void store_item_copies_load_items_over_spare(struct engine *e, u64 l0, u6
         L4:;
         store32(t3 + 4u, v4);
         store8(l0, (u8)l23);
-        e->stack_pointer = l14;
+        stack = l14;
         return;
     }
     trap();
 }
 
-static u32 forms_work_Work_fill_other(struct engine *e, u64 l0, u32 l1, u32 l2, u32 l3) {
+static u32 forms_work_Work_fill_other(u64 stack, u64 l0, u32 l1, u32 l2, u32 l3) {
     u32 l4 = 0;
     u32 l5 = 0;
     u32 l6 = 0;
@@ -10136,8 +10140,8 @@ static u32 forms_work_Work_fill_other(struct engine *e, u64 l0, u32 l1, u32 l2, 
     u32 l8 = 0;
     u64 l9 = 0;
     u64 l10 = 0;
-    l10 = e->stack_pointer;
-    if ((i64)(l10 - e->stack) >= (i64)16ull) {
+    l10 = stack;
+    {
         const u32 t2 = load32(l0 + 48ull);
         l4 = t2;
         {
@@ -10216,16 +10220,16 @@ static u32 forms_work_Work_fill_other(struct engine *e, u64 l0, u32 l1, u32 l2, 
         const u32 t29 = load32(l9 + 4ull);
         l4 = (l4 + t29) + 3u;
         const u32 t30 = load32(l9 + 12ull);
-        const u32 t31 = store_item_copies_fill_items(e, l0, t28 + l4, l4 + t30, l2, l3);
+        const u32 t31 = store_item_copies_fill_items(stack, l0, t28 + l4, l4 + t30, l2, l3);
         l4 = t31;
-        e->stack_pointer = l10;
+        stack = l10;
         return l4;
     }
     trap();
     return 0;
 }
 
-static u32 store_item_copies_fill_items(struct engine *e, u64 l0, u32 l1, u32 l2, u32 l3, u32 l4) {
+static u32 store_item_copies_fill_items(u64 stack, u64 l0, u32 l1, u32 l2, u32 l3, u32 l4) {
     u64 l5 = 0;
     u64 l6 = 0;
     u64 l7 = 0;
@@ -10265,14 +10269,14 @@ static u32 store_item_copies_fill_items(struct engine *e, u64 l0, u32 l1, u32 l2
     u32 l41 = 0;
     u32 l42 = 0;
     u32 l43 = 0;
-    l5 = e->stack_pointer - 64ull;
-    e->stack_pointer = l5;
+    l5 = stack - 64ull;
+    stack = l5;
     {
         {
             {
                 {
                     l21 = l5;
-                    if ((i64)(l21 - e->stack) >= (i64)16ull) {
+                    {
                         l38 = 1u;
                         if (l1 == l2) goto L1;
                         l11 = (u64)l1;
@@ -10349,7 +10353,7 @@ static u32 store_item_copies_fill_items(struct engine *e, u64 l0, u32 l1, u32 l2
                         if (t11 == (t12 + (u32)v13)) {
                             l3 = l43 - (l41 + l42);
                             if (l37 > ((l3 < 64u) ? l3 : 64u)) {
-                                const u32 t31 = space_space_Space_copy_store(e, l0, l1, l2);
+                                const u32 t31 = space_space_Space_copy_store(stack, l0, l1, l2);
                                 l38 = t31;
                                 goto L1;
                             }
@@ -10570,9 +10574,9 @@ static u32 store_item_copies_fill_items(struct engine *e, u64 l0, u32 l1, u32 l2
                                     goto L32;
                                 }
                                 if (l37 >= 2u) {
-                                    core_slice_edits_slice_T_copy_from_slice(e, l7 + ((l11 + l19) << 3), l7 + (l11 << 3), 2ull);
+                                    core_slice_edits_slice_T_copy_from_slice(stack, l7 + ((l11 + l19) << 3), l7 + (l11 << 3), 2ull);
                                     l5 = (l11 + l17) - 2ull;
-                                    core_slice_edits_slice_T_copy_from_slice(e, l7 + ((l5 + l19) << 3), l7 + (l5 << 3), 2ull);
+                                    core_slice_edits_slice_T_copy_from_slice(stack, l7 + ((l5 + l19) << 3), l7 + (l5 << 3), 2ull);
                                     goto L32;
                                 }
                                 if (l37 != 1u) goto L32;
@@ -11387,7 +11391,7 @@ static u32 store_item_copies_fill_items(struct engine *e, u64 l0, u32 l1, u32 l2
                                 }
                             }
                             L132:;
-                            space_filling_fill_each(e, l21 + 24ull, l7, l8, l24, l10, l19, l21 + 40ull);
+                            space_filling_fill_each(stack, l21 + 24ull, l7, l8, l24, l10, l19, l21 + 40ull);
                             const u32 t382 = load8(l21 + 24u);
                             if (t382 != 1u) goto L131;
                             const u64 t383 = load64(l21 + 32u);
@@ -11396,7 +11400,7 @@ static u32 store_item_copies_fill_items(struct engine *e, u64 l0, u32 l1, u32 l2
                         }
                         L131:;
                         l38 = 0u;
-                        space_space_Space_move_active(e, l0, 0u);
+                        space_space_Space_move_active(stack, l0, 0u);
                         const u32 t384 = load32(l0 + 24ull);
                         l3 = t384;
                         const u32 t385 = load32(l0 + 28ull);
@@ -11756,9 +11760,9 @@ static u32 store_item_copies_fill_items(struct engine *e, u64 l0, u32 l1, u32 l2
                                                     l11 = 0ull;
                                                     goto L412;
                                                 }
-                                                core_slice_edits_slice_T_copy_from_slice(e, l7 + ((l9 + l13) << 3), l7 + (l9 << 3), 2ull);
+                                                core_slice_edits_slice_T_copy_from_slice(stack, l7 + ((l9 + l13) << 3), l7 + (l9 << 3), 2ull);
                                                 l5 = l15 + l31;
-                                                core_slice_edits_slice_T_copy_from_slice(e, l7 + ((l5 + l13) << 3), l7 + (l5 << 3), 2ull);
+                                                core_slice_edits_slice_T_copy_from_slice(stack, l7 + ((l5 + l13) << 3), l7 + (l5 << 3), 2ull);
                                                 l11 = l12;
                                                 goto L412;
                                             }
@@ -12023,9 +12027,9 @@ static u32 store_item_copies_fill_items(struct engine *e, u64 l0, u32 l1, u32 l2
                                                     goto L517;
                                                 }
                                                 if (l12 == 0) { v413 = 0ull; goto L413; }
-                                                core_slice_edits_slice_T_copy_from_slice(e, l7 + ((l9 + l13) << 3), l7 + (l9 << 3), 2ull);
+                                                core_slice_edits_slice_T_copy_from_slice(stack, l7 + ((l9 + l13) << 3), l7 + (l9 << 3), 2ull);
                                                 l5 = l15 + l31;
-                                                core_slice_edits_slice_T_copy_from_slice(e, l7 + ((l5 + l13) << 3), l7 + (l5 << 3), 2ull);
+                                                core_slice_edits_slice_T_copy_from_slice(stack, l7 + ((l5 + l13) << 3), l7 + (l5 << 3), 2ull);
                                             }
                                             L517:;
                                             v413 = l12;
@@ -12084,7 +12088,7 @@ static u32 store_item_copies_fill_items(struct engine *e, u64 l0, u32 l1, u32 l2
                             }
                         }
                         L389:;
-                        space_filling_fill_each(e, l21 + 8ull, l7, l11, l24, l10, l20, l21 + 40ull);
+                        space_filling_fill_each(stack, l21 + 8ull, l7, l11, l24, l10, l20, l21 + 40ull);
                         const u32 t608 = load8(l21 + 8u);
                         if (t608 != 1u) goto L2;
                         const u64 t609 = load64(l21 + 16u);
@@ -12151,11 +12155,11 @@ static u32 store_item_copies_fill_items(struct engine *e, u64 l0, u32 l1, u32 l2
         }
     }
     L1:;
-    e->stack_pointer = l21 + 64ull;
+    stack = l21 + 64ull;
     return l38;
 }
 
-static void space_copies_copy_long(struct engine *e, u64 l0, u64 l1, u64 l2, u64 l3) {
+static void space_copies_copy_long(u64 stack, u64 l0, u64 l1, u64 l2, u64 l3) {
     u64 l4 = 0;
     u64 l5 = 0;
     u64 l6 = 0;
@@ -12171,8 +12175,8 @@ static void space_copies_copy_long(struct engine *e, u64 l0, u64 l1, u64 l2, u64
     u64 l16 = 0;
     u64 l17 = 0;
     u32 l18 = 0;
-    l14 = e->stack_pointer;
-    if ((i64)(l14 - e->stack) >= (i64)16ull) {
+    l14 = stack;
+    {
         l5 = l2 - l1;
         {
             if (l2 <= l3) {
@@ -12211,16 +12215,16 @@ static void space_copies_copy_long(struct engine *e, u64 l0, u64 l1, u64 l2, u64
                         store16(l1, (u16)t12);
                         const u32 t13 = load32(l0 + 4ull);
                         store32(l1 + 4ull, t13);
-                        e->stack_pointer = l14;
+                        stack = l14;
                         return;
                     }
                     if (l3 == 0) goto L2;
                     memmove(at(l6), at(l7), (size_t)l3);
-                    e->stack_pointer = l14;
+                    stack = l14;
                     return;
                 }
-                space_copies_copy_parts(e, l7, l5, l6);
-                e->stack_pointer = l14;
+                space_copies_copy_parts(stack, l7, l5, l6);
+                stack = l14;
                 return;
             }
             l10 = l3 + l5;
@@ -12260,16 +12264,16 @@ static void space_copies_copy_long(struct engine *e, u64 l0, u64 l1, u64 l2, u64
                         store16(l1, (u16)t23);
                         const u32 t24 = load32(l0 + 4ull);
                         store32(l1 + 4ull, t24);
-                        e->stack_pointer = l14;
+                        stack = l14;
                         return;
                     }
                     if (l3 == 0) goto L2;
                     memmove(at(l7), at(l6), (size_t)l3);
-                    e->stack_pointer = l14;
+                    stack = l14;
                     return;
                 }
-                space_copies_copy_parts(e, l6, l5, l7);
-                e->stack_pointer = l14;
+                space_copies_copy_parts(stack, l6, l5, l7);
+                stack = l14;
                 return;
             }
             l8 = l3 - l1;
@@ -12307,7 +12311,7 @@ static void space_copies_copy_long(struct engine *e, u64 l0, u64 l1, u64 l2, u64
                     store16(l3, (u16)t33);
                     const u32 t34 = load32(l0 + 4ull);
                     store32(l3 + 4ull, t34);
-                    e->stack_pointer = l14;
+                    stack = l14;
                     return;
                 }
                 if (l5 == 0) goto L2;
@@ -12344,7 +12348,7 @@ static void space_copies_copy_long(struct engine *e, u64 l0, u64 l1, u64 l2, u64
             }
             if (l1 < l3) {
                 {
-                    if ((i64)(e->stack_pointer - e->stack) >= (i64)16ull) {
+                    {
                         l8 = l2 - l1;
                         if ((l8 == 0) == 0) {
                             l5 = l3 - l1;
@@ -12460,7 +12464,7 @@ static void space_copies_copy_long(struct engine *e, u64 l0, u64 l1, u64 l2, u64
                     trap();
                 }
                 L44:;
-                e->stack_pointer = l14;
+                stack = l14;
                 return;
             }
             if (l5 <= 48ull) {
@@ -12579,7 +12583,7 @@ static void space_copies_copy_long(struct engine *e, u64 l0, u64 l1, u64 l2, u64
                     store16(l0 + 56u, (u16)t116);
                     const u32 t117 = load32(l1 + 60ull);
                     store32(l0 + 60ull, t117);
-                    e->stack_pointer = l14;
+                    stack = l14;
                     return;
                 }
                 const u64 t118 = load64(l1);
@@ -12605,13 +12609,13 @@ static void space_copies_copy_long(struct engine *e, u64 l0, u64 l1, u64 l2, u64
                 store64(l0 + 16u, l8);
                 store64(l0 + 8u, l5);
                 store64(l0, l3);
-                e->stack_pointer = l14;
+                stack = l14;
                 return;
             }
             l8 = l1;
             l1 = 0ull;
             {
-                if ((i64)(e->stack_pointer - e->stack) >= (i64)16ull) {
+                {
                     if (l2 != l8) {
                         l17 = l2 - l8;
                         l5 = l8 - l3;
@@ -12729,13 +12733,13 @@ static void space_copies_copy_long(struct engine *e, u64 l0, u64 l1, u64 l2, u64
             L126:;
         }
         L2:;
-        e->stack_pointer = l14;
+        stack = l14;
         return;
     }
     trap();
 }
 
-static void core_delivery_deliver(struct engine *e, u64 l0, u32 l1, u32 l2) {
+static void core_delivery_deliver(u64 stack, u64 l0, u32 l1, u32 l2) {
     u64 l3 = 0;
     u64 l4 = 0;
     u64 l5 = 0;
@@ -12758,8 +12762,8 @@ static void core_delivery_deliver(struct engine *e, u64 l0, u32 l1, u32 l2) {
     u32 l22 = 0;
     {
         {
-            l17 = e->stack_pointer;
-            if ((i64)(l17 - e->stack) >= (i64)16ull) {
+            l17 = stack;
+            {
                 const u32 t4 = load32(l0 + 16ull);
                 l18 = t4;
                 {
@@ -13151,7 +13155,7 @@ static void core_delivery_deliver(struct engine *e, u64 l0, u32 l1, u32 l2) {
                         store32(l3 + 4ull, t131);
                         goto L1;
                     }
-                    space_copies_copy_long(e, l6, l8, l9, l7);
+                    space_copies_copy_long(stack, l6, l8, l9, l7);
                     goto L1;
                 }
                 L5:;
@@ -13429,14 +13433,14 @@ static void core_delivery_deliver(struct engine *e, u64 l0, u32 l1, u32 l2) {
                         store32(l3 + 4ull, t217);
                         goto L139;
                     }
-                    space_copies_copy_long(e, l6, l7, l15, l9);
+                    space_copies_copy_long(stack, l6, l7, l15, l9);
                 }
                 L139:;
                 store32(l0 + 32ull, l19);
                 l3 = l0 + 20ull;
                 const u32 t218 = load32(l3);
                 store32(l3, t218 + (l1 - l2));
-                e->stack_pointer = l17;
+                stack = l17;
                 return;
             }
             trap();
@@ -13503,10 +13507,10 @@ static void core_delivery_deliver(struct engine *e, u64 l0, u32 l1, u32 l2) {
     L230:;
     store32(l0 + 20ull, l1);
     store32(l0 + 32ull, l2);
-    e->stack_pointer = l17;
+    stack = l17;
 }
 
-static void space_copies_copy_more(struct engine *e, u64 l0, u64 l1, u64 l2, u64 l3) {
+static void space_copies_copy_more(u64 stack, u64 l0, u64 l1, u64 l2, u64 l3) {
     u64 l4 = 0;
     u64 l5 = 0;
     u64 l6 = 0;
@@ -13515,8 +13519,8 @@ static void space_copies_copy_more(struct engine *e, u64 l0, u64 l1, u64 l2, u64
     u64 l9 = 0;
     u64 l10 = 0;
     u64 l11 = 0;
-    l7 = e->stack_pointer;
-    if ((i64)(l7 - e->stack) >= (i64)16ull) {
+    l7 = stack;
+    {
         {
             l4 = l2 - l1;
             if (l4 <= 7ull) {
@@ -13552,7 +13556,7 @@ static void space_copies_copy_more(struct engine *e, u64 l0, u64 l1, u64 l2, u64
                     store16(l2, (u16)t11);
                     const u32 t12 = load32(l4 + 4ull);
                     store32(l2 + 4ull, t12);
-                    e->stack_pointer = l7;
+                    stack = l7;
                     return;
                 }
                 if (l1 == l2) goto L2;
@@ -13607,19 +13611,19 @@ static void space_copies_copy_more(struct engine *e, u64 l0, u64 l1, u64 l2, u64
                 store16(l4, (u16)t25);
                 const u32 t26 = load32(l2 - 52ull);
                 store32(l4 + 4ull, t26);
-                e->stack_pointer = l7;
+                stack = l7;
                 return;
             }
-            space_copies_copy_long(e, l0, l1, l2, l3);
+            space_copies_copy_long(stack, l0, l1, l2, l3);
         }
         L2:;
-        e->stack_pointer = l7;
+        stack = l7;
         return;
     }
     trap();
 }
 
-static void space_copies_copy_parts(struct engine *e, u64 l0, u64 l1, u64 l2) {
+static void space_copies_copy_parts(u64 stack, u64 l0, u64 l1, u64 l2) {
     u64 l3 = 0;
     u64 l4 = 0;
     u64 l5 = 0;
@@ -13632,7 +13636,8 @@ static void space_copies_copy_parts(struct engine *e, u64 l0, u64 l1, u64 l2) {
     u64 l12 = 0;
     u64 l13 = 0;
     u32 l14 = 0;
-    if ((i64)(e->stack_pointer - e->stack) >= (i64)16ull) {
+    (void)stack;
+    {
         if ((l1 == 0) == 0) {
             L3:;
             {
@@ -13694,7 +13699,7 @@ static void space_copies_copy_parts(struct engine *e, u64 l0, u64 l1, u64 l2) {
     trap();
 }
 
-static void space_space_Space_move_active(struct engine *e, u64 l0, u32 l1) {
+static void space_space_Space_move_active(u64 stack, u64 l0, u32 l1) {
     u64 l2 = 0;
     u64 l3 = 0;
     u64 l4 = 0;
@@ -13710,8 +13715,8 @@ static void space_space_Space_move_active(struct engine *e, u64 l0, u32 l1) {
     u32 l14 = 0;
     u32 l15 = 0;
     u32 l16 = 0;
-    l10 = e->stack_pointer;
-    if ((i64)(l10 - e->stack) >= (i64)16ull) {
+    l10 = stack;
+    {
         const u32 t2 = load32(l0 + 8ull);
         l15 = t2 - l1;
         const u32 t3 = load32(l0 + 24ull);
@@ -13816,23 +13821,24 @@ static void space_space_Space_move_active(struct engine *e, u64 l0, u32 l1) {
                 store32(l2 + 4ull, t30);
                 goto L5;
             }
-            space_copies_copy_long(e, l4, l9, l5, l8);
+            space_copies_copy_long(stack, l4, l9, l5, l8);
         }
         L5:;
         store32(l0 + 28ull, l15);
-        e->stack_pointer = l10;
+        stack = l10;
         return;
     }
     trap();
 }
 
-static u64 c_filling_put_characters(struct engine *e, u64 l0, u64 l1, u64 l2, u64 l3, u64 l4) {
+static u64 c_filling_put_characters(u64 stack, u64 l0, u64 l1, u64 l2, u64 l3, u64 l4) {
     u64 l5 = 0;
     u64 l6 = 0;
     u64 l7 = 0;
     u64 l8 = 0;
     u32 l9 = 0;
-    if ((i64)(e->stack_pointer - e->stack) >= (i64)16ull) {
+    (void)stack;
+    {
         l8 = l2 + l3;
         {
             l4 = l4 - l2;
@@ -13931,27 +13937,27 @@ static u64 c_filling_put_characters(struct engine *e, u64 l0, u64 l1, u64 l2, u6
     return 0;
 }
 
-static void store_index_index_worthwhile(struct engine *e, u64 l0, u32 l1, u64 l2) {
+static void store_index_index_worthwhile(u64 stack, u64 l0, u32 l1, u64 l2) {
     u64 l3 = 0;
     u32 l4 = 0;
     u32 l5 = 0;
-    l3 = e->stack_pointer;
-    if ((i64)(l3 - e->stack) >= (i64)16ull) {
+    l3 = stack;
+    {
         const u32 t2 = load32(l0 + 24ull);
         const u32 t3 = load32(l2);
         l4 = t3 >> 3;
         l5 = l4 - l1;
         if ((t2 >> 8) <= ((l4 < l5) ? 0u : l5)) {
             store32(l2, 0u);
-            (void)store_index_index_fitting(e, l0, l1);
+            (void)store_index_index_fitting(stack, l0, l1);
         }
-        e->stack_pointer = l3;
+        stack = l3;
         return;
     }
     trap();
 }
 
-static void store_form_cells_find_some(struct engine *e, u64 l0, u64 l1, u32 l2, u32 l3, u32 l4, u64 l5, u64 l6) {
+static void store_form_cells_find_some(u64 stack, u64 l0, u64 l1, u32 l2, u32 l3, u32 l4, u64 l5, u64 l6) {
     u64 l7 = 0;
     u64 l8 = 0;
     u64 l9 = 0;
@@ -13962,9 +13968,10 @@ static void store_form_cells_find_some(struct engine *e, u64 l0, u64 l1, u32 l2,
     u64 l14 = 0;
     u32 l15 = 0;
     u32 l16 = 0;
+    (void)stack;
     {
         {
-            if ((i64)(e->stack_pointer - e->stack) >= (i64)16ull) {
+            {
                 l2 = l4 - l2;
                 if (l2 == 0) goto L1;
                 const u32 t4 = load8((l5 + (l6 << 3)) - 7ull);
@@ -14017,7 +14024,7 @@ static void store_form_cells_find_some(struct engine *e, u64 l0, u64 l1, u32 l2,
     store64(l0 + 4ull, l9);
 }
 
-static void store_form_cells_find_round(struct engine *e, u64 l0, u64 l1, u32 l2, u32 l3, u32 l4, u64 l5, u64 l6) {
+static void store_form_cells_find_round(u64 stack, u64 l0, u64 l1, u32 l2, u32 l3, u32 l4, u64 l5, u64 l6) {
     u64 l7 = 0;
     u64 l8 = 0;
     u64 l9 = 0;
@@ -14028,11 +14035,12 @@ static void store_form_cells_find_round(struct engine *e, u64 l0, u64 l1, u32 l2
     u64 l14 = 0;
     u32 l15 = 0;
     u32 l16 = 0;
+    (void)stack;
     {
         u64 v2;
         {
             {
-                if ((i64)(e->stack_pointer - e->stack) >= (i64)16ull) {
+                {
                     const u32 t5 = load8((l5 + (l6 << 3)) - 7ull);
                     l16 = t5;
                     l15 = l4 - l2;
@@ -14135,7 +14143,7 @@ static void store_form_cells_find_round(struct engine *e, u64 l0, u64 l1, u32 l2
     store64(l0 + 4ull, l11);
 }
 
-static u32 store_index_index_fitting(struct engine *e, u64 l0, u32 l1) {
+static u32 store_index_index_fitting(u64 stack, u64 l0, u32 l1) {
     u64 l2 = 0;
     u64 l3 = 0;
     u64 l4 = 0;
@@ -14147,8 +14155,8 @@ static u32 store_index_index_fitting(struct engine *e, u64 l0, u32 l1) {
     u64 l10 = 0;
     u32 l11 = 0;
     u32 l12 = 0;
-    l9 = e->stack_pointer;
-    if ((i64)(l9 - e->stack) >= (i64)16ull) {
+    l9 = stack;
+    {
         l11 = 1u << ((0u - clz32((l1 << 2))) & 31);
         l11 = ((l11 > 16u) ? l11 : 16u) << 2;
         const u32 t2 = load32(l0 + 8ull);
@@ -14162,7 +14170,7 @@ static u32 store_index_index_fitting(struct engine *e, u64 l0, u32 l1) {
         }
         l12 = l11 <= l12;
         if (l12) {
-            space_space_Space_move_active(e, l0, l11);
+            space_space_Space_move_active(stack, l0, l11);
             const u64 t8 = load64(l0 + 8ull);
             l3 = t8;
             const u64 t9 = load32(l0 + 28ull);
@@ -14226,16 +14234,16 @@ static u32 store_index_index_fitting(struct engine *e, u64 l0, u32 l1) {
                     if (l6 < l7) goto L12;
                 }
             }
-            store_index_index_from(e, l0, 0u, 0u, l1);
+            store_index_index_from(stack, l0, 0u, 0u, l1);
         }
-        e->stack_pointer = l9;
+        stack = l9;
         return l12;
     }
     trap();
     return 0;
 }
 
-static void store_index_index_from(struct engine *e, u64 l0, u32 l1, u32 l2, u32 l3) {
+static void store_index_index_from(u64 stack, u64 l0, u32 l1, u32 l2, u32 l3) {
     u64 l4 = 0;
     u64 l5 = 0;
     u64 l6 = 0;
@@ -14249,8 +14257,8 @@ static void store_index_index_from(struct engine *e, u64 l0, u32 l1, u32 l2, u32
     u32 l14 = 0;
     u32 l15 = 0;
     u32 l16 = 0;
-    l11 = e->stack_pointer;
-    if ((i64)(l11 - e->stack) >= (i64)16ull) {
+    l11 = stack;
+    {
         {
             const u32 t3 = load32(l0 + 28ull);
             const u32 t4 = load32(l0 + 8ull);
@@ -14355,7 +14363,7 @@ static void store_index_index_from(struct engine *e, u64 l0, u32 l1, u32 l2, u32
                         goto L6;
                     }
                     L22:;
-                    space_space_Space_move_active(e, l0, 0u);
+                    space_space_Space_move_active(stack, l0, 0u);
                 }
                 L6:;
                 l14 = 3u;
@@ -14386,18 +14394,19 @@ static void store_index_index_from(struct engine *e, u64 l0, u32 l1, u32 l2, u32
             }
         }
         L2:;
-        e->stack_pointer = l11;
+        stack = l11;
         return;
     }
     trap();
 }
 
-static u32 store_form_cells_place_of(struct engine *e, u64 l0, u32 l1, u32 l2, u32 l3) {
+static u32 store_form_cells_place_of(u64 stack, u64 l0, u32 l1, u32 l2, u32 l3) {
     u64 l4 = 0;
     u32 l5 = 0;
     u32 l6 = 0;
     u32 l7 = 0;
-    if ((i64)(e->stack_pointer - e->stack) >= (i64)16ull) {
+    (void)stack;
+    {
         {
             if (l1 == l3) goto L2;
             if (l1 < l3) {
@@ -14471,7 +14480,7 @@ static u32 store_form_cells_place_of(struct engine *e, u64 l0, u32 l1, u32 l2, u
     return 0;
 }
 
-static u32 core_display_show_items(struct engine *e, u64 l0, u32 l1, u32 l2, u64 l3) {
+static u32 core_display_show_items(u64 stack, u64 l0, u32 l1, u32 l2, u64 l3) {
     u64 l4 = 0;
     u64 l5 = 0;
     u64 l6 = 0;
@@ -14479,12 +14488,12 @@ static u32 core_display_show_items(struct engine *e, u64 l0, u32 l1, u32 l2, u64
     u64 l8 = 0;
     u64 l9 = 0;
     u32 l10 = 0;
-    l4 = e->stack_pointer - 64ull;
-    e->stack_pointer = l4;
+    l4 = stack - 64ull;
+    stack = l4;
     {
         {
             l5 = l4;
-            if ((i64)(l5 - e->stack) >= (i64)16ull) {
+            {
                 if (l1 >= l2) goto L1;
                 l9 = (u64)l2;
                 l7 = (u64)l1;
@@ -14547,7 +14556,7 @@ static u32 core_display_show_items(struct engine *e, u64 l0, u32 l1, u32 l2, u64
                         const u64 t23 = load64(l6);
                         l4 = t23 + 1ull;
                         store64(l6, l4);
-                        itoa_Buffer_format(e, l5 + 8ull, l5 + 24ull, l2);
+                        itoa_Buffer_format(stack, l5 + 8ull, l5 + 24ull, l2);
                         {
                             {
                                 const u64 t26 = load64(l5 + 16u);
@@ -14609,17 +14618,18 @@ static u32 core_display_show_items(struct engine *e, u64 l0, u32 l1, u32 l2, u64
         l10 = 1u;
     }
     L1:;
-    e->stack_pointer = l5 + 64ull;
+    stack = l5 + 64ull;
     return l10;
 }
 
-static void itoa_Buffer_format(struct engine *e, u64 l0, u64 l1, u32 l2) {
+static void itoa_Buffer_format(u64 stack, u64 l0, u64 l1, u32 l2) {
     u64 l3 = 0;
     u64 l4 = 0;
     u64 l5 = 0;
     u64 l6 = 0;
     u32 l7 = 0;
-    if ((i64)(e->stack_pointer - e->stack) >= (i64)16ull) {
+    (void)stack;
+    {
         l4 = (u64)l2;
         l3 = 40ull;
         if (l2 >= 10000u) {
@@ -14672,7 +14682,7 @@ static void itoa_Buffer_format(struct engine *e, u64 l0, u64 l1, u32 l2) {
     trap();
 }
 
-static u32 forms_work_Work_load_other_part(struct engine *e, u64 l0, u32 l1, u32 l2) {
+static u32 forms_work_Work_load_other_part(u64 stack, u64 l0, u32 l1, u32 l2) {
     u64 l3 = 0;
     u64 l4 = 0;
     u64 l5 = 0;
@@ -14697,8 +14707,8 @@ static u32 forms_work_Work_load_other_part(struct engine *e, u64 l0, u32 l1, u32
     u32 l24 = 0;
     u32 l25 = 0;
     u32 l26 = 0;
-    l16 = e->stack_pointer;
-    if ((i64)(l16 - e->stack) >= (i64)16ull) {
+    l16 = stack;
+    {
         l2 = l2 - l1;
         const u32 t2 = load32(l0 + 8ull);
         const u32 t3 = load32(l0 + 24ull);
@@ -14713,7 +14723,7 @@ static u32 forms_work_Work_load_other_part(struct engine *e, u64 l0, u32 l1, u32
             const u32 t7 = load32(l4);
             l24 = t7;
             if (l2 > (l24 - l25)) {
-                space_space_Space_move_active(e, l0, 0u);
+                space_space_Space_move_active(stack, l0, 0u);
                 const u32 t9 = load32(l4);
                 l24 = t9;
                 const u32 t10 = load32(l0 + 16ull);
@@ -14729,7 +14739,7 @@ static u32 forms_work_Work_load_other_part(struct engine *e, u64 l0, u32 l1, u32
             l7 = t12;
             {
                 if (l2 >= 25u) {
-                    space_copies_copy_long(e, l7, l8, l8 + l11, l9);
+                    space_copies_copy_long(stack, l7, l8, l8 + l11, l9);
                     goto L13;
                 }
                 if (l2 >= 8u) {
@@ -15010,14 +15020,14 @@ static u32 forms_work_Work_load_other_part(struct engine *e, u64 l0, u32 l1, u32
             L13:;
             store32(l0 + 24ull, l1);
         }
-        e->stack_pointer = l16;
+        stack = l16;
         return l26;
     }
     trap();
     return 0;
 }
 
-static u32 functions_arguments_put_part(struct engine *e, u64 l0, u32 l1, u32 l2) {
+static u32 functions_arguments_put_part(u64 stack, u64 l0, u32 l1, u32 l2) {
     u32 l3 = 0;
     u32 l4 = 0;
     u32 l5 = 0;
@@ -15026,8 +15036,8 @@ static u32 functions_arguments_put_part(struct engine *e, u64 l0, u32 l1, u32 l2
     u64 l8 = 0;
     u64 l9 = 0;
     u64 l10 = 0;
-    l9 = e->stack_pointer;
-    if ((i64)(l9 - e->stack) >= (i64)16ull) {
+    l9 = stack;
+    {
         u32 v2;
         {
             l5 = l2 - l1;
@@ -15038,7 +15048,7 @@ static u32 functions_arguments_put_part(struct engine *e, u64 l0, u32 l1, u32 l2
             l4 = l3 + t5;
             const u32 t6 = load32(l0 + 24ull);
             if (l5 > (t3 - (l4 + t6))) {
-                const u32 t8 = space_space_Space_try_claim_spare(e, l0, (u64)l5);
+                const u32 t8 = space_space_Space_try_claim_spare(stack, l0, (u64)l5);
                 if (t8 == 0) { v2 = 0u; goto L2; }
                 const u32 t9 = load32(l0 + 16ull);
                 l3 = t9;
@@ -15060,7 +15070,7 @@ static u32 functions_arguments_put_part(struct engine *e, u64 l0, u32 l1, u32 l2
                     store32(l7 + 4ull, t15);
                     goto L12;
                 }
-                space_copies_copy_more(e, l6, l8, l10, l7);
+                space_copies_copy_more(stack, l6, l8, l10, l7);
             }
             L12:;
             l0 = l0 + 20ull;
@@ -15070,14 +15080,14 @@ static u32 functions_arguments_put_part(struct engine *e, u64 l0, u32 l1, u32 l2
         }
         L2:;
         l3 = v2;
-        e->stack_pointer = l9;
+        stack = l9;
         return l3;
     }
     trap();
     return 0;
 }
 
-static u32 values_number_long_greater(struct engine *e, u64 l0, u64 l1, u64 l2, u64 l3) {
+static u32 values_number_long_greater(u64 stack, u64 l0, u64 l1, u64 l2, u64 l3) {
     u64 l4 = 0;
     u64 l5 = 0;
     u64 l6 = 0;
@@ -15090,7 +15100,8 @@ static u32 values_number_long_greater(struct engine *e, u64 l0, u64 l1, u64 l2, 
     u32 l13 = 0;
     u32 l14 = 0;
     u32 l15 = 0;
-    if ((i64)(e->stack_pointer - e->stack) >= (i64)16ull) {
+    (void)stack;
+    {
         l7 = 0ull - l1;
         l6 = l0 + (l1 << 3);
         L2:;
@@ -15297,7 +15308,7 @@ static u32 values_number_long_greater(struct engine *e, u64 l0, u64 l1, u64 l2, 
     return 0;
 }
 
-static void values_number_long_tail(struct engine *e, u64 l0, u64 l1, u64 l2) {
+static void values_number_long_tail(u64 stack, u64 l0, u64 l1, u64 l2) {
     u64 l3 = 0;
     u64 l4 = 0;
     u64 l5 = 0;
@@ -15314,12 +15325,12 @@ static void values_number_long_tail(struct engine *e, u64 l0, u64 l1, u64 l2) {
     u32 l16 = 0;
     u32 l17 = 0;
     u32 l18 = 0;
-    l3 = e->stack_pointer - 48ull;
-    e->stack_pointer = l3;
+    l3 = stack - 48ull;
+    stack = l3;
     {
         {
             l5 = l3;
-            if ((i64)(l5 - e->stack) >= (i64)16ull) {
+            {
                 l15 = 0u - (u32)l2;
                 l3 = ((l2 << 3) + l1) + 9ull;
                 l1 = 0ull;
@@ -15394,8 +15405,8 @@ static void values_number_long_tail(struct engine *e, u64 l0, u64 l1, u64 l2) {
                             goto L17;
                         }
                         l16 = (i64)l8 < (i64)0ull;
-                        multi3(e, l5 + 16ull, l16 ? (0ull - l12) : l12, 0ull, l1, 0ull);
-                        multi3(e, l5 + 32ull, l16 ? (0ull - (l8 + (u64)(l12 != 0ull))) : l8, 0ull, l1, 0ull);
+                        multi3(stack, l5 + 16ull, l16 ? (0ull - l12) : l12, 0ull, l1, 0ull);
+                        multi3(stack, l5 + 32ull, l16 ? (0ull - (l8 + (u64)(l12 != 0ull))) : l8, 0ull, l1, 0ull);
                         const u64 t19 = load64(l5 + 40u);
                         const u64 t20 = load64(l5 + 24u);
                         l4 = t20;
@@ -15411,7 +15422,7 @@ static void values_number_long_tail(struct engine *e, u64 l0, u64 l1, u64 l2) {
                         const u32 t24 = (l10 - 1ull) < (t23 & 18446744073709551614ull);
                         l10 = l10 + 9223372036854775807ull;
                         if ((l9 == l10) ? t24 : (l10 < l9)) goto L17;
-                        multi3(e, l5, l12, l8, l1, 0ull);
+                        multi3(stack, l5, l12, l8, l1, 0ull);
                         const u64 t25 = load64(l5 + 8u);
                         l4 = t25;
                         const u64 t26 = load64(l5);
@@ -15470,17 +15481,18 @@ static void values_number_long_tail(struct engine *e, u64 l0, u64 l1, u64 l2) {
         store32(l0, 0u - l17);
     }
     L1:;
-    e->stack_pointer = l5 + 48ull;
+    stack = l5 + 48ull;
 }
 
-static u32 forms_work_Work_pointer(struct engine *e, u64 l0, u32 l1) {
+static u32 forms_work_Work_pointer(u64 stack, u64 l0, u32 l1) {
     u32 l2 = 0;
     u32 l3 = 0;
     u32 l4 = 0;
     u32 l5 = 0;
     u32 l6 = 0;
     u64 l7 = 0;
-    if ((i64)(e->stack_pointer - e->stack) >= (i64)16ull) {
+    (void)stack;
+    {
         const u32 t2 = load32(l0 + 48ull);
         l2 = t2;
         {
@@ -15572,14 +15584,15 @@ static u32 forms_work_Work_pointer(struct engine *e, u64 l0, u32 l1) {
     return 0;
 }
 
-static u32 forms_work_Work_body_len(struct engine *e, u64 l0, u32 l1) {
+static u32 forms_work_Work_body_len(u64 stack, u64 l0, u32 l1) {
     u32 l2 = 0;
     u32 l3 = 0;
     u32 l4 = 0;
     u32 l5 = 0;
     u32 l6 = 0;
     u64 l7 = 0;
-    if ((i64)(e->stack_pointer - e->stack) >= (i64)16ull) {
+    (void)stack;
+    {
         const u32 t2 = load32(l0 + 48ull);
         l2 = t2;
         {
@@ -15671,7 +15684,7 @@ static u32 forms_work_Work_body_len(struct engine *e, u64 l0, u32 l1) {
     return 0;
 }
 
-static void functions_form_parts_take_part(struct engine *e, u64 l0, u64 l1, u32 l2, u32 l3, u32 l4, u32 l5) {
+static void functions_form_parts_take_part(u64 stack, u64 l0, u64 l1, u32 l2, u32 l3, u32 l4, u32 l5) {
     u32 l6 = 0;
     u32 l7 = 0;
     u32 l8 = 0;
@@ -15686,11 +15699,11 @@ static void functions_form_parts_take_part(struct engine *e, u64 l0, u64 l1, u32
     u64 l17 = 0;
     u64 l18 = 0;
     u64 l19 = 0;
-    l15 = e->stack_pointer - 16ull;
-    e->stack_pointer = l15;
+    l15 = stack - 16ull;
+    stack = l15;
     l17 = l15;
-    if ((i64)(l17 - e->stack) >= (i64)16ull) {
-        (void)forms_work_Work_body_len(e, l1, l2);
+    {
+        (void)forms_work_Work_body_len(stack, l1, l2);
         l19 = (u64)l4;
         {
             L4:;
@@ -15699,12 +15712,12 @@ static void functions_form_parts_take_part(struct engine *e, u64 l0, u64 l1, u32
                     {
                         {
                             if (l3 < l4) {
-                                forms_work_Work_next_char(e, l17 + 8ull, l1, l2, l3);
+                                forms_work_Work_next_char(stack, l17 + 8ull, l1, l2, l3);
                                 const u32 t9 = load8(l17 + 8u);
                                 l8 = t9;
                                 const u32 t10 = load32(l17 + 12u);
                                 l6 = t10;
-                                (void)forms_work_Work_body_len(e, l1, l2);
+                                (void)forms_work_Work_body_len(stack, l1, l2);
                                 l3 = l4;
                                 l9 = (l8 == 1u) ? ((l3 < l6) ? l3 : l6) : l3;
                                 if (l3 <= l9) goto L5;
@@ -15866,7 +15879,7 @@ static void functions_form_parts_take_part(struct engine *e, u64 l0, u64 l1, u32
                                 }
                                 goto L6;
                             }
-                            forms_work_Work_set_pointer(e, l1, l2, l5);
+                            forms_work_Work_set_pointer(stack, l1, l2, l5);
                             store32(l0 + 4ull, 0u);
                             store16(l0, (u16)1u);
                             goto L3;
@@ -15900,20 +15913,20 @@ static void functions_form_parts_take_part(struct engine *e, u64 l0, u64 l1, u32
                     l3 = l4;
                 }
                 L5:;
-                const u32 t66 = forms_work_Work_copy_body(e, l1, l2, l9, l3);
+                const u32 t66 = forms_work_Work_copy_body(stack, l1, l2, l9, l3);
                 if (t66) goto L4;
             }
             store16(l0, (u16)0u);
             store32(l0 + 4ull, 0u);
         }
         L3:;
-        e->stack_pointer = l17 + 16ull;
+        stack = l17 + 16ull;
         return;
     }
     trap();
 }
 
-static void forms_work_Work_next_char(struct engine *e, u64 l0, u64 l1, u32 l2, u32 l3) {
+static void forms_work_Work_next_char(u64 stack, u64 l0, u64 l1, u32 l2, u32 l3) {
     u32 l4 = 0;
     u32 l5 = 0;
     u32 l6 = 0;
@@ -15922,7 +15935,8 @@ static void forms_work_Work_next_char(struct engine *e, u64 l0, u64 l1, u32 l2, 
     u64 l9 = 0;
     u64 l10 = 0;
     u64 l11 = 0;
-    if ((i64)(e->stack_pointer - e->stack) >= (i64)16ull) {
+    (void)stack;
+    {
         const u32 t2 = load32(l1 + 48ull);
         l4 = t2;
         {
@@ -16050,7 +16064,7 @@ static void forms_work_Work_next_char(struct engine *e, u64 l0, u64 l1, u32 l2, 
     trap();
 }
 
-static void forms_work_Work_set_pointer(struct engine *e, u64 l0, u32 l1, u32 l2) {
+static void forms_work_Work_set_pointer(u64 stack, u64 l0, u32 l1, u32 l2) {
     u32 l3 = 0;
     u32 l4 = 0;
     u32 l5 = 0;
@@ -16060,7 +16074,8 @@ static void forms_work_Work_set_pointer(struct engine *e, u64 l0, u32 l1, u32 l2
     u64 l9 = 0;
     u64 l10 = 0;
     u64 l11 = 0;
-    if ((i64)(e->stack_pointer - e->stack) >= (i64)16ull) {
+    (void)stack;
+    {
         l10 = l0 + 48ull;
         const u32 t2 = load32(l10);
         l3 = t2;
@@ -16146,7 +16161,7 @@ static void forms_work_Work_set_pointer(struct engine *e, u64 l0, u32 l1, u32 l2
     trap();
 }
 
-static u32 forms_work_Work_copy_body(struct engine *e, u64 l0, u32 l1, u32 l2, u32 l3) {
+static u32 forms_work_Work_copy_body(u64 stack, u64 l0, u32 l1, u32 l2, u32 l3) {
     u32 l4 = 0;
     u32 l5 = 0;
     u32 l6 = 0;
@@ -16154,8 +16169,8 @@ static u32 forms_work_Work_copy_body(struct engine *e, u64 l0, u32 l1, u32 l2, u
     u32 l8 = 0;
     u64 l9 = 0;
     u64 l10 = 0;
-    l10 = e->stack_pointer;
-    if ((i64)(l10 - e->stack) >= (i64)16ull) {
+    l10 = stack;
+    {
         const u32 t2 = load32(l0 + 48ull);
         l4 = t2;
         {
@@ -16242,16 +16257,16 @@ static u32 forms_work_Work_copy_body(struct engine *e, u64 l0, u32 l1, u32 l2, u
             v29 = l1;
         }
         l4 = (v29 + l4) + 3u;
-        const u32 t33 = space_space_Space_copy_store(e, t28, l4 + l2, l3 + l4);
+        const u32 t33 = space_space_Space_copy_store(stack, t28, l4 + l2, l3 + l4);
         l4 = t33;
-        e->stack_pointer = l10;
+        stack = l10;
         return l4;
     }
     trap();
     return 0;
 }
 
-static u32 space_space_Space_copy_store(struct engine *e, u64 l0, u32 l1, u32 l2) {
+static u32 space_space_Space_copy_store(u64 stack, u64 l0, u32 l1, u32 l2) {
     u32 l3 = 0;
     u32 l4 = 0;
     u64 l5 = 0;
@@ -16259,8 +16274,8 @@ static u32 space_space_Space_copy_store(struct engine *e, u64 l0, u32 l1, u32 l2
     u64 l7 = 0;
     u64 l8 = 0;
     u64 l9 = 0;
-    l8 = e->stack_pointer;
-    if ((i64)(l8 - e->stack) >= (i64)16ull) {
+    l8 = stack;
+    {
         u32 v2;
         {
             l4 = l2 - l1;
@@ -16270,7 +16285,7 @@ static u32 space_space_Space_copy_store(struct engine *e, u64 l0, u32 l1, u32 l2
             l3 = t4 + t5;
             const u32 t6 = load32(l0 + 24ull);
             if (l4 > (t3 - (l3 + t6))) {
-                const u32 t8 = space_space_Space_try_claim_spare(e, l0, (u64)l4);
+                const u32 t8 = space_space_Space_try_claim_spare(stack, l0, (u64)l4);
                 if (t8 == 0) { v2 = 0u; goto L2; }
                 const u32 t9 = load32(l0 + 20ull);
                 const u32 t10 = load32(l0 + 16ull);
@@ -16291,7 +16306,7 @@ static u32 space_space_Space_copy_store(struct engine *e, u64 l0, u32 l1, u32 l2
                     store32(l6 + 4ull, t15);
                     goto L12;
                 }
-                space_copies_copy_more(e, l5, l7, l9, l6);
+                space_copies_copy_more(stack, l5, l7, l9, l6);
             }
             L12:;
             l0 = l0 + 20ull;
@@ -16301,14 +16316,14 @@ static u32 space_space_Space_copy_store(struct engine *e, u64 l0, u32 l1, u32 l2
         }
         L2:;
         l3 = v2;
-        e->stack_pointer = l8;
+        stack = l8;
         return l3;
     }
     trap();
     return 0;
 }
 
-static void store_borders_lay_borders(struct engine *e, u64 l0, u32 l1, u32 l2) {
+static void store_borders_lay_borders(u64 stack, u64 l0, u32 l1, u32 l2) {
     u64 l3 = 0;
     u64 l4 = 0;
     u64 l5 = 0;
@@ -16318,7 +16333,8 @@ static void store_borders_lay_borders(struct engine *e, u64 l0, u32 l1, u32 l2) 
     u32 l9 = 0;
     u32 l10 = 0;
     u32 l11 = 0;
-    if ((i64)(e->stack_pointer - e->stack) >= (i64)16ull) {
+    (void)stack;
+    {
         l2 = l2 - l1;
         if (l2 >= 2u) {
             l6 = (u64)l2;
@@ -16418,7 +16434,7 @@ static void store_borders_lay_borders(struct engine *e, u64 l0, u32 l1, u32 l2) 
     trap();
 }
 
-static void space_space_Space_write_part(struct engine *e, u64 l0, u32 l1, u32 l2, u32 l3) {
+static void space_space_Space_write_part(u64 stack, u64 l0, u32 l1, u32 l2, u32 l3) {
     u64 l4 = 0;
     u64 l5 = 0;
     u64 l6 = 0;
@@ -16437,8 +16453,8 @@ static void space_space_Space_write_part(struct engine *e, u64 l0, u32 l1, u32 l
     u64 l19 = 0;
     u64 l20 = 0;
     u64 l21 = 0;
-    l10 = e->stack_pointer;
-    if ((i64)(l10 - e->stack) >= (i64)16ull) {
+    l10 = stack;
+    {
         l3 = l3 - l2;
         l12 = (u64)l3;
         const u32 t2 = load32(l0 + 16ull);
@@ -16447,8 +16463,8 @@ static void space_space_Space_write_part(struct engine *e, u64 l0, u32 l1, u32 l
         const u64 t3 = load64(l0);
         l7 = t3;
         if (l3 >= 25u) {
-            space_copies_copy_long(e, l7, l8, l8 + l12, l9);
-            e->stack_pointer = l10;
+            space_copies_copy_long(stack, l7, l8, l8 + l12, l9);
+            stack = l10;
             return;
         }
         if (l3 >= 8u) {
@@ -16569,7 +16585,7 @@ static void space_space_Space_write_part(struct engine *e, u64 l0, u32 l1, u32 l
                 store16(l0 + 56u, (u16)t50);
                 const u32 t51 = load32(l4 + 60ull);
                 store32(l0 + 60ull, t51);
-                e->stack_pointer = l10;
+                stack = l10;
                 return;
             }
             const u64 t52 = load64(l4);
@@ -16595,7 +16611,7 @@ static void space_space_Space_write_part(struct engine *e, u64 l0, u32 l1, u32 l
             store64(l0 + 16u, l11);
             store64(l0 + 8u, l6);
             store64(l0, l5);
-            e->stack_pointer = l10;
+            stack = l10;
             return;
         }
         if (l3 >= 4u) {
@@ -16658,7 +16674,7 @@ static void space_space_Space_write_part(struct engine *e, u64 l0, u32 l1, u32 l
                 store16(l0 + 24u, (u16)t82);
                 const u32 t83 = load32(l4 + 28ull);
                 store32(l0 + 28ull, t83);
-                e->stack_pointer = l10;
+                stack = l10;
                 return;
             }
             const u64 t84 = load64(l4);
@@ -16672,7 +16688,7 @@ static void space_space_Space_write_part(struct engine *e, u64 l0, u32 l1, u32 l
             store64(l0 + 16u, l11);
             store64(l0 + 8u, l6);
             store64(l0, l5);
-            e->stack_pointer = l10;
+            stack = l10;
             return;
         }
         if (l3 >= 2u) {
@@ -16713,7 +16729,7 @@ static void space_space_Space_write_part(struct engine *e, u64 l0, u32 l1, u32 l
                 store16(l0 + 8u, (u16)t100);
                 const u32 t101 = load32(l4 + 12ull);
                 store32(l0 + 12ull, t101);
-                e->stack_pointer = l10;
+                stack = l10;
                 return;
             }
             const u64 t102 = load64(l4);
@@ -16721,7 +16737,7 @@ static void space_space_Space_write_part(struct engine *e, u64 l0, u32 l1, u32 l
             const u64 t103 = load64(l4 + 8u);
             store64(l0 + 8u, t103);
             store64(l0, l5);
-            e->stack_pointer = l10;
+            stack = l10;
             return;
         }
         if (l3 == 1u) {
@@ -16732,13 +16748,13 @@ static void space_space_Space_write_part(struct engine *e, u64 l0, u32 l1, u32 l
             const u32 t106 = load32(l4 + 4ull);
             store32(l0 + 4ull, t106);
         }
-        e->stack_pointer = l10;
+        stack = l10;
         return;
     }
     trap();
 }
 
-static void forms_work_Work_remove(struct engine *e, u64 l0, u32 l1, u32 l2) {
+static void forms_work_Work_remove(u64 stack, u64 l0, u32 l1, u32 l2) {
     u64 l3 = 0;
     u64 l4 = 0;
     u64 l5 = 0;
@@ -16752,8 +16768,8 @@ static void forms_work_Work_remove(struct engine *e, u64 l0, u32 l1, u32 l2) {
     u32 l13 = 0;
     u32 l14 = 0;
     u32 l15 = 0;
-    l6 = e->stack_pointer;
-    if ((i64)(l6 - e->stack) >= (i64)16ull) {
+    l6 = stack;
+    {
         {
             const u32 t3 = load32(l0 + 8ull);
             l8 = t3;
@@ -16859,18 +16875,18 @@ static void forms_work_Work_remove(struct engine *e, u64 l0, u32 l1, u32 l2) {
         } else {
             v36 = l10;
         }
-        space_space_Space_remove_store(e, t34, t35, v36 + (l1 + l2));
+        space_space_Space_remove_store(stack, t34, t35, v36 + (l1 + l2));
         store64(l0 + 44ull, 0ull);
         l0 = l0 + 40ull;
         const u32 t40 = load32(l0);
         store32(l0, t40 - 1u);
-        e->stack_pointer = l6;
+        stack = l6;
         return;
     }
     trap();
 }
 
-static void space_space_Space_remove_store(struct engine *e, u64 l0, u32 l1, u32 l2) {
+static void space_space_Space_remove_store(u64 stack, u64 l0, u32 l1, u32 l2) {
     u64 l3 = 0;
     u64 l4 = 0;
     u64 l5 = 0;
@@ -16884,8 +16900,8 @@ static void space_space_Space_remove_store(struct engine *e, u64 l0, u32 l1, u32
     u64 l13 = 0;
     u64 l14 = 0;
     u32 l15 = 0;
-    l11 = e->stack_pointer;
-    if ((i64)(l11 - e->stack) >= (i64)16ull) {
+    l11 = stack;
+    {
         l9 = (u64)l1;
         const u64 t2 = load64(l0);
         l6 = t2;
@@ -16985,27 +17001,27 @@ static void space_space_Space_remove_store(struct engine *e, u64 l0, u32 l1, u32
                 store32(l4 + 4ull, t29);
                 goto L3;
             }
-            space_copies_copy_long(e, l6, l10, l3, l9);
+            space_copies_copy_long(stack, l6, l10, l3, l9);
         }
         L3:;
         l3 = l0 + 16ull;
         const u32 t30 = load32(l3);
         store32(l3, t30 + (l1 - l2));
-        e->stack_pointer = l11;
+        stack = l11;
         return;
     }
     trap();
 }
 
-static u32 forms_work_Work_fill_body(struct engine *e, u64 l0, u32 l1, u32 l2, u32 l3) {
+static u32 forms_work_Work_fill_body(u64 stack, u64 l0, u32 l1, u32 l2, u32 l3) {
     u64 l4 = 0;
-    l4 = e->stack_pointer;
-    if ((i64)(l4 - e->stack) >= (i64)16ull) {
+    l4 = stack;
+    {
         const u32 t2 = load32(l0 + 44ull);
         if (l1 != t2) {
-            const u32 t4 = forms_work_Work_fill_other(e, l0, l1, l2, l3);
+            const u32 t4 = forms_work_Work_fill_other(stack, l0, l1, l2, l3);
             l1 = t4;
-            e->stack_pointer = l4;
+            stack = l4;
             return l1;
         }
         const u64 t5 = load64(l0);
@@ -17017,16 +17033,16 @@ static u32 forms_work_Work_fill_body(struct engine *e, u64 l0, u32 l1, u32 l2, u
         const u32 t9 = load32(l0 + 4ull);
         l1 = (l1 + t9) + 3u;
         const u32 t10 = load32(l0 + 12ull);
-        const u32 t11 = store_item_copies_fill_items(e, t7, t8 + l1, l1 + t10, l2, l3);
+        const u32 t11 = store_item_copies_fill_items(stack, t7, t8 + l1, l1 + t10, l2, l3);
         l1 = t11;
-        e->stack_pointer = l4;
+        stack = l4;
         return l1;
     }
     trap();
     return 0;
 }
 
-static void space_filling_fill_each(struct engine *e, u64 l0, u64 l1, u64 l2, u64 l3, u64 l4, u64 l5, u64 l6) {
+static void space_filling_fill_each(u64 stack, u64 l0, u64 l1, u64 l2, u64 l3, u64 l4, u64 l5, u64 l6) {
     u64 l7 = 0;
     u64 l8 = 0;
     u64 l9 = 0;
@@ -17052,7 +17068,8 @@ static void space_filling_fill_each(struct engine *e, u64 l0, u64 l1, u64 l2, u6
     u32 l29 = 0;
     u32 l30 = 0;
     u32 l31 = 0;
-    if ((i64)(e->stack_pointer - e->stack) >= (i64)16ull) {
+    (void)stack;
+    {
         l31 = 1u;
         {
             if (l2 >= l3) goto L2;
@@ -17748,7 +17765,7 @@ static void space_filling_fill_each(struct engine *e, u64 l0, u64 l1, u64 l2, u6
     trap();
 }
 
-static void forms_work_Work_form(struct engine *e, u64 l0, u64 l1, u32 l2) {
+static void forms_work_Work_form(u64 stack, u64 l0, u64 l1, u32 l2) {
     u32 l3 = 0;
     u32 l4 = 0;
     u32 l5 = 0;
@@ -17758,7 +17775,8 @@ static void forms_work_Work_form(struct engine *e, u64 l0, u64 l1, u32 l2) {
     u64 l9 = 0;
     u64 l10 = 0;
     u64 l11 = 0;
-    if ((i64)(e->stack_pointer - e->stack) >= (i64)16ull) {
+    (void)stack;
+    {
         const u32 t2 = load32(l1 + 40ull);
         const u64 t3 = l0;
         u32 v4;
@@ -17851,7 +17869,7 @@ static void forms_work_Work_form(struct engine *e, u64 l0, u64 l1, u32 l2) {
     trap();
 }
 
-static u32 core_machine_printing_call_len(struct engine *e, u64 l0, u32 l1) {
+static u32 core_machine_printing_call_len(u64 stack, u64 l0, u32 l1) {
     u64 l2 = 0;
     u64 l3 = 0;
     u64 l4 = 0;
@@ -17862,9 +17880,9 @@ static u32 core_machine_printing_call_len(struct engine *e, u64 l0, u32 l1) {
     u32 l9 = 0;
     u32 l10 = 0;
     u32 l11 = 0;
-    l2 = e->stack_pointer - 176ull;
-    e->stack_pointer = l2;
-    if ((i64)(l2 - e->stack) >= (i64)16ull) {
+    l2 = stack - 176ull;
+    stack = l2;
+    {
         store8(l2 + 72u, (u8)0u);
         store64(l2 + 64u, 0ull);
         store64(l2 + 56u, 0ull);
@@ -17874,7 +17892,7 @@ static u32 core_machine_printing_call_len(struct engine *e, u64 l0, u32 l1) {
         l1 = t2;
         store32(l2 + 144u, l1);
         store32(l2 + 140u, l1);
-        functions_arguments_Arguments_next(e, l2 + 48ull, l2 + 136ull, l0);
+        functions_arguments_Arguments_next(stack, l2 + 48ull, l2 + 136ull, l0);
         const u32 t3 = load32(l0 + 16ull);
         l1 = t3;
         const u64 t4 = load64(l0);
@@ -17889,7 +17907,7 @@ static u32 core_machine_printing_call_len(struct engine *e, u64 l0, u32 l1) {
             l4 = (u64)(l1 + l10);
             if (((u64)(l1 + l9) - l4) == 2ull) {
                 l4 = l3 + (l4 << 3);
-                functions_function_function_of(e, l2 + 96ull, l4, l4 + 8ull);
+                functions_function_function_of(stack, l2 + 96ull, l4, l4 + 8ull);
                 const u64 t9 = load64(l2 + 136u);
                 l4 = t9;
                 store64(l2 + 57u, l4);
@@ -17902,7 +17920,7 @@ static u32 core_machine_printing_call_len(struct engine *e, u64 l0, u32 l1) {
                 l10 = t11;
                 const u32 t12 = load8(l2 + 96u);
                 l9 = t12;
-                functions_arguments_Arguments_next(e, l2 + 32ull, l2 + 80ull, l0);
+                functions_arguments_Arguments_next(stack, l2 + 32ull, l2 + 80ull, l0);
                 if (l9 == 0) goto L7;
                 const u32 t13 = load32(l2 + 36u);
                 l9 = t13;
@@ -17925,7 +17943,7 @@ static u32 core_machine_printing_call_len(struct engine *e, u64 l0, u32 l1) {
                             const u32 t19 = load32(l0 + 40ull);
                             l8 = t19;
                             if (l8 >= 8u) {
-                                forms_work_Work_find_among_more(e, l2 + 16ull, l0, l11, l9);
+                                forms_work_Work_find_among_more(stack, l2 + 16ull, l0, l11, l9);
                                 const u32 t21 = load32(l2 + 20u);
                                 l8 = t21;
                                 const u32 t22 = load8(l2 + 16u);
@@ -17953,7 +17971,7 @@ static u32 core_machine_printing_call_len(struct engine *e, u64 l0, u32 l1) {
                                 }
                             }
                             L23:;
-                            forms_work_Work_find_among_few(e, l2 + 24ull, l0, l11, l9);
+                            forms_work_Work_find_among_few(stack, l2 + 24ull, l0, l11, l9);
                             const u32 t28 = load32(l2 + 28u);
                             l8 = t28;
                             const u32 t29 = load8(l2 + 24u);
@@ -17969,7 +17987,7 @@ static u32 core_machine_printing_call_len(struct engine *e, u64 l0, u32 l1) {
                     l8 = 0u;
                 }
                 L16:;
-                forms_work_Work_stored(e, l2 + 96ull, l0, l8);
+                forms_work_Work_stored(stack, l2 + 96ull, l0, l8);
                 const u64 t30 = load64(l2 + 120u);
                 l4 = t30;
                 l5 = l4 & 4294967295ull;
@@ -18009,7 +18027,7 @@ static u32 core_machine_printing_call_len(struct engine *e, u64 l0, u32 l1) {
                             l1 = t40;
                         }
                         L35:;
-                        itoa_Buffer_format(e, l2, l2 + 136ull, l1);
+                        itoa_Buffer_format(stack, l2, l2 + 136ull, l1);
                         const u32 t41 = load32(l2 + 8u);
                         v34 = t41 + 2u;
                     }
@@ -18030,17 +18048,17 @@ static u32 core_machine_printing_call_len(struct engine *e, u64 l0, u32 l1) {
             store64(l2 + 65u, l4);
             store64(l2 + 80u, l3);
             store64(l2 + 88u, l4);
-            functions_arguments_Arguments_next(e, l2 + 40ull, l2 + 80ull, l0);
+            functions_arguments_Arguments_next(stack, l2 + 40ull, l2 + 80ull, l0);
         }
         L7:;
-        e->stack_pointer = l2 + 176ull;
+        stack = l2 + 176ull;
         return l8;
     }
     trap();
     return 0;
 }
 
-static u32 core_display_show_items2(struct engine *e, u64 l0, u32 l1, u32 l2, u64 l3) {
+static u32 core_display_show_items2(u64 stack, u64 l0, u32 l1, u32 l2, u64 l3) {
     u64 l4 = 0;
     u64 l5 = 0;
     u64 l6 = 0;
@@ -18049,13 +18067,13 @@ static u32 core_display_show_items2(struct engine *e, u64 l0, u32 l1, u32 l2, u6
     u64 l9 = 0;
     u64 l10 = 0;
     u64 l11 = 0;
-    l4 = e->stack_pointer - 64ull;
-    e->stack_pointer = l4;
+    l4 = stack - 64ull;
+    stack = l4;
     {
         {
             {
                 l6 = l4;
-                if ((i64)(l6 - e->stack) >= (i64)16ull) {
+                {
                     if (l1 < l2) {
                         l10 = (u64)l2;
                         l8 = (u64)l1;
@@ -18136,7 +18154,7 @@ static u32 core_display_show_items2(struct engine *e, u64 l0, u32 l1, u32 l2, u6
                                     store64(l4, l5);
                                 }
                                 L24:;
-                                itoa_Buffer_format(e, l6 + 8ull, l6 + 24ull, l2);
+                                itoa_Buffer_format(stack, l6 + 8ull, l6 + 24ull, l2);
                                 const u64 t31 = load64(l3 + 8ull);
                                 l7 = t31;
                                 {
@@ -18228,20 +18246,21 @@ static u32 core_display_show_items2(struct engine *e, u64 l0, u32 l1, u32 l2, u6
         l1 = 1u;
     }
     L1:;
-    e->stack_pointer = l6 + 64ull;
+    stack = l6 + 64ull;
     return l1;
 }
 
-static u64 engine_active(struct engine *e, u64 l0, u64 l1, u64 l2) {
+static u64 engine_active(u64 stack, u64 l0, u64 l1, u64 l2) {
     u64 l3 = 0;
     u64 l4 = 0;
     u64 l5 = 0;
     u64 l6 = 0;
     u64 l7 = 0;
     u32 l8 = 0;
+    (void)stack;
     u64 v1;
     {
-        if ((i64)(e->stack_pointer - e->stack) >= (i64)16ull) {
+        {
             {
                 const u32 t4 = load32(l0 + 28ull);
                 l8 = t4;
@@ -18310,10 +18329,8 @@ static u64 engine_active(struct engine *e, u64 l0, u64 l1, u64 l2) {
     return l2;
 }
 
-static void engine_again(struct engine *e, u64 l0, u64 l1) {
-    if ((i64)(e->stack_pointer - e->stack) <= (i64)15ull) {
-        trap();
-    }
+static void engine_again(u64 stack, u64 l0, u64 l1) {
+    (void)stack;
     store64(l0 + 72ull, 0ull);
     store64(l0 + 64ull, l1);
     store32(l0 + 32ull, 0u);
@@ -18321,47 +18338,58 @@ static void engine_again(struct engine *e, u64 l0, u64 l1) {
     store64(l0 + 78ull, 0ull);
 }
 
-static u32 engine_awaits(struct engine *e, u64 l0) {
-    u32 l1 = 0;
-    u64 l2 = 0;
-    l2 = e->stack_pointer;
-    if ((i64)(l2 - e->stack) <= (i64)15ull) {
-        trap();
+static u32 engine_awaits(u64 stack, u64 l0) {
+    u64 l1 = 0;
+    u32 l2 = 0;
+    u32 l3 = 0;
+    l1 = stack - 16ull;
+    stack = l1;
+    {
+        {
+            {
+                store8(l1 + 14u, (u8)0u);
+                store16(l1 + 12u, (u16)0u);
+                core_machine_Machine_next_function(stack, l1 + 12ull, l0);
+                const u32 t4 = load8(l1 + 12u);
+                if (t4 != 1u) goto L1;
+                const u32 t5 = load8(l1 + 13u);
+                l3 = t5;
+                if ((l3 - 2u) < 23u) goto L1;
+                if (l3 - 1u) goto L2;
+                l2 = 2u;
+                goto L1;
+            }
+            trap();
+        }
+        L2:;
+        l2 = 1u;
     }
-    const u32 t2 = core_machine_Machine_awaits(e, l0);
-    l1 = t2;
-    e->stack_pointer = l2;
-    l1 = l1 & 255u;
-    return l1;
+    L1:;
+    stack = l1 + 16ull;
+    return l2;
 }
 
-static u64 engine_form_count(struct engine *e, u64 l0) {
-    if ((i64)(e->stack_pointer - e->stack) <= (i64)15ull) {
-        trap();
-    }
+static u64 engine_form_count(u64 stack, u64 l0) {
+    (void)stack;
     const u64 t2 = load32(l0 + 40ull);
     l0 = t2;
     return l0;
 }
 
-static u64 engine_machine_size(struct engine *e) {
-    if ((i64)(e->stack_pointer - e->stack) <= (i64)15ull) {
-        trap();
-    }
+static u64 engine_machine_size(u64 stack) {
+    (void)stack;
     return 88ull;
 }
 
-static u32 engine_meta(struct engine *e, u64 l0) {
+static u32 engine_meta(u64 stack, u64 l0) {
     u32 l1 = 0;
-    if ((i64)(e->stack_pointer - e->stack) <= (i64)15ull) {
-        trap();
-    }
+    (void)stack;
     const u32 t2 = load8(l0 + 56ull);
     l1 = t2;
     return l1;
 }
 
-static u64 engine_neutral(struct engine *e, u64 l0, u64 l1, u64 l2) {
+static u64 engine_neutral(u64 stack, u64 l0, u64 l1, u64 l2) {
     u32 l3 = 0;
     u32 l4 = 0;
     u32 l5 = 0;
@@ -18369,9 +18397,10 @@ static u64 engine_neutral(struct engine *e, u64 l0, u64 l1, u64 l2) {
     u64 l7 = 0;
     u64 l8 = 0;
     u64 l9 = 0;
+    (void)stack;
     u64 v1;
     {
-        if ((i64)(e->stack_pointer - e->stack) >= (i64)16ull) {
+        {
             const u32 t3 = load32(l0 + 16ull);
             l3 = t3;
             const u32 t4 = load32(l0 + 20ull);
@@ -18436,16 +18465,17 @@ static u64 engine_neutral(struct engine *e, u64 l0, u64 l1, u64 l2) {
     return l2;
 }
 
-static u32 engine_open(struct engine *e, u64 l0, u64 l1, u64 l2, u64 l3) {
+static u32 engine_open(u64 stack, u64 l0, u64 l1, u64 l2, u64 l3) {
     u64 l4 = 0;
     u64 l5 = 0;
     u64 l6 = 0;
     u64 l7 = 0;
     u64 l8 = 0;
     u32 l9 = 0;
+    (void)stack;
     u32 v1;
     {
-        if ((i64)(e->stack_pointer - e->stack) >= (i64)16ull) {
+        {
             u32 v3;
             if (l2 <= 16777216ull) {
                 {
@@ -18509,16 +18539,17 @@ static u32 engine_open(struct engine *e, u64 l0, u64 l1, u64 l2, u64 l3) {
     return l9;
 }
 
-static u64 engine_part(struct engine *e, u64 l0, u32 l1) {
+static u64 engine_part(u64 stack, u64 l0, u32 l1) {
     u64 l2 = 0;
     u32 l3 = 0;
     u32 l4 = 0;
     u32 l5 = 0;
+    (void)stack;
     u64 v1;
     {
         {
             {
-                if ((i64)(e->stack_pointer - e->stack) >= (i64)16ull) {
+                {
                     {
                         {
                             {
@@ -18576,17 +18607,18 @@ static u64 engine_part(struct engine *e, u64 l0, u32 l1) {
     return l0;
 }
 
-static u32 engine_rule(struct engine *e, u64 l0) {
+static u32 engine_rule(u64 stack, u64 l0) {
     u32 l1 = 0;
     u32 l2 = 0;
     u32 l3 = 0;
     u32 l4 = 0;
     u64 l5 = 0;
+    (void)stack;
     u32 v1;
     {
         {
             {
-                if ((i64)(e->stack_pointer - e->stack) >= (i64)16ull) {
+                {
                     const u32 t5 = load32(l0 + 24ull);
                     l2 = t5;
                     if (l2 == 0) { v1 = 0u; goto L1; }
@@ -18647,7 +18679,7 @@ static u32 engine_rule(struct engine *e, u64 l0) {
     return l1;
 }
 
-static void engine_run(struct engine *e, u64 l0, u64 l1, u64 l2, u64 l3, u64 l4, u64 l5, u64 l6, u64 l7) {
+static void engine_run(u64 stack, u64 l0, u64 l1, u64 l2, u64 l3, u64 l4, u64 l5, u64 l6, u64 l7) {
     u64 l8 = 0;
     u64 l9 = 0;
     u64 l10 = 0;
@@ -18690,11 +18722,11 @@ static void engine_run(struct engine *e, u64 l0, u64 l1, u64 l2, u64 l3, u64 l4,
     u32 l47 = 0;
     u32 l48 = 0;
     u32 l49 = 0;
-    l8 = e->stack_pointer - 208ull;
-    e->stack_pointer = l8;
+    l8 = stack - 208ull;
+    stack = l8;
     {
         l10 = l8;
-        if ((i64)(l10 - e->stack) >= (i64)16ull) {
+        {
             {
                 if (l2 >= 16777217ull) {
                     store64(l0 + 4u, 0ull);
@@ -18776,11 +18808,11 @@ static void engine_run(struct engine *e, u64 l0, u64 l1, u64 l2, u64 l3, u64 l4,
                 l8 = l10 + 184ull;
                 l11 = l10 + 40ull;
                 l13 = l10 + 8ull;
-                l9 = e->stack_pointer - 208ull;
-                e->stack_pointer = l9;
+                l9 = stack - 208ull;
+                stack = l9;
                 {
                     {
-                        if ((i64)(l9 - e->stack) >= (i64)16ull) {
+                        {
                             const u64 t12 = load64(l8);
                             l17 = t12;
                             store64(l9 + 72u, 0ull);
@@ -18804,7 +18836,7 @@ static void engine_run(struct engine *e, u64 l0, u64 l1, u64 l2, u64 l3, u64 l4,
                                     l27 = l9 + 141ull;
                                     L20:;
                                     {
-                                        core_scan_pass(e, l9 + 72ull, l7, l15, l9 + 92ull, l9 + 88ull);
+                                        core_scan_pass(stack, l9 + 72ull, l7, l15, l9 + 92ull, l9 + 88ull);
                                         u64 v21;
                                         {
                                             const u32 t22 = load8(l9 + 72u);
@@ -18830,7 +18862,7 @@ static void engine_run(struct engine *e, u64 l0, u64 l1, u64 l2, u64 l3, u64 l4,
                                                                 l2 = l7 + 16ull;
                                                                 const u32 t33 = load32(l2);
                                                                 if ((l39 - (l36 + t33)) <= 10u) {
-                                                                    const u32 t35 = space_space_Space_try_claim_spare(e, l7, 11ull);
+                                                                    const u32 t35 = space_space_Space_try_claim_spare(stack, l7, 11ull);
                                                                     if (t35 == 0) goto L28;
                                                                     const u32 t36 = load32(l7 + 28ull);
                                                                     l39 = t36;
@@ -18913,7 +18945,7 @@ static void engine_run(struct engine *e, u64 l0, u64 l1, u64 l2, u64 l3, u64 l4,
                                                                                                                 const u32 t60 = load8(l2 + 16ull);
                                                                                                                 if (t60 != 2u) goto L58;
                                                                                                             }
-                                                                                                            functions_function_function_of(e, l9 + 144ull, l2, l2 + 8ull);
+                                                                                                            functions_function_function_of(stack, l9 + 144ull, l2, l2 + 8ull);
                                                                                                             const u32 t61 = load8(l9 + 144u);
                                                                                                             if (t61 != 1u) goto L58;
                                                                                                             l38 = (u32)(l16 >> 32);
@@ -18957,7 +18989,7 @@ static void engine_run(struct engine *e, u64 l0, u64 l1, u64 l2, u64 l3, u64 l4,
                                                                                                                             L66:;
                                                                                                                             const u32 t68 = load8(l23);
                                                                                                                             l35 = t68;
-                                                                                                                            devices_slice_source_SliceSourceSource_take_held(e, l11, l35, l7);
+                                                                                                                            devices_slice_source_SliceSourceSource_take_held(stack, l11, l35, l7);
                                                                                                                             {
                                                                                                                                 {
                                                                                                                                     const u32 t71 = load8(l11 + 17ull);
@@ -18990,7 +19022,7 @@ static void engine_run(struct engine *e, u64 l0, u64 l1, u64 l2, u64 l3, u64 l4,
                                                                                                                                             l38 = l37 + t81;
                                                                                                                                             const u32 t82 = load32(l7 + 24ull);
                                                                                                                                             if (t79 == (l38 + t82)) {
-                                                                                                                                                const u32 t84 = space_space_Space_push_over_spare(e, l7, l9 + 144ull);
+                                                                                                                                                const u32 t84 = space_space_Space_push_over_spare(stack, l7, l9 + 144ull);
                                                                                                                                                 if (t84) goto L78;
                                                                                                                                                 goto L51;
                                                                                                                                             }
@@ -19006,7 +19038,7 @@ static void engine_run(struct engine *e, u64 l0, u64 l1, u64 l2, u64 l3, u64 l4,
                                                                                                                                             store32(l6, l42);
                                                                                                                                         }
                                                                                                                                         L78:;
-                                                                                                                                        devices_slice_source_SliceSourceSource_take_held(e, l11, l35, l7);
+                                                                                                                                        devices_slice_source_SliceSourceSource_take_held(stack, l11, l35, l7);
                                                                                                                                         const u32 t87 = load8(l11 + 17ull);
                                                                                                                                         if (t87 == 0) goto L72;
                                                                                                                                     }
@@ -19066,7 +19098,7 @@ static void engine_run(struct engine *e, u64 l0, u64 l1, u64 l2, u64 l3, u64 l4,
                                                                                                                                 store32(l6, l38);
                                                                                                                                 goto L50;
                                                                                                                             }
-                                                                                                                            const u32 t105 = space_space_Space_push_over_spare(e, l7, l9 + 144ull);
+                                                                                                                            const u32 t105 = space_space_Space_push_over_spare(stack, l7, l9 + 144ull);
                                                                                                                             if (t105) goto L50;
                                                                                                                             goto L51;
                                                                                                                         }
@@ -19083,7 +19115,7 @@ static void engine_run(struct engine *e, u64 l0, u64 l1, u64 l2, u64 l3, u64 l4,
                                                                                                                     store32(l9 + 192u, l38);
                                                                                                                     store32(l9 + 188u, l40);
                                                                                                                     store32(l9 + 184u, l43);
-                                                                                                                    functions_arguments_Arguments_next(e, l9 + 16ull, l9 + 184ull, l7);
+                                                                                                                    functions_arguments_Arguments_next(stack, l9 + 16ull, l9 + 184ull, l7);
                                                                                                                     const u32 t107 = load32(l9 + 20u);
                                                                                                                     l34 = t107;
                                                                                                                     const u32 t108 = load32(l9 + 16u);
@@ -19100,7 +19132,7 @@ static void engine_run(struct engine *e, u64 l0, u64 l1, u64 l2, u64 l3, u64 l4,
                                                                                                                                 const u32 t112 = load32(l7 + 40ull);
                                                                                                                                 l37 = t112;
                                                                                                                                 if (l37 >= 8u) {
-                                                                                                                                    forms_work_Work_find_among_more(e, l9, l7, l35, l34);
+                                                                                                                                    forms_work_Work_find_among_more(stack, l9, l7, l35, l34);
                                                                                                                                     const u32 t114 = load8(l9);
                                                                                                                                     l34 = t114;
                                                                                                                                     const u32 t115 = load32(l9 + 4u);
@@ -19128,7 +19160,7 @@ static void engine_run(struct engine *e, u64 l0, u64 l1, u64 l2, u64 l3, u64 l4,
                                                                                                                                     }
                                                                                                                                 }
                                                                                                                                 L116:;
-                                                                                                                                forms_work_Work_find_among_few(e, l9 + 8ull, l7, l35, l34);
+                                                                                                                                forms_work_Work_find_among_few(stack, l9 + 8ull, l7, l35, l34);
                                                                                                                                 const u32 t121 = load8(l9 + 8u);
                                                                                                                                 l34 = t121;
                                                                                                                                 const u32 t122 = load32(l9 + 12u);
@@ -19145,8 +19177,8 @@ static void engine_run(struct engine *e, u64 l0, u64 l1, u64 l2, u64 l3, u64 l4,
                                                                                                                         l35 = 0u;
                                                                                                                     }
                                                                                                                     L109:;
-                                                                                                                    forms_work_Work_stored(e, l9 + 144ull, l7, l35);
-                                                                                                                    const u32 t123 = core_display_show_form(e, l9 + 144ull, l13);
+                                                                                                                    forms_work_Work_stored(stack, l9 + 144ull, l7, l35);
+                                                                                                                    const u32 t123 = core_display_show_form(stack, l9 + 144ull, l13);
                                                                                                                     l34 = t123 & 255u;
                                                                                                                     l37 = l34 ? 5u : 0u;
                                                                                                                     v49 = l34 + 3u; goto L49;
@@ -19172,7 +19204,7 @@ static void engine_run(struct engine *e, u64 l0, u64 l1, u64 l2, u64 l3, u64 l4,
                                                                                                                     store32(l9 + 152u, l38);
                                                                                                                     store32(l9 + 148u, l40);
                                                                                                                     store32(l9 + 144u, l43);
-                                                                                                                    functions_arguments_Arguments_next(e, l9 + 24ull, l9 + 144ull, l7);
+                                                                                                                    functions_arguments_Arguments_next(stack, l9 + 24ull, l9 + 144ull, l7);
                                                                                                                     const u32 t127 = load32(l9 + 24u);
                                                                                                                     l35 = t127;
                                                                                                                     const u32 t128 = load32(l9 + 28u);
@@ -19244,23 +19276,23 @@ static void engine_run(struct engine *e, u64 l0, u64 l1, u64 l2, u64 l3, u64 l4,
                                                                                                                                                                                                 }
                                                                                                                                                                                             }
                                                                                                                                                                                             L153:;
-                                                                                                                                                                                            functions_comparing_equal(e, l9 + 120ull, l7, l9 + 128ull);
+                                                                                                                                                                                            functions_comparing_equal(stack, l9 + 120ull, l7, l9 + 128ull);
                                                                                                                                                                                             goto L54;
                                                                                                                                                                                         }
                                                                                                                                                                                         L152:;
-                                                                                                                                                                                        functions_comparing_greater(e, l9 + 120ull, l7, l9 + 128ull);
+                                                                                                                                                                                        functions_comparing_greater(stack, l9 + 120ull, l7, l9 + 128ull);
                                                                                                                                                                                         goto L54;
                                                                                                                                                                                     }
                                                                                                                                                                                     L151:;
-                                                                                                                                                                                    functions_arithmetic_arithmetic(e, l9 + 120ull, l7, l44, l9 + 128ull);
+                                                                                                                                                                                    functions_arithmetic_arithmetic(stack, l9 + 120ull, l7, l44, l9 + 128ull);
                                                                                                                                                                                     goto L54;
                                                                                                                                                                                 }
                                                                                                                                                                                 L150:;
-                                                                                                                                                                                functions_bit_strings_union(e, l9 + 120ull, l7, l9 + 128ull);
+                                                                                                                                                                                functions_bit_strings_union(stack, l9 + 120ull, l7, l9 + 128ull);
                                                                                                                                                                                 goto L54;
                                                                                                                                                                             }
                                                                                                                                                                             L149:;
-                                                                                                                                                                            functions_bit_strings_intersection(e, l9 + 120ull, l7, l9 + 128ull);
+                                                                                                                                                                            functions_bit_strings_intersection(stack, l9 + 120ull, l7, l9 + 128ull);
                                                                                                                                                                             goto L54;
                                                                                                                                                                         }
                                                                                                                                                                         L148:;
@@ -19270,7 +19302,7 @@ static void engine_run(struct engine *e, u64 l0, u64 l1, u64 l2, u64 l3, u64 l4,
                                                                                                                                                                         const u64 t155 = load64(l9 + 136u);
                                                                                                                                                                         store64(l9 + 192u, t155);
                                                                                                                                                                         store64(l9 + 156u, 0ull);
-                                                                                                                                                                        functions_arguments_Arguments_next(e, l9 + 32ull, l9 + 184ull, l7);
+                                                                                                                                                                        functions_arguments_Arguments_next(stack, l9 + 32ull, l9 + 184ull, l7);
                                                                                                                                                                         const u32 t156 = load32(l9 + 32u);
                                                                                                                                                                         l38 = t156;
                                                                                                                                                                         const u32 t157 = load32(l9 + 36u);
@@ -19298,7 +19330,7 @@ static void engine_run(struct engine *e, u64 l0, u64 l1, u64 l2, u64 l3, u64 l4,
                                                                                                                                                                         store32(l9 + 152u, l37);
                                                                                                                                                                         store32(l9 + 148u, l34);
                                                                                                                                                                         store32(l9 + 144u, 2u);
-                                                                                                                                                                        functions_bit_strings_give_bits(e, l9 + 200ull, l7, l38, l34, l9 + 144ull);
+                                                                                                                                                                        functions_bit_strings_give_bits(stack, l9 + 200ull, l7, l38, l34, l9 + 144ull);
                                                                                                                                                                         const u32 t162 = load16(l9 + 200u);
                                                                                                                                                                         store16(l9 + 120u, (u16)t162);
                                                                                                                                                                         const u32 t163 = load32(l9 + 204u);
@@ -19306,39 +19338,39 @@ static void engine_run(struct engine *e, u64 l0, u64 l1, u64 l2, u64 l3, u64 l4,
                                                                                                                                                                         goto L54;
                                                                                                                                                                     }
                                                                                                                                                                     L147:;
-                                                                                                                                                                    functions_bit_strings_shift(e, l9 + 120ull, l7, l9 + 128ull);
+                                                                                                                                                                    functions_bit_strings_shift(stack, l9 + 120ull, l7, l9 + 128ull);
                                                                                                                                                                     goto L54;
                                                                                                                                                                 }
                                                                                                                                                                 L146:;
-                                                                                                                                                                functions_bit_strings_rotate(e, l9 + 120ull, l7, l9 + 128ull);
+                                                                                                                                                                functions_bit_strings_rotate(stack, l9 + 120ull, l7, l9 + 128ull);
                                                                                                                                                                 goto L54;
                                                                                                                                                             }
                                                                                                                                                             L145:;
-                                                                                                                                                            functions_form_parts_call_segment(e, l9 + 120ull, l7, l9 + 128ull);
+                                                                                                                                                            functions_form_parts_call_segment(stack, l9 + 120ull, l7, l9 + 128ull);
                                                                                                                                                             goto L54;
                                                                                                                                                         }
                                                                                                                                                         L144:;
-                                                                                                                                                        functions_form_parts_call_character(e, l9 + 120ull, l7, l9 + 128ull);
+                                                                                                                                                        functions_form_parts_call_character(stack, l9 + 120ull, l7, l9 + 128ull);
                                                                                                                                                         goto L54;
                                                                                                                                                     }
                                                                                                                                                     L143:;
-                                                                                                                                                    functions_form_parts_call_number(e, l9 + 120ull, l7, l9 + 128ull);
+                                                                                                                                                    functions_form_parts_call_number(stack, l9 + 120ull, l7, l9 + 128ull);
                                                                                                                                                     goto L54;
                                                                                                                                                 }
                                                                                                                                                 L142:;
-                                                                                                                                                functions_form_parts_initial_part(e, l9 + 120ull, l7, l9 + 128ull);
+                                                                                                                                                functions_form_parts_initial_part(stack, l9 + 120ull, l7, l9 + 128ull);
                                                                                                                                                 goto L54;
                                                                                                                                             }
                                                                                                                                             L141:;
-                                                                                                                                            functions_form_parts_call_restore(e, l9 + 120ull, l7, l9 + 128ull);
+                                                                                                                                            functions_form_parts_call_restore(stack, l9 + 120ull, l7, l9 + 128ull);
                                                                                                                                             goto L54;
                                                                                                                                         }
                                                                                                                                         L140:;
-                                                                                                                                        functions_form_calls_define_string(e, l9 + 120ull, l7, l9 + 128ull);
+                                                                                                                                        functions_form_calls_define_string(stack, l9 + 120ull, l7, l9 + 128ull);
                                                                                                                                         goto L54;
                                                                                                                                     }
                                                                                                                                     L139:;
-                                                                                                                                    functions_form_calls_segment_string(e, l9 + 120ull, l7, l9 + 128ull);
+                                                                                                                                    functions_form_calls_segment_string(stack, l9 + 120ull, l7, l9 + 128ull);
                                                                                                                                     goto L54;
                                                                                                                                 }
                                                                                                                                 L138:;
@@ -19348,7 +19380,7 @@ static void engine_run(struct engine *e, u64 l0, u64 l1, u64 l2, u64 l3, u64 l4,
                                                                                                                                 store64(l9 + 144u, t165);
                                                                                                                                 const u32 t166 = load8(l9 + 156u);
                                                                                                                                 l37 = t166;
-                                                                                                                                functions_arguments_Arguments_next(e, l9 + 64ull, l9 + 144ull, l7);
+                                                                                                                                functions_arguments_Arguments_next(stack, l9 + 64ull, l9 + 144ull, l7);
                                                                                                                                 const u32 t167 = load32(l9 + 68u);
                                                                                                                                 l34 = t167;
                                                                                                                                 const u32 t168 = load32(l9 + 64u);
@@ -19358,7 +19390,7 @@ static void engine_run(struct engine *e, u64 l0, u64 l1, u64 l2, u64 l3, u64 l4,
                                                                                                                                     const u32 t170 = load32(l7 + 40ull);
                                                                                                                                     l38 = t170;
                                                                                                                                     if (l38 >= 8u) {
-                                                                                                                                        forms_work_Work_find_among_more(e, l9 + 48ull, l7, l35, l34);
+                                                                                                                                        forms_work_Work_find_among_more(stack, l9 + 48ull, l7, l35, l34);
                                                                                                                                         const u32 t172 = load8(l9 + 48u);
                                                                                                                                         l34 = t172;
                                                                                                                                         const u32 t173 = load32(l9 + 52u);
@@ -19386,7 +19418,7 @@ static void engine_run(struct engine *e, u64 l0, u64 l1, u64 l2, u64 l3, u64 l4,
                                                                                                                                         }
                                                                                                                                     }
                                                                                                                                     L174:;
-                                                                                                                                    forms_work_Work_find_among_few(e, l9 + 56ull, l7, l35, l34);
+                                                                                                                                    forms_work_Work_find_among_few(stack, l9 + 56ull, l7, l35, l34);
                                                                                                                                     const u32 t179 = load8(l9 + 56u);
                                                                                                                                     l34 = t179;
                                                                                                                                     const u32 t180 = load32(l9 + 60u);
@@ -19398,15 +19430,15 @@ static void engine_run(struct engine *e, u64 l0, u64 l1, u64 l2, u64 l3, u64 l4,
                                                                                                                                 goto L55;
                                                                                                                             }
                                                                                                                             L137:;
-                                                                                                                            functions_form_calls_delete_definition(e, l9 + 120ull, l7, l9 + 128ull);
+                                                                                                                            functions_form_calls_delete_definition(stack, l9 + 120ull, l7, l9 + 128ull);
                                                                                                                             goto L54;
                                                                                                                         }
                                                                                                                         L136:;
-                                                                                                                        functions_form_calls_delete_all(e, l9 + 120ull, l7);
+                                                                                                                        functions_form_calls_delete_all(stack, l9 + 120ull, l7);
                                                                                                                         goto L54;
                                                                                                                     }
                                                                                                                     L135:;
-                                                                                                                    functions_form_calls_list_names(e, l9 + 120ull, l7, l9 + 128ull);
+                                                                                                                    functions_form_calls_list_names(stack, l9 + 120ull, l7, l9 + 128ull);
                                                                                                                     goto L54;
                                                                                                                 }
                                                                                                                 L134:;
@@ -19423,16 +19455,16 @@ static void engine_run(struct engine *e, u64 l0, u64 l1, u64 l2, u64 l3, u64 l4,
                                                                                                             l4 = l9 + 112ull;
                                                                                                             l8 = l7;
                                                                                                             l6 = l9 + 96ull;
-                                                                                                            l2 = e->stack_pointer - 32ull;
-                                                                                                            e->stack_pointer = l2;
+                                                                                                            l2 = stack - 32ull;
+                                                                                                            stack = l2;
                                                                                                             {
                                                                                                                 l1 = l2;
-                                                                                                                if ((i64)(l1 - e->stack) >= (i64)16ull) {
+                                                                                                                {
                                                                                                                     const u64 t183 = load64(l6 + 8u);
                                                                                                                     store64(l1 + 24u, t183);
                                                                                                                     const u64 t184 = load64(l6);
                                                                                                                     store64(l1 + 16u, t184);
-                                                                                                                    functions_arguments_Arguments_next(e, l1 + 8ull, l1 + 16ull, l8);
+                                                                                                                    functions_arguments_Arguments_next(stack, l1 + 8ull, l1 + 16ull, l8);
                                                                                                                     l37 = 3u;
                                                                                                                     u32 v185;
                                                                                                                     {
@@ -19484,7 +19516,7 @@ static void engine_run(struct engine *e, u64 l0, u64 l1, u64 l2, u64 l3, u64 l4,
                                                                                                                             const u64 t203 = load64(l8);
                                                                                                                             const u64 t204 = load64(l13);
                                                                                                                             const u64 t205 = load64(l13 + 8ull);
-                                                                                                                            const u64 t206 = c_filling_put_characters(e, l6, l2, t203, t204, t205);
+                                                                                                                            const u64 t206 = c_filling_put_characters(stack, l6, l2, t203, t204, t205);
                                                                                                                             l6 = t206;
                                                                                                                             const u64 t207 = load64(l8);
                                                                                                                             store64(l8, l6 + t207);
@@ -19502,7 +19534,7 @@ static void engine_run(struct engine *e, u64 l0, u64 l1, u64 l2, u64 l3, u64 l4,
                                                                                                                     store8(l4, (u8)l37);
                                                                                                                     store32(l4 + 4ull, 0u);
                                                                                                                     store8(l4 + 1ull, (u8)l35);
-                                                                                                                    e->stack_pointer = l1 + 32ull;
+                                                                                                                    stack = l1 + 32ull;
                                                                                                                     goto L181;
                                                                                                                 }
                                                                                                                 trap();
@@ -19663,10 +19695,10 @@ static void engine_run(struct engine *e, u64 l0, u64 l1, u64 l2, u64 l3, u64 l4,
                                                                                                                                     if (((t263 + t264) | (t265 + t266)) & 255u) goto L218;
                                                                                                                                     l38 = l35 + l43;
                                                                                                                                     l8 = (u64)(l37 - l38);
-                                                                                                                                    core_slice_edits_slice_T_copy_from_slice(e, l6 + (l8 << 3), l6 + (l12 << 3), 4ull);
+                                                                                                                                    core_slice_edits_slice_T_copy_from_slice(stack, l6 + (l8 << 3), l6 + (l12 << 3), 4ull);
                                                                                                                                     const u64 t267 = l8 - l12;
                                                                                                                                     l8 = l2 - 4ull;
-                                                                                                                                    core_slice_edits_slice_T_copy_from_slice(e, l6 + ((t267 + l8) << 3), l6 + (l8 << 3), 4ull);
+                                                                                                                                    core_slice_edits_slice_T_copy_from_slice(stack, l6 + ((t267 + l8) << 3), l6 + (l8 << 3), 4ull);
                                                                                                                                     goto L215;
                                                                                                                                 }
                                                                                                                                 l8 = l6 + (l12 << 3);
@@ -19682,10 +19714,10 @@ static void engine_run(struct engine *e, u64 l0, u64 l1, u64 l2, u64 l3, u64 l4,
                                                                                                                                 if (t270 | t271) goto L218;
                                                                                                                                 l38 = l35 + l43;
                                                                                                                                 l8 = (u64)(l37 - l38);
-                                                                                                                                core_slice_edits_slice_T_copy_from_slice(e, l6 + (l8 << 3), l6 + (l12 << 3), 2ull);
+                                                                                                                                core_slice_edits_slice_T_copy_from_slice(stack, l6 + (l8 << 3), l6 + (l12 << 3), 2ull);
                                                                                                                                 const u64 t272 = l8 - l12;
                                                                                                                                 l8 = l2 - 2ull;
-                                                                                                                                core_slice_edits_slice_T_copy_from_slice(e, l6 + ((t272 + l8) << 3), l6 + (l8 << 3), 2ull);
+                                                                                                                                core_slice_edits_slice_T_copy_from_slice(stack, l6 + ((t272 + l8) << 3), l6 + (l8 << 3), 2ull);
                                                                                                                                 goto L215;
                                                                                                                             }
                                                                                                                             L256:;
@@ -19800,11 +19832,11 @@ static void engine_run(struct engine *e, u64 l0, u64 l1, u64 l2, u64 l3, u64 l4,
                                                                                                                             }
                                                                                                                         }
                                                                                                                         l8 = l1 - 8ull;
-                                                                                                                        core_slice_edits_slice_T_copy_from_slice(e, l6 + ((l8 + l18) << 3), l6 + ((l8 + l12) << 3), 8ull);
+                                                                                                                        core_slice_edits_slice_T_copy_from_slice(stack, l6 + ((l8 + l18) << 3), l6 + ((l8 + l12) << 3), 8ull);
                                                                                                                         store32(l7 + 24ull, l38);
                                                                                                                         goto L214;
                                                                                                                     }
-                                                                                                                    store_item_copies_load_items_over_spare(e, l9 + 40ull, l7, l34, l38 + l42);
+                                                                                                                    store_item_copies_load_items_over_spare(stack, l9 + 40ull, l7, l34, l38 + l42);
                                                                                                                     const u32 t319 = load8(l9 + 40u);
                                                                                                                     if (t319 != 1u) goto L218;
                                                                                                                     const u32 t320 = load32(l9 + 44u);
@@ -19819,7 +19851,7 @@ static void engine_run(struct engine *e, u64 l0, u64 l1, u64 l2, u64 l3, u64 l4,
                                                                                                             {
                                                                                                                 const u32 t322 = load32(l7 + 44ull);
                                                                                                                 if (l44 != t322) {
-                                                                                                                    const u32 t324 = forms_work_Work_fill_other(e, l7, l44, l48, l47);
+                                                                                                                    const u32 t324 = forms_work_Work_fill_other(stack, l7, l44, l48, l47);
                                                                                                                     v321 = t324; goto L321;
                                                                                                                 }
                                                                                                                 const u64 t325 = load64(l7);
@@ -19830,7 +19862,7 @@ static void engine_run(struct engine *e, u64 l0, u64 l1, u64 l2, u64 l3, u64 l4,
                                                                                                                 const u32 t328 = load32(l8 + 4ull);
                                                                                                                 l34 = (l34 + t328) + 3u;
                                                                                                                 const u32 t329 = load32(l8 + 12ull);
-                                                                                                                const u32 t330 = store_item_copies_fill_items(e, l7, t327 + l34, l34 + t329, l48, l47);
+                                                                                                                const u32 t330 = store_item_copies_fill_items(stack, l7, t327 + l34, l34 + t329, l48, l47);
                                                                                                                 v321 = t330;
                                                                                                             }
                                                                                                             L321:;
@@ -19841,7 +19873,7 @@ static void engine_run(struct engine *e, u64 l0, u64 l1, u64 l2, u64 l3, u64 l4,
                                                                                                             goto L54;
                                                                                                         }
                                                                                                         L217:;
-                                                                                                        space_copies_copy_long(e, l6, l12, l2, l18);
+                                                                                                        space_copies_copy_long(stack, l6, l12, l2, l18);
                                                                                                         goto L215;
                                                                                                     }
                                                                                                     L216:;
@@ -19960,7 +19992,7 @@ static void engine_run(struct engine *e, u64 l0, u64 l1, u64 l2, u64 l3, u64 l4,
                                                 l8 = l7 + 20ull;
                                                 const u32 t348 = load32(l8);
                                                 l34 = t348;
-                                                core_delivery_deliver(e, l7, l39, l40);
+                                                core_delivery_deliver(stack, l7, l39, l40);
                                                 l36 = l34 + (l36 + l45);
                                                 const u32 t349 = load32(l8);
                                                 l39 = t349;
@@ -20000,7 +20032,7 @@ static void engine_run(struct engine *e, u64 l0, u64 l1, u64 l2, u64 l3, u64 l4,
                     store64(l14, (u64)l37 & 255ull);
                 }
                 L9:;
-                e->stack_pointer = l9 + 208ull;
+                stack = l9 + 208ull;
                 const u32 t352 = load8(l10 + 160u);
                 l44 = t352;
                 const u32 t353 = load32(l10 + 176u);
@@ -20020,7 +20052,7 @@ static void engine_run(struct engine *e, u64 l0, u64 l1, u64 l2, u64 l3, u64 l4,
                 store32(l0, l44 + 1u);
             }
             L3:;
-            e->stack_pointer = l10 + 208ull;
+            stack = l10 + 208ull;
             goto L1;
         }
         trap();
@@ -20028,7 +20060,7 @@ static void engine_run(struct engine *e, u64 l0, u64 l1, u64 l2, u64 l3, u64 l4,
     L1:;
 }
 
-static u64 engine_form_codes(struct engine *e, u64 l0, u64 l1, u64 l2, u64 l3) {
+static u64 engine_form_codes(u64 stack, u64 l0, u64 l1, u64 l2, u64 l3) {
     u64 l4 = 0;
     u64 l5 = 0;
     u64 l6 = 0;
@@ -20038,12 +20070,12 @@ static u64 engine_form_codes(struct engine *e, u64 l0, u64 l1, u64 l2, u64 l3) {
     u64 v1;
     {
         l5 = l0;
-        l0 = e->stack_pointer - 48ull;
-        e->stack_pointer = l0;
+        l0 = stack - 48ull;
+        stack = l0;
         l4 = l0;
-        if ((i64)(l4 - e->stack) >= (i64)16ull) {
+        {
             if (l1 <= 4294967295ull) {
-                forms_work_Work_form(e, l4, l5, (u32)l1);
+                forms_work_Work_form(stack, l4, l5, (u32)l1);
             }
             u64 v4;
             {
@@ -20054,7 +20086,7 @@ static u64 engine_form_codes(struct engine *e, u64 l0, u64 l1, u64 l2, u64 l3) {
                 store64(l4 + 24u, 0ull);
                 store64(l4 + 16u, 0ull);
                 store64(l4 + 8u, 0ull);
-                forms_work_Work_stored(e, l4 + 8ull, l5, (u32)l1);
+                forms_work_Work_stored(stack, l4 + 8ull, l5, (u32)l1);
                 const u64 t6 = load64(l4 + 32u);
                 l7 = t6;
                 l6 = l7 & 4294967295ull;
@@ -20106,7 +20138,7 @@ static u64 engine_form_codes(struct engine *e, u64 l0, u64 l1, u64 l2, u64 l3) {
             }
             L4:;
             l0 = v4;
-            e->stack_pointer = l4 + 48ull;
+            stack = l4 + 48ull;
             v1 = l0; goto L1;
         }
         trap();
@@ -20116,7 +20148,7 @@ static u64 engine_form_codes(struct engine *e, u64 l0, u64 l1, u64 l2, u64 l3) {
     return l3;
 }
 
-static u64 engine_form_name(struct engine *e, u64 l0, u64 l1, u64 l2, u64 l3) {
+static u64 engine_form_name(u64 stack, u64 l0, u64 l1, u64 l2, u64 l3) {
     u64 l4 = 0;
     u64 l5 = 0;
     u64 l6 = 0;
@@ -20125,12 +20157,12 @@ static u64 engine_form_name(struct engine *e, u64 l0, u64 l1, u64 l2, u64 l3) {
     u64 v1;
     {
         l6 = l0;
-        l5 = e->stack_pointer - 48ull;
-        e->stack_pointer = l5;
+        l5 = stack - 48ull;
+        stack = l5;
         l4 = l5;
-        if ((i64)(l4 - e->stack) >= (i64)16ull) {
+        {
             if (l1 <= 4294967295ull) {
-                forms_work_Work_form(e, l4, l6, (u32)l1);
+                forms_work_Work_form(stack, l4, l6, (u32)l1);
             }
             {
                 const u64 t5 = load32(l6 + 40ull);
@@ -20141,7 +20173,7 @@ static u64 engine_form_name(struct engine *e, u64 l0, u64 l1, u64 l2, u64 l3) {
                 store64(l4 + 24u, 0ull);
                 store64(l4 + 16u, 0ull);
                 store64(l4 + 8u, 0ull);
-                forms_work_Work_stored(e, l4 + 8ull, l6, (u32)l1);
+                forms_work_Work_stored(stack, l4 + 8ull, l6, (u32)l1);
                 const u64 t6 = load64(l4 + 16u);
                 l7 = t6;
                 l1 = (l3 < l7) ? l3 : l7;
@@ -20195,7 +20227,7 @@ static u64 engine_form_name(struct engine *e, u64 l0, u64 l1, u64 l2, u64 l3) {
                 store8(t19, (u8)v20);
             }
             L4:;
-            e->stack_pointer = l4 + 48ull;
+            stack = l4 + 48ull;
             v1 = l7; goto L1;
         }
         trap();
@@ -20205,16 +20237,16 @@ static u64 engine_form_name(struct engine *e, u64 l0, u64 l1, u64 l2, u64 l3) {
     return l3;
 }
 
-static u64 engine_form_pointer(struct engine *e, u64 l0, u64 l1) {
+static u64 engine_form_pointer(u64 stack, u64 l0, u64 l1) {
     u64 l2 = 0;
-    l2 = e->stack_pointer - 48ull;
-    e->stack_pointer = l2;
+    l2 = stack - 48ull;
+    stack = l2;
     u64 v1;
     {
         {
-            if ((i64)(l2 - e->stack) >= (i64)16ull) {
+            {
                 if (l1 <= 4294967295ull) {
-                    forms_work_Work_form(e, l2, l0, (u32)l1);
+                    forms_work_Work_form(stack, l2, l0, (u32)l1);
                 }
                 const u64 t5 = load32(l0 + 40ull);
                 if (l1 < t5) goto L2;
@@ -20228,17 +20260,17 @@ static u64 engine_form_pointer(struct engine *e, u64 l0, u64 l1) {
         store64(l2 + 24u, 0ull);
         store64(l2 + 16u, 0ull);
         store64(l2 + 8u, 0ull);
-        forms_work_Work_stored(e, l2 + 8ull, l0, (u32)l1);
+        forms_work_Work_stored(stack, l2 + 8ull, l0, (u32)l1);
         const u64 t6 = load32(l2 + 40u);
         v1 = t6;
     }
     L1:;
     l1 = v1;
-    e->stack_pointer = l2 + 48ull;
+    stack = l2 + 48ull;
     return l1;
 }
 
-static u64 engine_form_text(struct engine *e, u64 l0, u64 l1, u64 l2, u64 l3) {
+static u64 engine_form_text(u64 stack, u64 l0, u64 l1, u64 l2, u64 l3) {
     u64 l4 = 0;
     u64 l5 = 0;
     u64 l6 = 0;
@@ -20247,12 +20279,12 @@ static u64 engine_form_text(struct engine *e, u64 l0, u64 l1, u64 l2, u64 l3) {
     u64 v1;
     {
         l5 = l1;
-        l1 = e->stack_pointer - 112ull;
-        e->stack_pointer = l1;
+        l1 = stack - 112ull;
+        stack = l1;
         l4 = l1;
-        if ((i64)(l4 - e->stack) >= (i64)16ull) {
+        {
             if (l5 <= 4294967295ull) {
-                forms_work_Work_form(e, l4 + 24ull, l0, (u32)l5);
+                forms_work_Work_form(stack, l4 + 24ull, l0, (u32)l5);
             }
             l1 = 0ull;
             const u64 t4 = load32(l0 + 40ull);
@@ -20263,7 +20295,7 @@ static u64 engine_form_text(struct engine *e, u64 l0, u64 l1, u64 l2, u64 l3) {
                 store64(l4 + 48u, 0ull);
                 store64(l4 + 40u, 0ull);
                 store64(l4 + 32u, 0ull);
-                forms_work_Work_stored(e, l4 + 32ull, l0, (u32)l5);
+                forms_work_Work_stored(stack, l4 + 32ull, l0, (u32)l5);
                 const u64 t6 = load64(l4 + 56u);
                 l0 = t6;
                 l2 = l0 & 4294967295ull;
@@ -20302,7 +20334,7 @@ static u64 engine_form_text(struct engine *e, u64 l0, u64 l1, u64 l2, u64 l3) {
                                 l7 = t16;
                             }
                             L11:;
-                            itoa_Buffer_format(e, l4 + 8ull, l4 + 72ull, l7);
+                            itoa_Buffer_format(stack, l4 + 8ull, l4 + 72ull, l7);
                             const u32 t17 = load32(l4 + 16u);
                             v10 = t17 + 2u;
                         }
@@ -20320,9 +20352,9 @@ static u64 engine_form_text(struct engine *e, u64 l0, u64 l1, u64 l2, u64 l3) {
                 store64(l4 + 88u, 0ull);
                 store64(l4 + 72u, l6);
                 store64(l4 + 80u, (l1 > l3) ? l3 : l1);
-                (void)core_display_show_form(e, l4 + 32ull, l4 + 72ull);
+                (void)core_display_show_form(stack, l4 + 32ull, l4 + 72ull);
             }
-            e->stack_pointer = l4 + 112ull;
+            stack = l4 + 112ull;
             v1 = l1; goto L1;
         }
         trap();
@@ -20332,196 +20364,198 @@ static u64 engine_form_text(struct engine *e, u64 l0, u64 l1, u64 l2, u64 l3) {
     return l3;
 }
 
-static void engine_turn(struct engine *e, u64 l0, u64 l1, u64 l2, u64 l3, u64 l4, u64 l5, u32 l6, u64 l7) {
-    u32 l8 = 0;
-    u32 l9 = 0;
-    u32 l10 = 0;
-    u32 l11 = 0;
-    u32 l12 = 0;
-    u32 l13 = 0;
-    u32 l14 = 0;
-    u32 l15 = 0;
-    u32 l16 = 0;
-    u32 l17 = 0;
-    u32 l18 = 0;
-    u32 l19 = 0;
-    u32 l20 = 0;
-    u32 l21 = 0;
-    u32 l22 = 0;
-    u32 l23 = 0;
-    u32 l24 = 0;
+static void engine_turn(u64 stack, u64 l0, u64 l1, u64 l2, u64 l3, u64 l4, u64 l5, u32 l6, u64 l7) {
+    u64 l8 = 0;
+    u64 l9 = 0;
+    u64 l10 = 0;
+    u64 l11 = 0;
+    u64 l12 = 0;
+    u64 l13 = 0;
+    u64 l14 = 0;
+    u64 l15 = 0;
+    u64 l16 = 0;
+    u64 l17 = 0;
+    u64 l18 = 0;
+    u64 l19 = 0;
+    u64 l20 = 0;
+    u64 l21 = 0;
+    u64 l22 = 0;
+    u64 l23 = 0;
+    u64 l24 = 0;
     u64 l25 = 0;
     u64 l26 = 0;
     u64 l27 = 0;
     u64 l28 = 0;
     u64 l29 = 0;
-    u64 l30 = 0;
-    u64 l31 = 0;
-    u64 l32 = 0;
-    u64 l33 = 0;
-    u64 l34 = 0;
-    u64 l35 = 0;
-    u64 l36 = 0;
-    u64 l37 = 0;
-    u64 l38 = 0;
-    u64 l39 = 0;
-    u64 l40 = 0;
-    u64 l41 = 0;
-    u64 l42 = 0;
-    u64 l43 = 0;
-    u64 l44 = 0;
-    u64 l45 = 0;
-    u64 l46 = 0;
-    u64 l47 = 0;
-    l36 = l0;
-    l28 = l1;
-    l39 = l3;
-    l24 = l6;
-    l25 = e->stack_pointer - 208ull;
-    e->stack_pointer = l25;
+    u32 l30 = 0;
+    u32 l31 = 0;
+    u32 l32 = 0;
+    u32 l33 = 0;
+    u32 l34 = 0;
+    u32 l35 = 0;
+    u32 l36 = 0;
+    u32 l37 = 0;
+    u32 l38 = 0;
+    u32 l39 = 0;
+    u32 l40 = 0;
+    u32 l41 = 0;
+    u32 l42 = 0;
+    u32 l43 = 0;
+    u32 l44 = 0;
+    u32 l45 = 0;
+    u32 l46 = 0;
+    l20 = l0;
+    l12 = l1;
+    l8 = l2;
+    l45 = l6;
+    l9 = stack - 224ull;
+    stack = l9;
     {
-        if ((i64)(l25 - e->stack) >= (i64)16ull) {
-            store64(l25 + 88u, 0ull);
-            store64(l25 + 80u, l39);
-            store64(l25 + 96u, 0ull);
-            store64(l25 + 48u, 0ull);
-            store64(l25 + 40u, l5);
-            store64(l25 + 56u, 0ull);
-            store64(l25 + 64u, 0ull);
-            store64(l25 + 72u, l2 + ((l2 == 0) ? 4096ull : 0ull));
-            store64(l25 + 32u, l4 + ((l4 == 0) ? 4096ull : 0ull));
+        {
+            store64(l9 + 96u, 0ull);
+            store64(l9 + 88u, l3);
+            store64(l9 + 104u, 0ull);
+            store64(l9 + 56u, 0ull);
+            store64(l9 + 48u, l5);
+            store64(l9 + 64u, 0ull);
+            store64(l9 + 72u, 0ull);
+            store64(l9 + 80u, l8 + ((l8 == 0) ? 4096ull : 0ull));
+            store64(l9 + 40u, l4 + ((l4 == 0) ? 4096ull : 0ull));
             {
-                if (l7 == 0) goto L3;
-                l40 = l28 + 56ull;
-                l43 = l25 + 181ull;
-                l44 = l25 + 165ull;
-                l45 = l25 + 117ull;
+                if (l7 == 0) {
+                    l5 = 0ull;
+                    goto L3;
+                }
+                l23 = l12 + 56ull;
+                l25 = l9 + 197ull;
+                l26 = l9 + 181ull;
+                l27 = l9 + 125ull;
                 l4 = 0ull;
-                L4:;
                 {
-                    store64(l25 + 144u, 0ull);
-                    store64(l25 + 104u, 0ull);
-                    store64(l25 + 112u, 0ull);
-                    store64(l25 + 120u, 0ull);
-                    l5 = l28 + 84ull;
-                    const u32 t5 = load8(l5);
-                    u64 v6;
-                    if (t5 != 1u) {
-                        l2 = l28 + 80ull;
-                        const u32 t7 = load32(l2);
-                        store32(l25 + 144u, t7);
-                        l41 = l28 + 72ull;
-                        const u64 t8 = load64(l41);
-                        store64(l25 + 136u, t8);
-                        const u64 t9 = load64(l28 + 64ull);
-                        store64(l25 + 128u, t9);
-                        l35 = l25 + 104ull;
-                        l27 = l28;
-                        l29 = l25 + 128ull;
-                        l32 = l7 - l4;
-                        l26 = e->stack_pointer - 160ull;
-                        e->stack_pointer = l26;
-                        {
+                    L6:;
+                    {
+                        store64(l9 + 152u, 0ull);
+                        store64(l9 + 112u, 0ull);
+                        store64(l9 + 120u, 0ull);
+                        store64(l9 + 128u, 0ull);
+                        l8 = 0ull;
+                        l5 = l12 + 84ull;
+                        const u32 t7 = load8(l5);
+                        if (t7 != 1u) {
+                            l8 = l12 + 80ull;
+                            const u32 t9 = load32(l8);
+                            store32(l9 + 152u, t9);
+                            l16 = l12 + 72ull;
+                            const u64 t10 = load64(l16);
+                            store64(l9 + 144u, t10);
+                            const u64 t11 = load64(l12 + 64ull);
+                            store64(l9 + 136u, t11);
+                            l19 = l9 + 112ull;
+                            l1 = l12;
+                            l13 = l9 + 136ull;
+                            l11 = l7 - l4;
+                            l10 = stack - 160ull;
+                            stack = l10;
                             {
                                 {
-                                    if ((i64)(l26 - e->stack) >= (i64)16ull) {
-                                        const u64 t14 = load64(l29 + 8u);
-                                        l37 = t14;
-                                        store64(l26 + 56u, 0ull);
-                                        store64(l26 + 64u, 0ull);
-                                        store32(l26 + 76u, 0u);
-                                        const u32 t15 = load32(l27 + 20ull);
-                                        l14 = t15;
-                                        store32(l26 + 80u, l14);
-                                        const u32 t16 = load32(l29 + 16u);
-                                        l20 = t16;
-                                        const u64 t17 = load64(l29);
-                                        l29 = t17 - l37;
-                                        l3 = (l29 < l32) ? l29 : l32;
-                                        if ((l3 == 0) == 0) {
-                                            const u32 t19 = load32(l27 + 24ull);
-                                            const u32 t20 = load32(l27 + 16ull);
-                                            l8 = t19 + (l14 + t20);
-                                            l46 = l26 + 125ull;
-                                            l31 = l26 + 109ull;
-                                            l32 = l3;
-                                            L21:;
-                                            {
-                                                core_scan_pass(e, l26 + 56ull, l27, l32, l26 + 80ull, l26 + 76ull);
-                                                u64 v22;
+                                    {
+                                        {
+                                            const u64 t16 = load64(l13 + 8u);
+                                            l21 = t16;
+                                            store64(l10 + 56u, 0ull);
+                                            store64(l10 + 64u, 0ull);
+                                            store32(l10 + 76u, 0u);
+                                            const u32 t17 = load32(l1 + 20ull);
+                                            l30 = t17;
+                                            store32(l10 + 80u, l30);
+                                            const u32 t18 = load32(l13 + 16u);
+                                            l35 = t18;
+                                            const u64 t19 = load64(l13);
+                                            l13 = t19 - l21;
+                                            l14 = (l11 > l13) ? l13 : l11;
+                                            if ((l14 == 0) == 0) {
+                                                const u32 t21 = load32(l1 + 24ull);
+                                                const u32 t22 = load32(l1 + 16ull);
+                                                l31 = t21 + (l30 + t22);
+                                                l28 = l10 + 125ull;
+                                                l29 = l10 + 109ull;
+                                                l11 = l14;
+                                                L23:;
                                                 {
-                                                    const u32 t23 = load8(l26 + 56u);
-                                                    if (t23 == 0) {
-                                                        l20 = (l8 > l20) ? l8 : l20;
-                                                        const u64 t25 = load64(l26 + 64u);
-                                                        v22 = l32 - t25; goto L22;
-                                                    }
-                                                    u32 v26;
+                                                    core_scan_pass(stack, l10 + 56ull, l1, l11, l10 + 80ull, l10 + 76ull);
+                                                    u64 v24;
                                                     {
-                                                        const u32 t27 = load8(l26 + 60u);
-                                                        if (t27 == 0) {
-                                                            store32(l27 + 32ull, 0u);
-                                                            l38 = l27 + 20ull;
-                                                            store32(l38, 0u);
-                                                            const u32 t29 = load32(l27 + 28ull);
-                                                            l8 = t29;
-                                                            l33 = l27 + 24ull;
-                                                            const u32 t30 = load32(l33);
-                                                            l14 = t30;
-                                                            l30 = l27 + 16ull;
-                                                            const u32 t31 = load32(l30);
-                                                            if ((l8 - (l14 + t31)) <= 10u) {
-                                                                const u32 t33 = space_space_Space_try_claim_spare(e, l27, 11ull);
-                                                                if (t33 == 0) goto L12;
-                                                                const u32 t34 = load32(l27 + 24ull);
-                                                                l14 = t34;
-                                                                const u32 t35 = load32(l27 + 28ull);
-                                                                l8 = t35;
-                                                            }
-                                                            const u64 t36 = load64(l27);
-                                                            l14 = l14 + 11u;
-                                                            l29 = t36 + ((u64)(l8 - l14) << 3);
-                                                            store64(l29 + 56u, 0ull);
-                                                            store64(l29 + 48u, 0ull);
-                                                            store64(l29 + 40u, 0ull);
-                                                            store64(l29 + 32u, 0ull);
-                                                            store64(l29 + 24u, 0ull);
-                                                            store64(l29 + 16u, 0ull);
-                                                            store64(l29 + 8u, 0ull);
-                                                            store64(l29, 0ull);
-                                                            store16(l29 + 80u, (u16)10496u);
-                                                            store16(l29 + 72u, (u16)10496u);
-                                                            store16(l29 + 64u, (u16)29440u);
-                                                            store32(l29 + 84ull, 0u);
-                                                            store32(l29 + 76ull, 0u);
-                                                            store32(l29 + 68ull, 0u);
-                                                            store8(l29 + 57ull, (u8)114u);
-                                                            store8(l29 + 49ull, (u8)40u);
-                                                            store8(l29 + 41ull, (u8)35u);
-                                                            store8(l29 + 33ull, (u8)44u);
-                                                            store8(l29 + 25ull, (u8)115u);
-                                                            store8(l29 + 17ull, (u8)112u);
-                                                            store8(l29 + 9ull, (u8)40u);
-                                                            store8(l29 + 1ull, (u8)35u);
-                                                            store32(l33, l14);
-                                                            const u32 t37 = load32(l38);
-                                                            const u32 t38 = load32(l30);
-                                                            v26 = t37 + (t38 + l14); goto L26;
+                                                        const u32 t25 = load8(l10 + 56u);
+                                                        if (t25 == 0) {
+                                                            l35 = (l31 > l35) ? l31 : l35;
+                                                            const u64 t27 = load64(l10 + 64u);
+                                                            v24 = l11 - t27; goto L24;
                                                         }
-                                                        const u64 t39 = load64(l27);
-                                                        l30 = t39;
-                                                        const u32 t40 = load32(l27 + 16ull);
-                                                        l14 = t40;
-                                                        const u64 t41 = load64(l26 + 64u);
-                                                        l38 = t41;
-                                                        l16 = (u32)l38;
-                                                        const u32 t42 = load8((l30 + ((u64)(l14 + l16) << 3)) + 1ull);
-                                                        l9 = t42;
-                                                        const u32 t43 = load32(l27 + 20ull);
-                                                        l8 = t43;
-                                                        store8(l26 + 114u, (u8)0u);
-                                                        store16(l26 + 112u, (u16)0u);
+                                                        u32 v28;
                                                         {
+                                                            const u32 t29 = load8(l10 + 60u);
+                                                            if (t29 == 0) {
+                                                                store32(l1 + 32ull, 0u);
+                                                                l22 = l1 + 20ull;
+                                                                store32(l22, 0u);
+                                                                const u32 t31 = load32(l1 + 28ull);
+                                                                l31 = t31;
+                                                                l15 = l1 + 24ull;
+                                                                const u32 t32 = load32(l15);
+                                                                l30 = t32;
+                                                                l2 = l1 + 16ull;
+                                                                const u32 t33 = load32(l2);
+                                                                if ((l31 - (l30 + t33)) <= 10u) {
+                                                                    const u32 t35 = space_space_Space_try_claim_spare(stack, l1, 11ull);
+                                                                    if (t35 == 0) goto L14;
+                                                                    const u32 t36 = load32(l1 + 28ull);
+                                                                    l31 = t36;
+                                                                    const u32 t37 = load32(l1 + 24ull);
+                                                                    l30 = t37;
+                                                                }
+                                                                const u64 t38 = load64(l1);
+                                                                l30 = l30 + 11u;
+                                                                l13 = t38 + ((u64)(l31 - l30) << 3);
+                                                                store64(l13 + 56u, 0ull);
+                                                                store64(l13 + 48u, 0ull);
+                                                                store64(l13 + 40u, 0ull);
+                                                                store64(l13 + 32u, 0ull);
+                                                                store64(l13 + 24u, 0ull);
+                                                                store64(l13 + 16u, 0ull);
+                                                                store64(l13 + 8u, 0ull);
+                                                                store64(l13, 0ull);
+                                                                store16(l13 + 80u, (u16)10496u);
+                                                                store16(l13 + 72u, (u16)10496u);
+                                                                store16(l13 + 64u, (u16)29440u);
+                                                                store32(l13 + 84ull, 0u);
+                                                                store32(l13 + 76ull, 0u);
+                                                                store32(l13 + 68ull, 0u);
+                                                                store8(l13 + 57ull, (u8)114u);
+                                                                store8(l13 + 49ull, (u8)40u);
+                                                                store8(l13 + 41ull, (u8)35u);
+                                                                store8(l13 + 33ull, (u8)44u);
+                                                                store8(l13 + 25ull, (u8)115u);
+                                                                store8(l13 + 17ull, (u8)112u);
+                                                                store8(l13 + 9ull, (u8)40u);
+                                                                store8(l13 + 1ull, (u8)35u);
+                                                                store32(l15, l30);
+                                                                const u32 t39 = load32(l22);
+                                                                const u32 t40 = load32(l2);
+                                                                v28 = t39 + (t40 + l30); goto L28;
+                                                            }
+                                                            const u64 t41 = load64(l1);
+                                                            l2 = t41;
+                                                            const u32 t42 = load32(l1 + 16ull);
+                                                            l30 = t42;
+                                                            const u64 t43 = load64(l10 + 64u);
+                                                            l22 = t43;
+                                                            l39 = (u32)l22;
+                                                            const u32 t44 = load8((l2 + ((u64)(l30 + l39) << 3)) + 1ull);
+                                                            l37 = t44;
+                                                            const u32 t45 = load32(l1 + 20ull);
+                                                            l31 = t45;
+                                                            store8(l10 + 114u, (u8)0u);
+                                                            store16(l10 + 112u, (u16)0u);
                                                             {
                                                                 {
                                                                     {
@@ -20533,97 +20567,1863 @@ static void engine_turn(struct engine *e, u64 l0, u64 l1, u64 l2, u64 l3, u64 l4
                                                                                             {
                                                                                                 {
                                                                                                     {
-                                                                                                        l6 = l8 + l14;
-                                                                                                        l12 = l16 + 1u;
-                                                                                                        l29 = (u64)(l14 + l12);
-                                                                                                        l33 = (u64)l6 - l29;
-                                                                                                        if (l33 < 2ull) goto L55;
-                                                                                                        l29 = l30 + (l29 << 3);
-                                                                                                        if (l33 != 2ull) {
-                                                                                                            const u32 t57 = load8(l29 + 16ull);
-                                                                                                            if (t57 != 2u) goto L55;
+                                                                                                        {
+                                                                                                            l6 = l30 + l31;
+                                                                                                            l36 = l39 + 1u;
+                                                                                                            l13 = (u64)(l30 + l36);
+                                                                                                            l15 = (u64)l6 - l13;
+                                                                                                            if (l15 < 2ull) goto L57;
+                                                                                                            l13 = l2 + (l13 << 3);
+                                                                                                            if (l15 != 2ull) {
+                                                                                                                const u32 t59 = load8(l13 + 16ull);
+                                                                                                                if (t59 != 2u) goto L57;
+                                                                                                            }
+                                                                                                            functions_function_function_of(stack, l10 + 112ull, l13, l13 + 8ull);
+                                                                                                            const u32 t60 = load8(l10 + 112u);
+                                                                                                            if (t60 == 1u) goto L56;
                                                                                                         }
-                                                                                                        functions_function_function_of(e, l26 + 112ull, l29, l29 + 8ull);
-                                                                                                        const u32 t58 = load8(l26 + 112u);
-                                                                                                        if (t58 == 1u) goto L54;
+                                                                                                        L57:;
+                                                                                                        l38 = 0u;
+                                                                                                        store8(l10 + 86u, (u8)0u);
+                                                                                                        store16(l10 + 84u, (u16)0u);
+                                                                                                        l33 = 1u;
+                                                                                                        l32 = 0u;
+                                                                                                        l34 = l36;
+                                                                                                        goto L55;
                                                                                                     }
-                                                                                                    L55:;
-                                                                                                    l13 = 0u;
-                                                                                                    store8(l26 + 86u, (u8)0u);
-                                                                                                    store16(l26 + 84u, (u16)0u);
-                                                                                                    l11 = 1u;
-                                                                                                    l15 = 0u;
-                                                                                                    l10 = l12;
-                                                                                                    goto L53;
+                                                                                                    L56:;
+                                                                                                    const u32 t61 = load8(l10 + 114u);
+                                                                                                    l38 = t61;
+                                                                                                    const u32 t62 = load8(l10 + 113u);
+                                                                                                    l32 = t62;
+                                                                                                    l33 = 0u;
+                                                                                                    store8(l10 + 86u, (u8)0u);
+                                                                                                    store16(l10 + 84u, (u16)0u);
+                                                                                                    l34 = l39 + 4u;
+                                                                                                    if ((l32 - 11u) < 14u) goto L55;
+                                                                                                    if (((1u << (l32 & 31)) & 1012u) == 0) goto L54;
                                                                                                 }
-                                                                                                L54:;
-                                                                                                const u32 t59 = load8(l26 + 114u);
-                                                                                                l13 = t59;
-                                                                                                const u32 t60 = load8(l26 + 113u);
-                                                                                                l15 = t60;
-                                                                                                l11 = 0u;
-                                                                                                store8(l26 + 86u, (u8)0u);
-                                                                                                store16(l26 + 84u, (u16)0u);
-                                                                                                l10 = l16 + 4u;
-                                                                                                if ((l15 - 11u) < 14u) goto L53;
-                                                                                                if (((1u << (l15 & 31)) & 1012u) == 0) goto L52;
-                                                                                            }
-                                                                                            L53:;
-                                                                                            l29 = l27 + 24ull;
-                                                                                            const u32 t61 = load32(l29);
-                                                                                            l17 = t61 - 1u;
-                                                                                            store32(l29, l17);
-                                                                                            l18 = l6 + l17;
-                                                                                            l6 = 0u;
-                                                                                            if (l11) goto L44;
-                                                                                            l11 = (u32)(l38 >> 32);
-                                                                                            l9 = l9 == 0;
-                                                                                            {
-                                                                                                if ((l15 - 5u) < 20u) goto L62;
+                                                                                                L55:;
+                                                                                                l13 = l1 + 24ull;
+                                                                                                const u32 t63 = load32(l13);
+                                                                                                l42 = t63 - 1u;
+                                                                                                store32(l13, l42);
+                                                                                                l40 = l6 + l42;
+                                                                                                l6 = 0u;
+                                                                                                if (l33) goto L46;
+                                                                                                l33 = (u32)(l22 >> 32);
+                                                                                                l37 = l37 == 0;
                                                                                                 {
-                                                                                                    switch (l15 - 2u) {
-                                                                                                    case 0: goto L63;
-                                                                                                    case 2: goto L51;
-                                                                                                    default: goto L62;
+                                                                                                    if ((l32 - 5u) < 20u) goto L64;
+                                                                                                    {
+                                                                                                        switch (l32 - 2u) {
+                                                                                                        case 0: goto L65;
+                                                                                                        case 2: goto L53;
+                                                                                                        default: goto L64;
+                                                                                                        }
+                                                                                                    }
+                                                                                                    L65:;
+                                                                                                    const u32 t66 = load16(l10 + 84u);
+                                                                                                    store16(l28, (u16)t66);
+                                                                                                    const u32 t67 = load8(l10 + 86u);
+                                                                                                    store8(l28 + 2u, (u8)t67);
+                                                                                                    store8(l10 + 124u, (u8)l37);
+                                                                                                    store32(l10 + 120u, l33);
+                                                                                                    store32(l10 + 116u, l31);
+                                                                                                    store32(l10 + 112u, l34);
+                                                                                                    functions_arguments_Arguments_next(stack, l10 + 8ull, l10 + 112ull, l1);
+                                                                                                    const u32 t68 = load32(l10 + 8u);
+                                                                                                    l31 = t68;
+                                                                                                    const u32 t69 = load32(l10 + 12u);
+                                                                                                    if (l31 == t69) goto L46;
+                                                                                                    l13 = l2 + ((u64)(l30 + l31) << 3);
+                                                                                                    const u32 t70 = load8(l13);
+                                                                                                    const u64 t71 = l23;
+                                                                                                    u32 v72;
+                                                                                                    if (t70) {
+                                                                                                        v72 = 0u;
+                                                                                                    } else {
+                                                                                                        const u32 t73 = load8(l13 + 1ull);
+                                                                                                        v72 = t73;
+                                                                                                    }
+                                                                                                    store8(t71, (u8)v72);
+                                                                                                    goto L46;
+                                                                                                }
+                                                                                                L64:;
+                                                                                                const u32 t74 = load16(l10 + 84u);
+                                                                                                store16(l29, (u16)t74);
+                                                                                                const u32 t75 = load8(l10 + 86u);
+                                                                                                store8(l29 + 2u, (u8)t75);
+                                                                                                store8(l10 + 108u, (u8)l37);
+                                                                                                store32(l10 + 104u, l33);
+                                                                                                store32(l10 + 100u, l31);
+                                                                                                store32(l10 + 96u, l34);
+                                                                                                store64(l10 + 88u, 0ull);
+                                                                                                {
+                                                                                                    {
+                                                                                                        {
+                                                                                                            {
+                                                                                                                {
+                                                                                                                    {
+                                                                                                                        {
+                                                                                                                            {
+                                                                                                                                {
+                                                                                                                                    {
+                                                                                                                                        {
+                                                                                                                                            {
+                                                                                                                                                {
+                                                                                                                                                    {
+                                                                                                                                                        {
+                                                                                                                                                            {
+                                                                                                                                                                {
+                                                                                                                                                                    {
+                                                                                                                                                                        {
+                                                                                                                                                                            switch (l32 - 5u) {
+                                                                                                                                                                            case 0: goto L82;
+                                                                                                                                                                            case 1: goto L81;
+                                                                                                                                                                            case 2: goto L79;
+                                                                                                                                                                            case 3: goto L78;
+                                                                                                                                                                            case 4: goto L77;
+                                                                                                                                                                            case 6: goto L80;
+                                                                                                                                                                            case 7: goto L87;
+                                                                                                                                                                            case 8: goto L86;
+                                                                                                                                                                            case 9: goto L85;
+                                                                                                                                                                            case 10: goto L84;
+                                                                                                                                                                            case 11: goto L83;
+                                                                                                                                                                            case 12: goto L76;
+                                                                                                                                                                            case 13: goto L94;
+                                                                                                                                                                            case 14: goto L93;
+                                                                                                                                                                            case 15: goto L92;
+                                                                                                                                                                            case 16: goto L91;
+                                                                                                                                                                            case 17: goto L90;
+                                                                                                                                                                            case 18: goto L89;
+                                                                                                                                                                            case 19: goto L88;
+                                                                                                                                                                            default: goto L47;
+                                                                                                                                                                            }
+                                                                                                                                                                        }
+                                                                                                                                                                        L94:;
+                                                                                                                                                                        functions_comparing_greater(stack, l10 + 88ull, l1, l10 + 96ull);
+                                                                                                                                                                        goto L49;
+                                                                                                                                                                    }
+                                                                                                                                                                    L93:;
+                                                                                                                                                                    functions_arithmetic_arithmetic(stack, l10 + 88ull, l1, l38, l10 + 96ull);
+                                                                                                                                                                    goto L49;
+                                                                                                                                                                }
+                                                                                                                                                                L92:;
+                                                                                                                                                                functions_bit_strings_union(stack, l10 + 88ull, l1, l10 + 96ull);
+                                                                                                                                                                goto L49;
+                                                                                                                                                            }
+                                                                                                                                                            L91:;
+                                                                                                                                                            functions_bit_strings_intersection(stack, l10 + 88ull, l1, l10 + 96ull);
+                                                                                                                                                            goto L49;
+                                                                                                                                                        }
+                                                                                                                                                        L90:;
+                                                                                                                                                        store64(l10 + 152u, 0ull);
+                                                                                                                                                        const u64 t95 = load64(l10 + 96u);
+                                                                                                                                                        store64(l10 + 136u, t95);
+                                                                                                                                                        const u64 t96 = load64(l10 + 104u);
+                                                                                                                                                        store64(l10 + 144u, t96);
+                                                                                                                                                        store64(l10 + 124u, 0ull);
+                                                                                                                                                        functions_arguments_Arguments_next(stack, l10 + 16ull, l10 + 136ull, l1);
+                                                                                                                                                        const u32 t97 = load32(l10 + 16u);
+                                                                                                                                                        l37 = t97;
+                                                                                                                                                        const u32 t98 = load32(l10 + 20u);
+                                                                                                                                                        l33 = t98;
+                                                                                                                                                        l13 = (u64)(l33 + l30);
+                                                                                                                                                        l15 = (u64)(l37 + l30) - l13;
+                                                                                                                                                        l13 = (l2 + (l13 << 3)) - 8ull;
+                                                                                                                                                        l6 = l33;
+                                                                                                                                                        L99:;
+                                                                                                                                                        {
+                                                                                                                                                            {
+                                                                                                                                                                l32 = l6;
+                                                                                                                                                                if (l15 == 0) goto L100;
+                                                                                                                                                                const u32 t101 = load8(l13);
+                                                                                                                                                                if (t101) goto L100;
+                                                                                                                                                                l15 = l15 + 1ull;
+                                                                                                                                                                l6 = l32 - 1u;
+                                                                                                                                                                l2 = l13 + 1ull;
+                                                                                                                                                                l13 = l13 - 8ull;
+                                                                                                                                                                const u32 t102 = load8(l2);
+                                                                                                                                                                if ((t102 & 248u) == 48u) goto L99;
+                                                                                                                                                            }
+                                                                                                                                                            L100:;
+                                                                                                                                                        }
+                                                                                                                                                        store32(l10 + 120u, l33);
+                                                                                                                                                        store32(l10 + 116u, l32);
+                                                                                                                                                        store32(l10 + 112u, 2u);
+                                                                                                                                                        functions_bit_strings_give_bits(stack, l10 + 152ull, l1, l37, l32, l10 + 112ull);
+                                                                                                                                                        const u32 t103 = load16(l10 + 152u);
+                                                                                                                                                        store16(l10 + 88u, (u16)t103);
+                                                                                                                                                        const u32 t104 = load32(l10 + 156u);
+                                                                                                                                                        store32(l10 + 92u, t104);
+                                                                                                                                                        goto L49;
+                                                                                                                                                    }
+                                                                                                                                                    L89:;
+                                                                                                                                                    functions_bit_strings_shift(stack, l10 + 88ull, l1, l10 + 96ull);
+                                                                                                                                                    goto L49;
+                                                                                                                                                }
+                                                                                                                                                L88:;
+                                                                                                                                                functions_bit_strings_rotate(stack, l10 + 88ull, l1, l10 + 96ull);
+                                                                                                                                                goto L49;
+                                                                                                                                            }
+                                                                                                                                            L87:;
+                                                                                                                                            functions_form_parts_call_segment(stack, l10 + 88ull, l1, l10 + 96ull);
+                                                                                                                                            goto L49;
+                                                                                                                                        }
+                                                                                                                                        L86:;
+                                                                                                                                        functions_form_parts_call_character(stack, l10 + 88ull, l1, l10 + 96ull);
+                                                                                                                                        goto L49;
+                                                                                                                                    }
+                                                                                                                                    L85:;
+                                                                                                                                    functions_form_parts_call_number(stack, l10 + 88ull, l1, l10 + 96ull);
+                                                                                                                                    goto L49;
+                                                                                                                                }
+                                                                                                                                L84:;
+                                                                                                                                functions_form_parts_initial_part(stack, l10 + 88ull, l1, l10 + 96ull);
+                                                                                                                                goto L49;
+                                                                                                                            }
+                                                                                                                            L83:;
+                                                                                                                            functions_form_parts_call_restore(stack, l10 + 88ull, l1, l10 + 96ull);
+                                                                                                                            goto L49;
+                                                                                                                        }
+                                                                                                                        L82:;
+                                                                                                                        functions_form_calls_define_string(stack, l10 + 88ull, l1, l10 + 96ull);
+                                                                                                                        goto L49;
+                                                                                                                    }
+                                                                                                                    L81:;
+                                                                                                                    functions_form_calls_segment_string(stack, l10 + 88ull, l1, l10 + 96ull);
+                                                                                                                    goto L49;
+                                                                                                                }
+                                                                                                                L80:;
+                                                                                                                const u64 t105 = load64(l10 + 104u);
+                                                                                                                store64(l10 + 120u, t105);
+                                                                                                                const u64 t106 = load64(l10 + 96u);
+                                                                                                                store64(l10 + 112u, t106);
+                                                                                                                const u32 t107 = load8(l10 + 124u);
+                                                                                                                l33 = t107;
+                                                                                                                functions_arguments_Arguments_next(stack, l10 + 48ull, l10 + 112ull, l1);
+                                                                                                                const u32 t108 = load32(l10 + 52u);
+                                                                                                                l32 = t108;
+                                                                                                                const u32 t109 = load32(l10 + 48u);
+                                                                                                                l6 = t109;
+                                                                                                                u32 v110;
+                                                                                                                {
+                                                                                                                    const u32 t111 = load32(l1 + 40ull);
+                                                                                                                    l37 = t111;
+                                                                                                                    if (l37 >= 8u) {
+                                                                                                                        forms_work_Work_find_among_more(stack, l10 + 32ull, l1, l6, l32);
+                                                                                                                        const u32 t113 = load8(l10 + 32u);
+                                                                                                                        l32 = t113;
+                                                                                                                        const u32 t114 = load32(l10 + 36u);
+                                                                                                                        v110 = t114; goto L110;
+                                                                                                                    }
+                                                                                                                    {
+                                                                                                                        if (l37 == 0) goto L115;
+                                                                                                                        const u64 t116 = load32(l2 + 4ull);
+                                                                                                                        l13 = (u64)(l30 + l32);
+                                                                                                                        l15 = (u64)(l6 + l30);
+                                                                                                                        if (t116 != (l13 - l15)) goto L115;
+                                                                                                                        l17 = 17ull - (l15 << 3);
+                                                                                                                        l15 = (l13 ^ 18446744073709551615ull) + l15;
+                                                                                                                        l13 = l2 + (l13 << 3);
+                                                                                                                        L117:;
+                                                                                                                        {
+                                                                                                                            l15 = l15 + 1ull;
+                                                                                                                            if (l15 == 0) goto L52;
+                                                                                                                            l2 = l13 - 7ull;
+                                                                                                                            l18 = l13 + l17;
+                                                                                                                            l13 = l13 - 8ull;
+                                                                                                                            const u32 t118 = load8(l18);
+                                                                                                                            const u32 t119 = load8(l2);
+                                                                                                                            if (t118 == t119) goto L117;
+                                                                                                                        }
+                                                                                                                    }
+                                                                                                                    L115:;
+                                                                                                                    forms_work_Work_find_among_few(stack, l10 + 40ull, l1, l6, l32);
+                                                                                                                    const u32 t120 = load8(l10 + 40u);
+                                                                                                                    l32 = t120;
+                                                                                                                    const u32 t121 = load32(l10 + 44u);
+                                                                                                                    v110 = t121;
+                                                                                                                }
+                                                                                                                L110:;
+                                                                                                                l6 = v110;
+                                                                                                                if ((l32 & 255u) != 1u) goto L51;
+                                                                                                                goto L50;
+                                                                                                            }
+                                                                                                            L79:;
+                                                                                                            functions_form_calls_delete_definition(stack, l10 + 88ull, l1, l10 + 96ull);
+                                                                                                            goto L49;
+                                                                                                        }
+                                                                                                        L78:;
+                                                                                                        functions_form_calls_delete_all(stack, l10 + 88ull, l1);
+                                                                                                        goto L49;
+                                                                                                    }
+                                                                                                    L77:;
+                                                                                                    functions_form_calls_list_names(stack, l10 + 88ull, l1, l10 + 96ull);
+                                                                                                    goto L49;
+                                                                                                }
+                                                                                                L76:;
+                                                                                                functions_comparing_equal(stack, l10 + 88ull, l1, l10 + 96ull);
+                                                                                                goto L49;
+                                                                                            }
+                                                                                            L54:;
+                                                                                            store32(l19 + 20u, 0u);
+                                                                                            store32(l19 + 16u, l35);
+                                                                                            l1 = l14 - l11;
+                                                                                            store64(l19, l1);
+                                                                                            store64(l19 + 8u, l1 + l21);
+                                                                                            goto L12;
+                                                                                        }
+                                                                                        L53:;
+                                                                                        l13 = l14 - l11;
+                                                                                        l1 = l13 + l21;
+                                                                                        l30 = 0u;
+                                                                                        goto L48;
+                                                                                    }
+                                                                                    L52:;
+                                                                                    store64(l1 + 44ull, 0ull);
+                                                                                    l6 = 0u;
+                                                                                    goto L50;
+                                                                                }
+                                                                                L51:;
+                                                                                store32(l10 + 92u, 0u);
+                                                                                store16(l10 + 88u, (u16)1u);
+                                                                                goto L49;
+                                                                            }
+                                                                            L50:;
+                                                                            const u32 t122 = load32(l10 + 116u);
+                                                                            l32 = t122;
+                                                                            const u32 t123 = load32(l10 + 112u);
+                                                                            l37 = t123;
+                                                                            {
+                                                                                {
+                                                                                    {
+                                                                                        {
+                                                                                            {
+                                                                                                if ((l33 & 1u) == 0) goto L128;
+                                                                                                if (l32 >= l37) goto L128;
+                                                                                                const u32 t129 = load32(l1 + 44ull);
+                                                                                                const u32 t130 = load32(l1 + 48ull);
+                                                                                                const u32 t131 = store_form_cells_place_of(stack, l1, t129, t130, l6);
+                                                                                                l34 = t131;
+                                                                                                const u64 t132 = load64(l1);
+                                                                                                l15 = t132;
+                                                                                                l13 = l15 + ((u64)l34 << 3);
+                                                                                                const u32 t133 = load32(l13 + 12ull);
+                                                                                                l43 = t133;
+                                                                                                const u32 t134 = load32(l13 + 20ull);
+                                                                                                l38 = t134;
+                                                                                                l33 = l43 - l38;
+                                                                                                if (l33 == 0) {
+                                                                                                    l33 = 0u;
+                                                                                                    goto L124;
+                                                                                                }
+                                                                                                const u32 t136 = load32(l13 + 4ull);
+                                                                                                l46 = (l34 + t136) + 3u;
+                                                                                                l34 = l38 + l46;
+                                                                                                {
+                                                                                                    const u32 t138 = load32(l1 + 28ull);
+                                                                                                    l38 = t138;
+                                                                                                    const u32 t139 = load32(l1 + 20ull);
+                                                                                                    const u32 t140 = load32(l1 + 24ull);
+                                                                                                    l41 = t140;
+                                                                                                    const u32 t141 = load32(l1 + 16ull);
+                                                                                                    if (l33 <= (l38 - (t139 + (l41 + t141)))) {
+                                                                                                        l0 = (u64)l33;
+                                                                                                        l18 = (u64)l34;
+                                                                                                        {
+                                                                                                            {
+                                                                                                                if (l33 >= 8u) {
+                                                                                                                    if (l33 == 8u) goto L143;
+                                                                                                                    l13 = l15 + (l18 << 3);
+                                                                                                                    l2 = l0;
+                                                                                                                    goto L144;
+                                                                                                                }
+                                                                                                                if (l33 >= 4u) {
+                                                                                                                    l13 = l15 + (l18 << 3);
+                                                                                                                    const u32 t147 = load8(l13 + 24ull);
+                                                                                                                    const u32 t148 = load8(l13 + 16ull);
+                                                                                                                    const u32 t149 = load8(l13 + 8ull);
+                                                                                                                    const u32 t150 = load8(l13);
+                                                                                                                    if (((t147 + t148) | (t149 + t150)) & 255u) goto L128;
+                                                                                                                    l2 = l0 + l18;
+                                                                                                                    l13 = l15 + (l2 << 3);
+                                                                                                                    const u32 t151 = load8(l13 - 8ull);
+                                                                                                                    const u32 t152 = load8(l13 - 16ull);
+                                                                                                                    const u32 t153 = load8(l13 - 24ull);
+                                                                                                                    const u32 t154 = load8(l13 - 32ull);
+                                                                                                                    if (((t151 + t152) | (t153 + t154)) & 255u) goto L128;
+                                                                                                                    l32 = l33 + l41;
+                                                                                                                    l13 = (u64)(l38 - l32);
+                                                                                                                    core_slice_edits_slice_T_copy_from_slice(stack, l15 + (l13 << 3), l15 + (l18 << 3), 4ull);
+                                                                                                                    const u64 t155 = l13 - l18;
+                                                                                                                    l13 = l2 - 4ull;
+                                                                                                                    core_slice_edits_slice_T_copy_from_slice(stack, l15 + ((t155 + l13) << 3), l15 + (l13 << 3), 4ull);
+                                                                                                                    goto L125;
+                                                                                                                }
+                                                                                                                l13 = l15 + (l18 << 3);
+                                                                                                                const u32 t156 = load8(l13);
+                                                                                                                l34 = t156;
+                                                                                                                if (l33 == 1u) goto L137;
+                                                                                                                const u32 t157 = load8(l13 + 8ull);
+                                                                                                                if (t157 | (l34 & 255u)) goto L128;
+                                                                                                                l2 = l0 + l18;
+                                                                                                                l13 = l15 + (l2 << 3);
+                                                                                                                const u32 t158 = load8(l13 - 8ull);
+                                                                                                                const u32 t159 = load8(l13 - 16ull);
+                                                                                                                if (t158 | t159) goto L128;
+                                                                                                                l32 = l33 + l41;
+                                                                                                                l13 = (u64)(l38 - l32);
+                                                                                                                core_slice_edits_slice_T_copy_from_slice(stack, l15 + (l13 << 3), l15 + (l18 << 3), 2ull);
+                                                                                                                const u64 t160 = l13 - l18;
+                                                                                                                l13 = l2 - 2ull;
+                                                                                                                core_slice_edits_slice_T_copy_from_slice(stack, l15 + ((t160 + l13) << 3), l15 + (l13 << 3), 2ull);
+                                                                                                                goto L125;
+                                                                                                            }
+                                                                                                            L144:;
+                                                                                                            L161:;
+                                                                                                            {
+                                                                                                                const u32 t162 = load8(l13 + 56ull);
+                                                                                                                const u32 t163 = load8(l13 + 48ull);
+                                                                                                                const u32 t164 = load8(l13 + 40ull);
+                                                                                                                const u32 t165 = load8(l13 + 32ull);
+                                                                                                                const u32 t166 = load8(l13 + 24ull);
+                                                                                                                const u32 t167 = load8(l13 + 16ull);
+                                                                                                                const u32 t168 = load8(l13 + 8ull);
+                                                                                                                const u32 t169 = load8(l13);
+                                                                                                                if (t162 | ((t163 + (t164 + (t165 + (t166 + (t167 + (t168 + t169)))))) & 255u)) goto L128;
+                                                                                                                l13 = l13 + 64ull;
+                                                                                                                l2 = l2 - 8ull;
+                                                                                                                if (l2 >= 9ull) goto L161;
+                                                                                                            }
+                                                                                                        }
+                                                                                                        L143:;
+                                                                                                        l2 = l0 + l18;
+                                                                                                        l13 = l15 + (l2 << 3);
+                                                                                                        const u32 t170 = load8(l13 - 56ull);
+                                                                                                        const u32 t171 = load8(l13 - 64ull);
+                                                                                                        const u32 t172 = load8(l13 - 48ull);
+                                                                                                        const u32 t173 = load8(l13 - 40ull);
+                                                                                                        const u32 t174 = load8(l13 - 32ull);
+                                                                                                        const u32 t175 = load8(l13 - 24ull);
+                                                                                                        const u32 t176 = load8(l13 - 16ull);
+                                                                                                        const u32 t177 = load8(l13 - 8ull);
+                                                                                                        if ((((((((t170 + t171) + t172) + t173) + t174) + t175) + t176) & 255u) | t177) goto L128;
+                                                                                                        l32 = l33 + l41;
+                                                                                                        l24 = (u64)(l38 - l32);
+                                                                                                        if (l33 > 24u) goto L127;
+                                                                                                        if (l33 != 8u) {
+                                                                                                            l13 = l15 + (l24 << 3);
+                                                                                                            l2 = l15 + (l18 << 3);
+                                                                                                            l17 = l0;
+                                                                                                            L179:;
+                                                                                                            {
+                                                                                                                core_slice_edits_slice_T_copy_from_slice(stack, l13, l2, 8ull);
+                                                                                                                l13 = l13 + 64ull;
+                                                                                                                l2 = l2 + 64ull;
+                                                                                                                l17 = l17 - 8ull;
+                                                                                                                if (l17 > 8ull) goto L179;
+                                                                                                            }
+                                                                                                        }
+                                                                                                        l13 = l0 - 8ull;
+                                                                                                        core_slice_edits_slice_T_copy_from_slice(stack, l15 + ((l13 + l24) << 3), l15 + ((l13 + l18) << 3), 8ull);
+                                                                                                        store32(l1 + 24ull, l32);
+                                                                                                        goto L124;
+                                                                                                    }
+                                                                                                    store_item_copies_load_items_over_spare(stack, l10 + 24ull, l1, l34, l43 + l46);
+                                                                                                    const u32 t180 = load8(l10 + 24u);
+                                                                                                    if (t180 != 1u) goto L128;
+                                                                                                    const u32 t181 = load32(l10 + 28u);
+                                                                                                    l33 = t181;
+                                                                                                    goto L124;
+                                                                                                }
+                                                                                                L137:;
+                                                                                                if ((l34 & 255u) == 0) goto L126;
+                                                                                            }
+                                                                                            L128:;
+                                                                                            const u32 t182 = forms_work_Work_fill_body(stack, l1, l6, l37, l32);
+                                                                                            l32 = t182;
+                                                                                            store32(l10 + 92u, 0u);
+                                                                                            store8(l10 + 89u, (u8)0u);
+                                                                                            store8(l10 + 88u, (u8)l32);
+                                                                                            goto L49;
+                                                                                        }
+                                                                                        L127:;
+                                                                                        space_copies_copy_long(stack, l15, l18, l2, l24);
+                                                                                        goto L125;
+                                                                                    }
+                                                                                    L126:;
+                                                                                    l32 = l33 + l41;
+                                                                                    l13 = l15 + ((u64)(l38 - l32) << 3);
+                                                                                    l2 = l15 + (l18 << 3);
+                                                                                    const u32 t183 = load16(l2);
+                                                                                    store16(l13, (u16)t183);
+                                                                                    const u32 t184 = load32(l2 + 4ull);
+                                                                                    store32(l13 + 4ull, t184);
+                                                                                }
+                                                                                L125:;
+                                                                                store32(l1 + 24ull, l32);
+                                                                            }
+                                                                            L124:;
+                                                                            store32(l10 + 92u, l33);
+                                                                            store16(l10 + 88u, (u16)2u);
+                                                                        }
+                                                                        L49:;
+                                                                        const u32 t185 = load32(l10 + 92u);
+                                                                        l6 = t185;
+                                                                        {
+                                                                            const u64 t187 = load8(l10 + 88u);
+                                                                            switch ((u32)t187 - 1u) {
+                                                                            case 0: goto L47;
+                                                                            case 1: goto L46;
+                                                                            case 2: goto L46;
+                                                                            case 3: goto L186;
+                                                                            default: goto L14;
+                                                                            }
+                                                                        }
+                                                                        L186:;
+                                                                        const u32 t188 = load32(l1 + 24ull);
+                                                                        const u32 t189 = load32(l1 + 20ull);
+                                                                        const u32 t190 = load32(l1 + 16ull);
+                                                                        l40 = t188 + (t189 + t190);
+                                                                        l13 = l14 - l11;
+                                                                        l1 = l13 + l21;
+                                                                        const u32 t191 = load8(l10 + 89u);
+                                                                        l30 = t191;
+                                                                        l31 = 1u << (l30 & 31);
+                                                                        if (l31 & 3u) goto L48;
+                                                                        if (l31 & 12u) goto L13;
+                                                                        l35 = (l35 < l40) ? l40 : l35;
+                                                                        goto L13;
+                                                                    }
+                                                                    L48:;
+                                                                    l35 = (l35 < l40) ? l40 : l35;
+                                                                    l1 = l1 + 1ull;
+                                                                    goto L13;
+                                                                }
+                                                                L47:;
+                                                                const u32 t192 = load32(l1 + 20ull);
+                                                                l32 = t192;
+                                                                core_delivery_deliver(stack, l1, l39, l31);
+                                                                v28 = l32 + (l30 + l42); goto L28;
+                                                            }
+                                                            L46:;
+                                                            const u64 t193 = load64(l1);
+                                                            const u64 t194 = load32(l1 + 16ull);
+                                                            l13 = t193 + (t194 << 3);
+                                                            {
+                                                                {
+                                                                    const u32 t197 = load32(l1 + 32ull);
+                                                                    l30 = t197;
+                                                                    l31 = l30 <= l39;
+                                                                    if (l31) goto L196;
+                                                                    if ((l30 - l39) != 1u) goto L196;
+                                                                    const u32 t198 = load32((l13 + ((l22 << 3) & 34359738360ull)) + 4ull);
+                                                                    l30 = t198;
+                                                                    l31 = l30 ? (l36 - l30) : 0u;
+                                                                    goto L195;
+                                                                }
+                                                                L196:;
+                                                                if (l31) {
+                                                                    l31 = l30;
+                                                                    goto L195;
+                                                                }
+                                                                L200:;
+                                                                {
+                                                                    const u32 t201 = load32((l13 + ((u64)(l30 - 1u) << 3)) + 4ull);
+                                                                    l31 = t201;
+                                                                    l30 = l30 - l31;
+                                                                    l31 = l31 ? l30 : 0u;
+                                                                    if (l31 > l39) goto L200;
+                                                                }
+                                                            }
+                                                            L195:;
+                                                            store32(l1 + 20ull, l39);
+                                                            store32(l1 + 32ull, l31);
+                                                            v28 = l6 + l40;
+                                                        }
+                                                        L28:;
+                                                        l30 = v28;
+                                                        store32(l10 + 76u, 0u);
+                                                        const u32 t202 = load32(l1 + 20ull);
+                                                        l31 = t202;
+                                                        store32(l10 + 80u, l31);
+                                                        const u32 t203 = load32(l1 + 24ull);
+                                                        const u32 t204 = load32(l1 + 16ull);
+                                                        l31 = t203 + (l31 + t204);
+                                                        l35 = (l30 > l35) ? l30 : l35;
+                                                        v24 = l11 - 1ull;
+                                                    }
+                                                    L24:;
+                                                    l11 = v24;
+                                                    if (l11 != 0ull) goto L23;
+                                                }
+                                            }
+                                            store32(l19 + 20u, 0u);
+                                            store32(l19 + 16u, l35);
+                                            store64(l19, l14);
+                                            store64(l19 + 8u, l14 + l21);
+                                            goto L12;
+                                        }
+                                        trap();
+                                    }
+                                    L14:;
+                                    l13 = l14 - l11;
+                                    l1 = l13 + l21;
+                                    l30 = 2u;
+                                }
+                                L13:;
+                                store16(l19 + 22u, (u16)0u);
+                                store8(l19 + 21u, (u8)l30);
+                                store8(l19 + 20u, (u8)1u);
+                                store32(l19 + 16u, l35);
+                                store64(l19 + 8u, l1);
+                                store64(l19, l13);
+                            }
+                            L12:;
+                            stack = l10 + 160ull;
+                            const u64 t205 = load64(l9 + 120u);
+                            store64(l16, t205);
+                            const u32 t206 = load32(l9 + 128u);
+                            store32(l8, t206);
+                            const u32 t207 = load16(l9 + 132u);
+                            store16(l5, (u16)t207);
+                            const u64 t208 = load64(l9 + 112u);
+                            l8 = t208;
+                        }
+                        l5 = 0ull;
+                        l4 = l4 + l8;
+                        if (l4 == l7) goto L3;
+                        store8(l9 + 166u, (u8)0u);
+                        store16(l9 + 164u, (u16)0u);
+                        core_machine_Machine_next_function(stack, l9 + 164ull, l12);
+                        const u32 t209 = load8(l9 + 164u);
+                        l6 = t209;
+                        u32 v210;
+                        {
+                            {
+                                u32 v212;
+                                {
+                                    {
+                                        {
+                                            {
+                                                {
+                                                    {
+                                                        {
+                                                            {
+                                                                {
+                                                                    {
+                                                                        {
+                                                                            if (l45) {
+                                                                                const u32 t224 = load8(l9 + 165u);
+                                                                                l34 = t224;
+                                                                                goto L222;
+                                                                            }
+                                                                            const u32 t225 = load8(l9 + 165u);
+                                                                            l34 = t225;
+                                                                            if ((l6 & 255u) != 1u) goto L222;
+                                                                            if ((l34 - 2u) < 23u) goto L222;
+                                                                            const u64 t226 = load64(l9 + 88u);
+                                                                            l14 = t226;
+                                                                            {
+                                                                                {
+                                                                                    if (l34 != 1u) {
+                                                                                        const u64 t230 = load64(l9 + 80u);
+                                                                                        l11 = t230;
+                                                                                        const u32 t231 = load8(l23);
+                                                                                        l31 = t231;
+                                                                                        if (l14 <= 3ull) {
+                                                                                            if (l14 == 0) goto L227;
+                                                                                            l34 = 0u;
+                                                                                            l30 = l31 & 255u;
+                                                                                            const u32 t233 = load8(l11);
+                                                                                            if (l30 == t233) goto L222;
+                                                                                            const u32 t234 = load8(l11 + (l14 >> 1));
+                                                                                            if (t234 == l30) goto L222;
+                                                                                            const u32 t235 = load8((l11 + l14) - 1ull);
+                                                                                            if (t235 != (l31 & 255u)) goto L227;
+                                                                                            goto L222;
+                                                                                        }
+                                                                                        if (l14 <= 8ull) {
+                                                                                            l34 = 0u;
+                                                                                            l30 = l31 & 255u;
+                                                                                            const u32 t237 = load8(l11);
+                                                                                            if (l30 == t237) goto L222;
+                                                                                            const u32 t238 = load8(l11 + 1ull);
+                                                                                            if (t238 == l30) goto L222;
+                                                                                            l30 = l31 & 255u;
+                                                                                            const u32 t239 = load8(l11 + 2ull);
+                                                                                            if (l30 == t239) goto L222;
+                                                                                            const u32 t240 = load8(l11 + 3ull);
+                                                                                            if (t240 == l30) goto L222;
+                                                                                            l30 = l31 & 255u;
+                                                                                            l8 = l11 + l14;
+                                                                                            const u32 t241 = load8(l8 - 4ull);
+                                                                                            if (l30 == t241) goto L222;
+                                                                                            const u32 t242 = load8(l8 - 3ull);
+                                                                                            if (t242 == l30) goto L222;
+                                                                                            l30 = l31 & 255u;
+                                                                                            const u32 t243 = load8(l8 - 2ull);
+                                                                                            if (l30 == t243) goto L222;
+                                                                                            const u32 t244 = load8(l8 - 1ull);
+                                                                                            if (t244 != l30) goto L227;
+                                                                                            goto L222;
+                                                                                        }
+                                                                                        if (l14 <= 32ull) {
+                                                                                            l34 = 0u;
+                                                                                            l30 = l31 & 255u;
+                                                                                            const u32 t246 = load8(l11);
+                                                                                            if (l30 == t246) goto L222;
+                                                                                            const u32 t247 = load8(l11 + 1ull);
+                                                                                            if (t247 == l30) goto L222;
+                                                                                            l30 = l31 & 255u;
+                                                                                            const u32 t248 = load8(l11 + 2ull);
+                                                                                            if (l30 == t248) goto L222;
+                                                                                            const u32 t249 = load8(l11 + 3ull);
+                                                                                            if (t249 == l30) goto L222;
+                                                                                            l30 = l31 & 255u;
+                                                                                            const u32 t250 = load8(l11 + 4ull);
+                                                                                            if (l30 == t250) goto L222;
+                                                                                            const u32 t251 = load8(l11 + 5ull);
+                                                                                            if (t251 == l30) goto L222;
+                                                                                            l30 = l31 & 255u;
+                                                                                            const u32 t252 = load8(l11 + 6ull);
+                                                                                            if (l30 == t252) goto L222;
+                                                                                            const u32 t253 = load8(l11 + 7ull);
+                                                                                            if (t253 == l30) goto L222;
+                                                                                            l30 = l31 & 255u;
+                                                                                            l16 = l14 - 8ull;
+                                                                                            l8 = l11 + ((l16 < 8ull) ? l16 : 8ull);
+                                                                                            const u32 t254 = load8(l8);
+                                                                                            if (l30 == t254) goto L222;
+                                                                                            const u32 t255 = load8(l8 + 1ull);
+                                                                                            if (t255 == l30) goto L222;
+                                                                                            l30 = l31 & 255u;
+                                                                                            const u32 t256 = load8(l8 + 2ull);
+                                                                                            if (l30 == t256) goto L222;
+                                                                                            const u32 t257 = load8(l8 + 3ull);
+                                                                                            if (t257 == l30) goto L222;
+                                                                                            l30 = l31 & 255u;
+                                                                                            const u32 t258 = load8(l8 + 4ull);
+                                                                                            if (l30 == t258) goto L222;
+                                                                                            const u32 t259 = load8(l8 + 5ull);
+                                                                                            if (t259 == l30) goto L222;
+                                                                                            l30 = l31 & 255u;
+                                                                                            const u32 t260 = load8(l8 + 6ull);
+                                                                                            if (l30 == t260) goto L222;
+                                                                                            const u32 t261 = load8(l8 + 7ull);
+                                                                                            if (t261 == l30) goto L222;
+                                                                                            l30 = l31 & 255u;
+                                                                                            l8 = l11 + ((l16 < 16ull) ? l16 : 16ull);
+                                                                                            const u32 t262 = load8(l8);
+                                                                                            if (l30 == t262) goto L222;
+                                                                                            const u32 t263 = load8(l8 + 1ull);
+                                                                                            if (t263 == l30) goto L222;
+                                                                                            l30 = l31 & 255u;
+                                                                                            const u32 t264 = load8(l8 + 2ull);
+                                                                                            if (l30 == t264) goto L222;
+                                                                                            const u32 t265 = load8(l8 + 3ull);
+                                                                                            if (t265 == l30) goto L222;
+                                                                                            l30 = l31 & 255u;
+                                                                                            const u32 t266 = load8(l8 + 4ull);
+                                                                                            if (l30 == t266) goto L222;
+                                                                                            const u32 t267 = load8(l8 + 5ull);
+                                                                                            if (t267 == l30) goto L222;
+                                                                                            l30 = l31 & 255u;
+                                                                                            const u32 t268 = load8(l8 + 6ull);
+                                                                                            if (l30 == t268) goto L222;
+                                                                                            const u32 t269 = load8(l8 + 7ull);
+                                                                                            if (t269 == l30) goto L222;
+                                                                                            l30 = l31 & 255u;
+                                                                                            l8 = l11 + l16;
+                                                                                            const u32 t270 = load8(l8);
+                                                                                            if (l30 == t270) goto L222;
+                                                                                            const u32 t271 = load8(l8 + 1ull);
+                                                                                            if (t271 == l30) goto L222;
+                                                                                            l30 = l31 & 255u;
+                                                                                            const u32 t272 = load8(l8 + 2ull);
+                                                                                            if (l30 == t272) goto L222;
+                                                                                            const u32 t273 = load8(l8 + 3ull);
+                                                                                            if (t273 == l30) goto L222;
+                                                                                            l30 = l31 & 255u;
+                                                                                            const u32 t274 = load8(l8 + 4ull);
+                                                                                            if (l30 == t274) goto L222;
+                                                                                            const u32 t275 = load8(l8 + 5ull);
+                                                                                            if (t275 == l30) goto L222;
+                                                                                            l30 = l31 & 255u;
+                                                                                            const u32 t276 = load8(l8 + 6ull);
+                                                                                            if (l30 == t276) goto L222;
+                                                                                            const u32 t277 = load8(l8 + 7ull);
+                                                                                            if (t277 != l30) goto L227;
+                                                                                            goto L222;
+                                                                                        }
+                                                                                        if (l14 <= 64ull) {
+                                                                                            l34 = 0u;
+                                                                                            l30 = l31 & 255u;
+                                                                                            const u32 t279 = load8(l11);
+                                                                                            if (l30 == t279) goto L222;
+                                                                                            const u32 t280 = load8(l11 + 1ull);
+                                                                                            if (t280 == l30) goto L222;
+                                                                                            l30 = l31 & 255u;
+                                                                                            const u32 t281 = load8(l11 + 2ull);
+                                                                                            if (l30 == t281) goto L222;
+                                                                                            const u32 t282 = load8(l11 + 3ull);
+                                                                                            if (t282 == l30) goto L222;
+                                                                                            l30 = l31 & 255u;
+                                                                                            const u32 t283 = load8(l11 + 4ull);
+                                                                                            if (l30 == t283) goto L222;
+                                                                                            const u32 t284 = load8(l11 + 5ull);
+                                                                                            if (t284 == l30) goto L222;
+                                                                                            l30 = l31 & 255u;
+                                                                                            const u32 t285 = load8(l11 + 6ull);
+                                                                                            if (l30 == t285) goto L222;
+                                                                                            const u32 t286 = load8(l11 + 7ull);
+                                                                                            if (t286 == l30) goto L222;
+                                                                                            l30 = l31 & 255u;
+                                                                                            const u32 t287 = load8(l11 + 8ull);
+                                                                                            if (l30 == t287) goto L222;
+                                                                                            const u32 t288 = load8(l11 + 9ull);
+                                                                                            if (t288 == l30) goto L222;
+                                                                                            l30 = l31 & 255u;
+                                                                                            const u32 t289 = load8(l11 + 10ull);
+                                                                                            if (l30 == t289) goto L222;
+                                                                                            const u32 t290 = load8(l11 + 11ull);
+                                                                                            if (t290 == l30) goto L222;
+                                                                                            l30 = l31 & 255u;
+                                                                                            const u32 t291 = load8(l11 + 12ull);
+                                                                                            if (l30 == t291) goto L222;
+                                                                                            const u32 t292 = load8(l11 + 13ull);
+                                                                                            if (t292 == l30) goto L222;
+                                                                                            l30 = l31 & 255u;
+                                                                                            const u32 t293 = load8(l11 + 14ull);
+                                                                                            if (l30 == t293) goto L222;
+                                                                                            const u32 t294 = load8(l11 + 15ull);
+                                                                                            if (t294 == l30) goto L222;
+                                                                                            l30 = l31 & 255u;
+                                                                                            const u32 t295 = load8(l11 + 16ull);
+                                                                                            if (l30 == t295) goto L222;
+                                                                                            const u32 t296 = load8(l11 + 17ull);
+                                                                                            if (t296 == l30) goto L222;
+                                                                                            l30 = l31 & 255u;
+                                                                                            const u32 t297 = load8(l11 + 18ull);
+                                                                                            if (l30 == t297) goto L222;
+                                                                                            const u32 t298 = load8(l11 + 19ull);
+                                                                                            if (t298 == l30) goto L222;
+                                                                                            l30 = l31 & 255u;
+                                                                                            const u32 t299 = load8(l11 + 20ull);
+                                                                                            if (l30 == t299) goto L222;
+                                                                                            const u32 t300 = load8(l11 + 21ull);
+                                                                                            if (t300 == l30) goto L222;
+                                                                                            l30 = l31 & 255u;
+                                                                                            const u32 t301 = load8(l11 + 22ull);
+                                                                                            if (l30 == t301) goto L222;
+                                                                                            const u32 t302 = load8(l11 + 23ull);
+                                                                                            if (t302 == l30) goto L222;
+                                                                                            l30 = l31 & 255u;
+                                                                                            const u32 t303 = load8(l11 + 24ull);
+                                                                                            if (l30 == t303) goto L222;
+                                                                                            const u32 t304 = load8(l11 + 25ull);
+                                                                                            if (t304 == l30) goto L222;
+                                                                                            l30 = l31 & 255u;
+                                                                                            const u32 t305 = load8(l11 + 26ull);
+                                                                                            if (l30 == t305) goto L222;
+                                                                                            const u32 t306 = load8(l11 + 27ull);
+                                                                                            if (t306 == l30) goto L222;
+                                                                                            l30 = l31 & 255u;
+                                                                                            const u32 t307 = load8(l11 + 28ull);
+                                                                                            if (l30 == t307) goto L222;
+                                                                                            const u32 t308 = load8(l11 + 29ull);
+                                                                                            if (t308 == l30) goto L222;
+                                                                                            l30 = l31 & 255u;
+                                                                                            const u32 t309 = load8(l11 + 30ull);
+                                                                                            if (l30 == t309) goto L222;
+                                                                                            const u32 t310 = load8(l11 + 31ull);
+                                                                                            if (t310 == l30) goto L222;
+                                                                                            l30 = l31 & 255u;
+                                                                                            l8 = l11 + l14;
+                                                                                            const u32 t311 = load8(l8 - 32ull);
+                                                                                            if (l30 == t311) goto L222;
+                                                                                            const u32 t312 = load8(l8 - 31ull);
+                                                                                            if (t312 == l30) goto L222;
+                                                                                            l30 = l31 & 255u;
+                                                                                            const u32 t313 = load8(l8 - 30ull);
+                                                                                            if (l30 == t313) goto L222;
+                                                                                            const u32 t314 = load8(l8 - 29ull);
+                                                                                            if (t314 == l30) goto L222;
+                                                                                            l30 = l31 & 255u;
+                                                                                            const u32 t315 = load8(l8 - 28ull);
+                                                                                            if (l30 == t315) goto L222;
+                                                                                            const u32 t316 = load8(l8 - 27ull);
+                                                                                            if (t316 == l30) goto L222;
+                                                                                            l30 = l31 & 255u;
+                                                                                            const u32 t317 = load8(l8 - 26ull);
+                                                                                            if (l30 == t317) goto L222;
+                                                                                            const u32 t318 = load8(l8 - 25ull);
+                                                                                            if (t318 == l30) goto L222;
+                                                                                            l30 = l31 & 255u;
+                                                                                            const u32 t319 = load8(l8 - 24ull);
+                                                                                            if (l30 == t319) goto L222;
+                                                                                            const u32 t320 = load8(l8 - 23ull);
+                                                                                            if (t320 == l30) goto L222;
+                                                                                            l30 = l31 & 255u;
+                                                                                            const u32 t321 = load8(l8 - 22ull);
+                                                                                            if (l30 == t321) goto L222;
+                                                                                            const u32 t322 = load8(l8 - 21ull);
+                                                                                            if (t322 == l30) goto L222;
+                                                                                            l30 = l31 & 255u;
+                                                                                            const u32 t323 = load8(l8 - 20ull);
+                                                                                            if (l30 == t323) goto L222;
+                                                                                            const u32 t324 = load8(l8 - 19ull);
+                                                                                            if (t324 == l30) goto L222;
+                                                                                            l30 = l31 & 255u;
+                                                                                            const u32 t325 = load8(l8 - 18ull);
+                                                                                            if (l30 == t325) goto L222;
+                                                                                            const u32 t326 = load8(l8 - 17ull);
+                                                                                            if (t326 == l30) goto L222;
+                                                                                            l30 = l31 & 255u;
+                                                                                            const u32 t327 = load8(l8 - 16ull);
+                                                                                            if (l30 == t327) goto L222;
+                                                                                            const u32 t328 = load8(l8 - 15ull);
+                                                                                            if (t328 == l30) goto L222;
+                                                                                            l30 = l31 & 255u;
+                                                                                            const u32 t329 = load8(l8 - 14ull);
+                                                                                            if (l30 == t329) goto L222;
+                                                                                            const u32 t330 = load8(l8 - 13ull);
+                                                                                            if (t330 == l30) goto L222;
+                                                                                            l30 = l31 & 255u;
+                                                                                            const u32 t331 = load8(l8 - 12ull);
+                                                                                            if (l30 == t331) goto L222;
+                                                                                            const u32 t332 = load8(l8 - 11ull);
+                                                                                            if (t332 == l30) goto L222;
+                                                                                            l30 = l31 & 255u;
+                                                                                            const u32 t333 = load8(l8 - 10ull);
+                                                                                            if (l30 == t333) goto L222;
+                                                                                            const u32 t334 = load8(l8 - 9ull);
+                                                                                            if (t334 == l30) goto L222;
+                                                                                            l30 = l31 & 255u;
+                                                                                            const u32 t335 = load8(l8 - 8ull);
+                                                                                            if (l30 == t335) goto L222;
+                                                                                            const u32 t336 = load8(l8 - 7ull);
+                                                                                            if (t336 == l30) goto L222;
+                                                                                            l30 = l31 & 255u;
+                                                                                            const u32 t337 = load8(l8 - 6ull);
+                                                                                            if (l30 == t337) goto L222;
+                                                                                            const u32 t338 = load8(l8 - 5ull);
+                                                                                            if (t338 == l30) goto L222;
+                                                                                            l30 = l31 & 255u;
+                                                                                            const u32 t339 = load8(l8 - 4ull);
+                                                                                            if (l30 == t339) goto L222;
+                                                                                            const u32 t340 = load8(l8 - 3ull);
+                                                                                            if (t340 == l30) goto L222;
+                                                                                            l30 = l31 & 255u;
+                                                                                            const u32 t341 = load8(l8 - 2ull);
+                                                                                            if (l30 == t341) goto L222;
+                                                                                            const u32 t342 = load8(l8 - 1ull);
+                                                                                            if (t342 != l30) goto L227;
+                                                                                            goto L222;
+                                                                                        }
+                                                                                        l0 = l14 & 18446744073709551552ull;
+                                                                                        l1 = 0ull;
+                                                                                        l2 = l11;
+                                                                                        {
+                                                                                            L344:;
+                                                                                            {
+                                                                                                l34 = 0u;
+                                                                                                l16 = 0ull;
+                                                                                                L345:;
+                                                                                                {
+                                                                                                    l30 = l31 & 255u;
+                                                                                                    l8 = l2 + l16;
+                                                                                                    const u32 t346 = load8(l8);
+                                                                                                    const u32 t347 = load8(l8 + 1ull);
+                                                                                                    const u32 t348 = load8(l8 + 2ull);
+                                                                                                    const u32 t349 = load8(l8 + 3ull);
+                                                                                                    l34 = (((l34 | (l30 == t346)) | (t347 == l30)) | (t348 == l30)) | (t349 == l30);
+                                                                                                    l16 = l16 + 4ull;
+                                                                                                    if (l16 != 64ull) goto L345;
+                                                                                                }
+                                                                                                if (l34 & 1u) goto L343;
+                                                                                                l2 = l2 + 64ull;
+                                                                                                l1 = l1 + 64ull;
+                                                                                                if ((l14 - l1) > 63ull) goto L344;
+                                                                                            }
+                                                                                            l1 = l0;
+                                                                                        }
+                                                                                        L343:;
+                                                                                        l16 = l14 - l1;
+                                                                                        if (l16 < 32ull) goto L228;
+                                                                                        l8 = l1 + l11;
+                                                                                        L350:;
+                                                                                        {
+                                                                                            {
+                                                                                                l30 = l31 & 255u;
+                                                                                                const u32 t352 = load8(l8);
+                                                                                                if (l30 == t352) goto L351;
+                                                                                                const u32 t353 = load8(l8 + 1ull);
+                                                                                                if (t353 == l30) goto L351;
+                                                                                                l30 = l31 & 255u;
+                                                                                                const u32 t354 = load8(l8 + 2ull);
+                                                                                                if (l30 == t354) goto L351;
+                                                                                                const u32 t355 = load8(l8 + 3ull);
+                                                                                                if (t355 == l30) goto L351;
+                                                                                                l30 = l31 & 255u;
+                                                                                                const u32 t356 = load8(l8 + 4ull);
+                                                                                                if (l30 == t356) goto L351;
+                                                                                                const u32 t357 = load8(l8 + 5ull);
+                                                                                                if (t357 == l30) goto L351;
+                                                                                                l30 = l31 & 255u;
+                                                                                                const u32 t358 = load8(l8 + 6ull);
+                                                                                                if (l30 == t358) goto L351;
+                                                                                                const u32 t359 = load8(l8 + 7ull);
+                                                                                                if (t359 == l30) goto L351;
+                                                                                                l30 = l31 & 255u;
+                                                                                                const u32 t360 = load8(l8 + 8ull);
+                                                                                                if (l30 == t360) goto L351;
+                                                                                                const u32 t361 = load8(l8 + 9ull);
+                                                                                                if (t361 == l30) goto L351;
+                                                                                                l30 = l31 & 255u;
+                                                                                                const u32 t362 = load8(l8 + 10ull);
+                                                                                                if (l30 == t362) goto L351;
+                                                                                                const u32 t363 = load8(l8 + 11ull);
+                                                                                                if (t363 == l30) goto L351;
+                                                                                                l30 = l31 & 255u;
+                                                                                                const u32 t364 = load8(l8 + 12ull);
+                                                                                                if (l30 == t364) goto L351;
+                                                                                                const u32 t365 = load8(l8 + 13ull);
+                                                                                                if (t365 == l30) goto L351;
+                                                                                                l30 = l31 & 255u;
+                                                                                                const u32 t366 = load8(l8 + 14ull);
+                                                                                                if (l30 == t366) goto L351;
+                                                                                                const u32 t367 = load8(l8 + 15ull);
+                                                                                                if (t367 == l30) goto L351;
+                                                                                                l30 = l31 & 255u;
+                                                                                                const u32 t368 = load8(l8 + 16ull);
+                                                                                                if (l30 == t368) goto L351;
+                                                                                                const u32 t369 = load8(l8 + 17ull);
+                                                                                                if (t369 == l30) goto L351;
+                                                                                                l30 = l31 & 255u;
+                                                                                                const u32 t370 = load8(l8 + 18ull);
+                                                                                                if (l30 == t370) goto L351;
+                                                                                                const u32 t371 = load8(l8 + 19ull);
+                                                                                                if (t371 == l30) goto L351;
+                                                                                                l30 = l31 & 255u;
+                                                                                                const u32 t372 = load8(l8 + 20ull);
+                                                                                                if (l30 == t372) goto L351;
+                                                                                                const u32 t373 = load8(l8 + 21ull);
+                                                                                                if (t373 == l30) goto L351;
+                                                                                                l30 = l31 & 255u;
+                                                                                                const u32 t374 = load8(l8 + 22ull);
+                                                                                                if (l30 == t374) goto L351;
+                                                                                                const u32 t375 = load8(l8 + 23ull);
+                                                                                                if (t375 == l30) goto L351;
+                                                                                                l30 = l31 & 255u;
+                                                                                                const u32 t376 = load8(l8 + 24ull);
+                                                                                                if (l30 == t376) goto L351;
+                                                                                                const u32 t377 = load8(l8 + 25ull);
+                                                                                                if (t377 == l30) goto L351;
+                                                                                                l30 = l31 & 255u;
+                                                                                                const u32 t378 = load8(l8 + 26ull);
+                                                                                                if (l30 == t378) goto L351;
+                                                                                                const u32 t379 = load8(l8 + 27ull);
+                                                                                                if (t379 == l30) goto L351;
+                                                                                                l30 = l31 & 255u;
+                                                                                                const u32 t380 = load8(l8 + 28ull);
+                                                                                                if (l30 == t380) goto L351;
+                                                                                                const u32 t381 = load8(l8 + 29ull);
+                                                                                                if (t381 == l30) goto L351;
+                                                                                                l30 = l31 & 255u;
+                                                                                                const u32 t382 = load8(l8 + 30ull);
+                                                                                                if (l30 == t382) goto L351;
+                                                                                                const u32 t383 = load8(l8 + 31ull);
+                                                                                                if (t383 == l30) goto L351;
+                                                                                                l8 = l8 + 32ull;
+                                                                                                l16 = l16 - 32ull;
+                                                                                                if (l16 > 31ull) goto L350;
+                                                                                                goto L228;
+                                                                                            }
+                                                                                            L351:;
+                                                                                        }
+                                                                                        if (l16 <= 31ull) goto L228;
+                                                                                        l34 = 0u;
+                                                                                        goto L222;
+                                                                                    }
+                                                                                    if (l14 == 0) goto L221;
+                                                                                    l34 = 1u;
+                                                                                    goto L222;
+                                                                                }
+                                                                                L228:;
+                                                                                l34 = 0u;
+                                                                                l30 = l31 & 255u;
+                                                                                l8 = l11 + l14;
+                                                                                const u32 t384 = load8(l8 - 32ull);
+                                                                                if (l30 == t384) goto L222;
+                                                                                const u32 t385 = load8(l8 - 31ull);
+                                                                                if (t385 == l30) goto L222;
+                                                                                l30 = l31 & 255u;
+                                                                                const u32 t386 = load8(l8 - 30ull);
+                                                                                if (l30 == t386) goto L222;
+                                                                                const u32 t387 = load8(l8 - 29ull);
+                                                                                if (t387 == l30) goto L222;
+                                                                                l30 = l31 & 255u;
+                                                                                const u32 t388 = load8(l8 - 28ull);
+                                                                                if (l30 == t388) goto L222;
+                                                                                const u32 t389 = load8(l8 - 27ull);
+                                                                                if (t389 == l30) goto L222;
+                                                                                l30 = l31 & 255u;
+                                                                                const u32 t390 = load8(l8 - 26ull);
+                                                                                if (l30 == t390) goto L222;
+                                                                                const u32 t391 = load8(l8 - 25ull);
+                                                                                if (t391 == l30) goto L222;
+                                                                                l30 = l31 & 255u;
+                                                                                const u32 t392 = load8(l8 - 24ull);
+                                                                                if (l30 == t392) goto L222;
+                                                                                const u32 t393 = load8(l8 - 23ull);
+                                                                                if (t393 == l30) goto L222;
+                                                                                l30 = l31 & 255u;
+                                                                                const u32 t394 = load8(l8 - 22ull);
+                                                                                if (l30 == t394) goto L222;
+                                                                                const u32 t395 = load8(l8 - 21ull);
+                                                                                if (t395 == l30) goto L222;
+                                                                                l30 = l31 & 255u;
+                                                                                const u32 t396 = load8(l8 - 20ull);
+                                                                                if (l30 == t396) goto L222;
+                                                                                const u32 t397 = load8(l8 - 19ull);
+                                                                                if (t397 == l30) goto L222;
+                                                                                l30 = l31 & 255u;
+                                                                                const u32 t398 = load8(l8 - 18ull);
+                                                                                if (l30 == t398) goto L222;
+                                                                                const u32 t399 = load8(l8 - 17ull);
+                                                                                if (t399 == l30) goto L222;
+                                                                                l30 = l31 & 255u;
+                                                                                const u32 t400 = load8(l8 - 16ull);
+                                                                                if (l30 == t400) goto L222;
+                                                                                const u32 t401 = load8(l8 - 15ull);
+                                                                                if (t401 == l30) goto L222;
+                                                                                l30 = l31 & 255u;
+                                                                                const u32 t402 = load8(l8 - 14ull);
+                                                                                if (l30 == t402) goto L222;
+                                                                                const u32 t403 = load8(l8 - 13ull);
+                                                                                if (t403 == l30) goto L222;
+                                                                                l30 = l31 & 255u;
+                                                                                const u32 t404 = load8(l8 - 12ull);
+                                                                                if (l30 == t404) goto L222;
+                                                                                const u32 t405 = load8(l8 - 11ull);
+                                                                                if (t405 == l30) goto L222;
+                                                                                l30 = l31 & 255u;
+                                                                                const u32 t406 = load8(l8 - 10ull);
+                                                                                if (l30 == t406) goto L222;
+                                                                                const u32 t407 = load8(l8 - 9ull);
+                                                                                if (t407 == l30) goto L222;
+                                                                                l30 = l31 & 255u;
+                                                                                const u32 t408 = load8(l8 - 8ull);
+                                                                                if (l30 == t408) goto L222;
+                                                                                const u32 t409 = load8(l8 - 7ull);
+                                                                                if (t409 == l30) goto L222;
+                                                                                l30 = l31 & 255u;
+                                                                                const u32 t410 = load8(l8 - 6ull);
+                                                                                if (l30 == t410) goto L222;
+                                                                                const u32 t411 = load8(l8 - 5ull);
+                                                                                if (t411 == l30) goto L222;
+                                                                                l30 = l31 & 255u;
+                                                                                const u32 t412 = load8(l8 - 4ull);
+                                                                                if (l30 == t412) goto L222;
+                                                                                const u32 t413 = load8(l8 - 3ull);
+                                                                                if (t413 == l30) goto L222;
+                                                                                l30 = l31 & 255u;
+                                                                                const u32 t414 = load8(l8 - 2ull);
+                                                                                if (l30 == t414) goto L222;
+                                                                                const u32 t415 = load8(l8 - 1ull);
+                                                                                if (t415 == l30) goto L222;
+                                                                            }
+                                                                            L227:;
+                                                                            const u32 t416 = load32(l12 + 24ull);
+                                                                            const u32 t417 = load32(l12 + 20ull);
+                                                                            const u32 t418 = load32(l12 + 16ull);
+                                                                            const u64 t419 = load32(l12 + 8ull);
+                                                                            if ((l14 + (u64)((t416 + (t417 + t418)))) <= (t419 + 1ull)) goto L221;
+                                                                            l34 = 0u;
+                                                                        }
+                                                                        L222:;
+                                                                        {
+                                                                            {
+                                                                                {
+                                                                                    {
+                                                                                        const u64 t424 = load64(l9 + 48u);
+                                                                                        const u64 t425 = load64(l9 + 56u);
+                                                                                        l8 = t424 - t425;
+                                                                                        const u32 t426 = load32(l12 + 16ull);
+                                                                                        l30 = t426;
+                                                                                        const u32 t427 = load32(l12 + 20ull);
+                                                                                        l31 = t427;
+                                                                                        if (l8 >= ((u64)(l30 + l31) - (u64)l30)) {
+                                                                                            const u32 t429 = load8(l12 + 84ull);
+                                                                                            if (t429 == 1u) goto L422;
+                                                                                            const u64 t430 = load64(l12 + 72ull);
+                                                                                            const u64 t431 = load64(l12 + 64ull);
+                                                                                            if (t430 == t431) goto L423;
+                                                                                            const u32 t432 = load32(l12 + 24ull);
+                                                                                            l30 = t432;
+                                                                                            if (l30 == 0) goto L423;
+                                                                                            const u64 t433 = load64(l12);
+                                                                                            const u32 t434 = load32(l12 + 28ull);
+                                                                                            const u32 t435 = load8((t433 + ((u64)(t434 - l30) << 3)) + 1ull);
+                                                                                            if (t435 != 41u) goto L423;
+                                                                                            const u32 t436 = load32(l12 + 32ull);
+                                                                                            l30 = t436;
+                                                                                            if (l30 == 0) goto L423;
+                                                                                            if ((u64)l31 <= l8) {
+                                                                                                if ((l6 & 255u) == 0) goto L423;
+                                                                                                if ((l34 & 255u) != 10u) goto L423;
+                                                                                            }
+                                                                                            const u32 t438 = core_machine_printing_call_len(stack, l12, l30 - (l30 != 0u));
+                                                                                            if (l8 >= (u64)t438) goto L423;
+                                                                                        }
+                                                                                        const u32 t439 = load8(l12 + 84ull);
+                                                                                        if (t439 == 1u) goto L422;
+                                                                                        const u64 t440 = load64(l12 + 72ull);
+                                                                                        const u64 t441 = load64(l12 + 64ull);
+                                                                                        if (t440 == t441) goto L423;
+                                                                                        const u32 t442 = load32(l12 + 24ull);
+                                                                                        l30 = t442;
+                                                                                        if (l30 == 0) goto L423;
+                                                                                        const u64 t443 = load64(l12);
+                                                                                        const u32 t444 = load32(l12 + 28ull);
+                                                                                        const u32 t445 = load8((t443 + ((u64)(t444 - l30) << 3)) + 1ull);
+                                                                                        if (t445 != 41u) goto L423;
+                                                                                        const u32 t446 = load32(l12 + 32ull);
+                                                                                        l30 = t446;
+                                                                                        if (l30 == 0) goto L423;
+                                                                                        const u32 t447 = core_machine_printing_call_len(stack, l12, l30 - 1u);
+                                                                                        l16 = (u64)t447;
+                                                                                        if (l8 < l16) goto L420;
+                                                                                    }
+                                                                                    L423:;
+                                                                                    const u32 t448 = load8(l12 + 84ull);
+                                                                                    if (t448 != 1u) goto L421;
+                                                                                }
+                                                                                L422:;
+                                                                                const u32 t449 = load8(l12 + 85ull);
+                                                                                l6 = t449;
+                                                                                v210 = 1u; goto L210;
+                                                                            }
+                                                                            L421:;
+                                                                            const u64 t450 = load64(l12 + 72ull);
+                                                                            const u64 t451 = load64(l12 + 64ull);
+                                                                            if (t450 == t451) {
+                                                                                store16(l12 + 84ull, (u16)769u);
+                                                                                l6 = 3u;
+                                                                                v210 = 1u; goto L210;
+                                                                            }
+                                                                            const u32 t453 = load32(l12 + 24ull);
+                                                                            l30 = t453;
+                                                                            const u32 t454 = load32(l12 + 16ull);
+                                                                            l34 = t454;
+                                                                            const u32 t455 = load32(l12 + 20ull);
+                                                                            l31 = t455;
+                                                                            store32(l9 + 184u, l31);
+                                                                            l6 = 0u;
+                                                                            store32(l9 + 168u, 0u);
+                                                                            store64(l9 + 144u, 0ull);
+                                                                            store64(l9 + 136u, 0ull);
+                                                                            core_scan_pass(stack, l9 + 136ull, l12, 1ull, l9 + 184ull, l9 + 168ull);
+                                                                            const u32 t456 = load8(l9 + 136u);
+                                                                            if (t456 == 1u) {
+                                                                                const u32 t458 = load8(l9 + 140u);
+                                                                                if (t458 == 0) {
+                                                                                    l34 = 0u;
+                                                                                    store32(l12 + 32ull, 0u);
+                                                                                    l16 = l12 + 20ull;
+                                                                                    store32(l16, 0u);
+                                                                                    const u32 t460 = load32(l12 + 28ull);
+                                                                                    l6 = t460;
+                                                                                    l14 = l12 + 24ull;
+                                                                                    const u32 t461 = load32(l14);
+                                                                                    l30 = t461;
+                                                                                    l2 = l12 + 16ull;
+                                                                                    const u32 t462 = load32(l2);
+                                                                                    if ((l6 - (l30 + t462)) <= 10u) {
+                                                                                        const u32 t464 = space_space_Space_try_claim_spare(stack, l12, 11ull);
+                                                                                        if (t464 == 0) {
+                                                                                            l6 = 2u;
+                                                                                            goto L211;
+                                                                                        }
+                                                                                        const u32 t466 = load32(l12 + 24ull);
+                                                                                        l30 = t466;
+                                                                                        const u32 t467 = load32(l12 + 28ull);
+                                                                                        l6 = t467;
+                                                                                    }
+                                                                                    const u64 t468 = load64(l12);
+                                                                                    l30 = l30 + 11u;
+                                                                                    l8 = t468 + ((u64)(l6 - l30) << 3);
+                                                                                    store64(l8 + 56u, 0ull);
+                                                                                    store64(l8 + 48u, 0ull);
+                                                                                    store64(l8 + 40u, 0ull);
+                                                                                    store64(l8 + 32u, 0ull);
+                                                                                    store64(l8 + 24u, 0ull);
+                                                                                    store64(l8 + 16u, 0ull);
+                                                                                    store64(l8 + 8u, 0ull);
+                                                                                    store64(l8, 0ull);
+                                                                                    store16(l8 + 80u, (u16)10496u);
+                                                                                    store16(l8 + 72u, (u16)10496u);
+                                                                                    store16(l8 + 64u, (u16)29440u);
+                                                                                    store32(l8 + 84ull, 0u);
+                                                                                    store32(l8 + 76ull, 0u);
+                                                                                    store32(l8 + 68ull, 0u);
+                                                                                    store8(l8 + 57ull, (u8)114u);
+                                                                                    store8(l8 + 49ull, (u8)40u);
+                                                                                    store8(l8 + 41ull, (u8)35u);
+                                                                                    store8(l8 + 33ull, (u8)44u);
+                                                                                    store8(l8 + 25ull, (u8)115u);
+                                                                                    store8(l8 + 17ull, (u8)112u);
+                                                                                    store8(l8 + 9ull, (u8)40u);
+                                                                                    store8(l8 + 1ull, (u8)35u);
+                                                                                    store32(l14, l30);
+                                                                                    const u32 t469 = load32(l16);
+                                                                                    const u32 t470 = load32(l2);
+                                                                                    l30 = t469 + (t470 + l30);
+                                                                                    goto L213;
+                                                                                }
+                                                                                const u64 t471 = load64(l9 + 144u);
+                                                                                l16 = t471;
+                                                                                l8 = l12 + 24ull;
+                                                                                const u32 t472 = load32(l8);
+                                                                                l39 = t472 - 1u;
+                                                                                store32(l8, l39);
+                                                                                const u32 t473 = load32(l12 + 20ull);
+                                                                                l31 = t473;
+                                                                                const u32 t474 = load32(l12 + 16ull);
+                                                                                l30 = t474;
+                                                                                store64(l9 + 200u, 0ull);
+                                                                                store64(l9 + 184u, 0ull);
+                                                                                store64(l9 + 192u, 0ull);
+                                                                                store64(l9 + 168u, 0ull);
+                                                                                store64(l9 + 176u, 0ull);
+                                                                                const u64 t475 = load64(l12);
+                                                                                l8 = t475;
+                                                                                l34 = (u32)l16;
+                                                                                const u32 t476 = load8((l8 + ((u64)(l30 + l34) << 3)) + 1ull);
+                                                                                l6 = t476;
+                                                                                store8(l9 + 138u, (u8)0u);
+                                                                                store16(l9 + 136u, (u16)0u);
+                                                                                {
+                                                                                    l40 = l30 + l31;
+                                                                                    l41 = l34 + 1u;
+                                                                                    l2 = (u64)(l30 + l41);
+                                                                                    l14 = (u64)l40 - l2;
+                                                                                    if (l14 < 2ull) goto L477;
+                                                                                    l2 = l8 + (l2 << 3);
+                                                                                    if (l14 != 2ull) {
+                                                                                        const u32 t479 = load8(l2 + 16ull);
+                                                                                        if (t479 != 2u) goto L477;
+                                                                                    }
+                                                                                    functions_function_function_of(stack, l9 + 136ull, l2, l2 + 8ull);
+                                                                                    const u32 t480 = load8(l9 + 136u);
+                                                                                    if (t480 != 1u) goto L477;
+                                                                                    l32 = (u32)(l16 >> 32);
+                                                                                    l6 = l6 == 0;
+                                                                                    l35 = l34 + 4u;
+                                                                                    {
+                                                                                        {
+                                                                                            {
+                                                                                                {
+                                                                                                    {
+                                                                                                        {
+                                                                                                            const u32 t487 = load8(l9 + 137u);
+                                                                                                            l33 = t487;
+                                                                                                            switch (l33 - 1u) {
+                                                                                                            case 0: goto L486;
+                                                                                                            case 1: goto L483;
+                                                                                                            case 2: goto L485;
+                                                                                                            case 3: goto L483;
+                                                                                                            case 4: goto L483;
+                                                                                                            case 5: goto L483;
+                                                                                                            case 6: goto L483;
+                                                                                                            case 7: goto L483;
+                                                                                                            case 8: goto L483;
+                                                                                                            case 9: goto L484;
+                                                                                                            case 10: goto L483;
+                                                                                                            case 11: goto L483;
+                                                                                                            case 12: goto L483;
+                                                                                                            case 13: goto L483;
+                                                                                                            case 14: goto L483;
+                                                                                                            case 15: goto L483;
+                                                                                                            case 16: goto L483;
+                                                                                                            case 17: goto L483;
+                                                                                                            case 18: goto L483;
+                                                                                                            case 19: goto L483;
+                                                                                                            case 20: goto L483;
+                                                                                                            case 21: goto L483;
+                                                                                                            case 22: goto L483;
+                                                                                                            case 23: goto L483;
+                                                                                                            default: goto L482;
+                                                                                                            }
+                                                                                                        }
+                                                                                                        L486:;
+                                                                                                        l11 = l9 + 200ull;
+                                                                                                        l0 = l12;
+                                                                                                        l1 = l9 + 80ull;
+                                                                                                        l8 = stack - 16ull;
+                                                                                                        stack = l8;
+                                                                                                        u32 v488;
+                                                                                                        {
+                                                                                                            {
+                                                                                                                {
+                                                                                                                    l6 = 4u;
+                                                                                                                    const u32 t491 = load8(l1 + 17ull);
+                                                                                                                    if (t491) { v488 = 1u; goto L488; }
+                                                                                                                    {
+                                                                                                                        const u64 t493 = load64(l1 + 8u);
+                                                                                                                        l2 = t493;
+                                                                                                                        if (l2 == 0) {
+                                                                                                                            const u32 t495 = load8(l1 + 16ull);
+                                                                                                                            if (t495) goto L492;
+                                                                                                                            store8(l1 + 17ull, (u8)1u);
+                                                                                                                            v488 = 1u; goto L488;
+                                                                                                                        }
+                                                                                                                        store64(l1 + 8u, l2 - 1ull);
+                                                                                                                        const u64 t496 = load64(l1);
+                                                                                                                        l2 = t496;
+                                                                                                                        store64(l1, l2 + 1ull);
+                                                                                                                        const u32 t497 = load8(l2);
+                                                                                                                        l6 = t497;
+                                                                                                                        store64(l8 + 8u, 0ull);
+                                                                                                                        store8(l8 + 9u, (u8)l6);
+                                                                                                                        const u32 t498 = load32(l0 + 28ull);
+                                                                                                                        l1 = l0 + 20ull;
+                                                                                                                        const u32 t499 = load32(l1);
+                                                                                                                        l32 = t499;
+                                                                                                                        const u32 t500 = load32(l0 + 16ull);
+                                                                                                                        l33 = l32 + t500;
+                                                                                                                        const u32 t501 = load32(l0 + 24ull);
+                                                                                                                        if (t498 != (l33 + t501)) {
+                                                                                                                            l2 = l0 + 32ull;
+                                                                                                                            const u32 t503 = load32(l2);
+                                                                                                                            l36 = t503;
+                                                                                                                            const u64 t504 = load64(l0);
+                                                                                                                            l0 = t504 + ((u64)l33 << 3);
+                                                                                                                            store8(l0, (u8)0u);
+                                                                                                                            store32(l0 + 4ull, 0u);
+                                                                                                                            store8(l0 + 1ull, (u8)l6);
+                                                                                                                            store32(l1, l32 + 1u);
+                                                                                                                            store32(l2, l36);
+                                                                                                                            goto L489;
+                                                                                                                        }
+                                                                                                                        const u32 t505 = space_space_Space_push_over_spare(stack, l0, l8 + 8ull);
+                                                                                                                        if (t505) goto L489;
+                                                                                                                        l6 = 0u;
+                                                                                                                        v488 = 0u; goto L488;
+                                                                                                                    }
+                                                                                                                    L492:;
+                                                                                                                    l1 = l1 + 24ull;
+                                                                                                                    const u64 t506 = load64(l1);
+                                                                                                                    store64(l1, t506 + 1ull);
+                                                                                                                    v488 = 4u; goto L488;
+                                                                                                                }
+                                                                                                                trap();
+                                                                                                            }
+                                                                                                            L489:;
+                                                                                                            l6 = 1u;
+                                                                                                            v488 = 0u;
+                                                                                                        }
+                                                                                                        L488:;
+                                                                                                        l32 = v488;
+                                                                                                        store8(l11, (u8)l6);
+                                                                                                        store32(l11 + 4ull, 0u);
+                                                                                                        store8(l11 + 1ull, (u8)l32);
+                                                                                                        stack = l8 + 16ull;
+                                                                                                        goto L481;
+                                                                                                    }
+                                                                                                    L485:;
+                                                                                                    store16(l25, (u16)0u);
+                                                                                                    store8(l25 + 2u, (u8)0u);
+                                                                                                    store8(l9 + 196u, (u8)l6);
+                                                                                                    store32(l9 + 192u, l32);
+                                                                                                    store32(l9 + 188u, l31);
+                                                                                                    store32(l9 + 184u, l35);
+                                                                                                    l10 = l9 + 200ull;
+                                                                                                    l1 = l12;
+                                                                                                    l11 = l9 + 184ull;
+                                                                                                    l8 = l9 + 40ull;
+                                                                                                    l0 = stack - 32ull;
+                                                                                                    stack = l0;
+                                                                                                    {
+                                                                                                        l2 = l0;
+                                                                                                        {
+                                                                                                            const u64 t509 = load64(l11 + 8u);
+                                                                                                            store64(l2 + 24u, t509);
+                                                                                                            const u64 t510 = load64(l11);
+                                                                                                            store64(l2 + 16u, t510);
+                                                                                                            functions_arguments_Arguments_next(stack, l2 + 8ull, l2 + 16ull, l1);
+                                                                                                            l33 = 3u;
+                                                                                                            u32 v511;
+                                                                                                            {
+                                                                                                                const u32 t512 = load32(l2 + 12u);
+                                                                                                                l6 = t512;
+                                                                                                                const u32 t513 = load32(l2 + 8u);
+                                                                                                                l32 = t513;
+                                                                                                                if (l6 == l32) { v511 = 0u; goto L511; }
+                                                                                                                const u64 t514 = load64(l1);
+                                                                                                                const u32 t515 = load32(l1 + 16ull);
+                                                                                                                const u32 t516 = l32;
+                                                                                                                l32 = t515;
+                                                                                                                l14 = (u64)(t516 + l32);
+                                                                                                                l11 = t514 + (l14 << 3);
+                                                                                                                {
+                                                                                                                    l13 = (u64)(l6 + l32);
+                                                                                                                    l1 = l13 - l14;
+                                                                                                                    if (l1 <= 15ull) {
+                                                                                                                        {
+                                                                                                                            L520:;
+                                                                                                                            {
+                                                                                                                                l6 = 0u;
+                                                                                                                                const u32 t521 = load8(l11);
+                                                                                                                                if (t521 == 0) {
+                                                                                                                                    const u32 t523 = load8(l11 + 1ull);
+                                                                                                                                    l6 = t523;
+                                                                                                                                }
+                                                                                                                                {
+                                                                                                                                    l0 = l8 + 16ull;
+                                                                                                                                    const u64 t525 = load64(l0);
+                                                                                                                                    l14 = t525;
+                                                                                                                                    const u64 t526 = load64(l8 + 8ull);
+                                                                                                                                    if (l14 < t526) {
+                                                                                                                                        const u64 t528 = load64(l8);
+                                                                                                                                        store8(t528 + l14, (u8)l6);
+                                                                                                                                        const u64 t529 = load64(l0);
+                                                                                                                                        store64(l0, t529 + 1ull);
+                                                                                                                                        goto L524;
+                                                                                                                                    }
+                                                                                                                                    l0 = l8 + 24ull;
+                                                                                                                                    const u32 t530 = load8(l0);
+                                                                                                                                    if (t530 == 1u) goto L519;
+                                                                                                                                    store8(l8 + 25ull, (u8)l6);
+                                                                                                                                    store8(l0, (u8)1u);
+                                                                                                                                }
+                                                                                                                                L524:;
+                                                                                                                                l11 = l11 + 8ull;
+                                                                                                                                l1 = l1 - 1ull;
+                                                                                                                                if ((l1 == 0) == 0) goto L520;
+                                                                                                                            }
+                                                                                                                            v511 = 0u; goto L511;
+                                                                                                                        }
+                                                                                                                        L519:;
+                                                                                                                        l8 = l8 + 32ull;
+                                                                                                                        const u64 t531 = load64(l8);
+                                                                                                                        store64(l8, t531 + 1ull);
+                                                                                                                        goto L517;
+                                                                                                                    }
+                                                                                                                    l0 = l8 + 16ull;
+                                                                                                                    const u64 t532 = load64(l0);
+                                                                                                                    const u64 t533 = load64(l8);
+                                                                                                                    const u64 t534 = load64(l8 + 8ull);
+                                                                                                                    const u64 t535 = c_filling_put_characters(stack, l11, l1, t532, t533, t534);
+                                                                                                                    l17 = t535;
+                                                                                                                    const u64 t536 = load64(l0);
+                                                                                                                    const u64 t537 = l0;
+                                                                                                                    l0 = l17 + t536;
+                                                                                                                    store64(t537, l0);
+                                                                                                                    if (l1 == l17) { v511 = 0u; goto L511; }
+                                                                                                                    l11 = l11 + (l17 << 3);
+                                                                                                                    l1 = (l14 + l17) - l13;
+                                                                                                                    {
+                                                                                                                        L539:;
+                                                                                                                        {
+                                                                                                                            l6 = 0u;
+                                                                                                                            const u32 t540 = load8(l11);
+                                                                                                                            if (t540 == 0) {
+                                                                                                                                const u32 t542 = load8(l11 + 1ull);
+                                                                                                                                l6 = t542;
+                                                                                                                            }
+                                                                                                                            {
+                                                                                                                                const u64 t544 = load64(l8 + 8ull);
+                                                                                                                                if (t544 > l0) {
+                                                                                                                                    const u64 t546 = load64(l8);
+                                                                                                                                    store8(t546 + l0, (u8)l6);
+                                                                                                                                    l0 = l8 + 16ull;
+                                                                                                                                    const u64 t547 = load64(l0);
+                                                                                                                                    const u64 t548 = l0;
+                                                                                                                                    l0 = t547 + 1ull;
+                                                                                                                                    store64(t548, l0);
+                                                                                                                                    goto L543;
+                                                                                                                                }
+                                                                                                                                l14 = l8 + 24ull;
+                                                                                                                                const u32 t549 = load8(l14);
+                                                                                                                                if (t549 == 1u) goto L538;
+                                                                                                                                store8(l8 + 25ull, (u8)l6);
+                                                                                                                                store8(l14, (u8)1u);
+                                                                                                                            }
+                                                                                                                            L543:;
+                                                                                                                            l11 = l11 + 8ull;
+                                                                                                                            l1 = l1 + 1ull;
+                                                                                                                            if ((l1 == 0) == 0) goto L539;
+                                                                                                                        }
+                                                                                                                        v511 = 0u; goto L511;
+                                                                                                                    }
+                                                                                                                    L538:;
+                                                                                                                    l8 = l8 + 32ull;
+                                                                                                                    const u64 t550 = load64(l8);
+                                                                                                                    store64(l8, t550 + 1ull);
+                                                                                                                }
+                                                                                                                L517:;
+                                                                                                                l33 = 4u;
+                                                                                                                v511 = 5u;
+                                                                                                            }
+                                                                                                            L511:;
+                                                                                                            l6 = v511;
+                                                                                                            store8(l10, (u8)l33);
+                                                                                                            store32(l10 + 4ull, 0u);
+                                                                                                            store8(l10 + 1ull, (u8)l6);
+                                                                                                            stack = l2 + 32ull;
+                                                                                                            goto L507;
+                                                                                                        }
+                                                                                                        trap();
+                                                                                                    }
+                                                                                                    L507:;
+                                                                                                    goto L481;
+                                                                                                }
+                                                                                                L484:;
+                                                                                                store16(l26, (u16)0u);
+                                                                                                store8(l26 + 2u, (u8)0u);
+                                                                                                store8(l9 + 180u, (u8)l6);
+                                                                                                store32(l9 + 176u, l32);
+                                                                                                store32(l9 + 172u, l31);
+                                                                                                store32(l9 + 168u, l35);
+                                                                                                l17 = l9 + 200ull;
+                                                                                                l0 = l12;
+                                                                                                l8 = l9 + 168ull;
+                                                                                                l11 = l9 + 40ull;
+                                                                                                l1 = stack - 80ull;
+                                                                                                stack = l1;
+                                                                                                u32 v551;
+                                                                                                {
+                                                                                                    {
+                                                                                                        {
+                                                                                                            {
+                                                                                                                {
+                                                                                                                    {
+                                                                                                                        {
+                                                                                                                            const u64 t558 = load64(l8 + 8u);
+                                                                                                                            store64(l1 + 32u, t558);
+                                                                                                                            const u64 t559 = load64(l8);
+                                                                                                                            store64(l1 + 24u, t559);
+                                                                                                                            functions_arguments_Arguments_next(stack, l1 + 16ull, l1 + 24ull, l0);
+                                                                                                                            const u32 t560 = load32(l1 + 20u);
+                                                                                                                            l32 = t560;
+                                                                                                                            const u32 t561 = load32(l1 + 16u);
+                                                                                                                            l6 = t561;
+                                                                                                                            store64(l1 + 72u, 0ull);
+                                                                                                                            store64(l1 + 64u, 0ull);
+                                                                                                                            store64(l1 + 56u, 0ull);
+                                                                                                                            store64(l1 + 48u, 0ull);
+                                                                                                                            store64(l1 + 40u, 0ull);
+                                                                                                                            u32 v562;
+                                                                                                                            {
+                                                                                                                                const u32 t563 = load32(l0 + 40ull);
+                                                                                                                                l33 = t563;
+                                                                                                                                if (l33 >= 8u) {
+                                                                                                                                    forms_work_Work_find_among_more(stack, l1, l0, l6, l32);
+                                                                                                                                    const u32 t565 = load32(l1 + 4u);
+                                                                                                                                    l6 = t565;
+                                                                                                                                    const u32 t566 = load8(l1);
+                                                                                                                                    v562 = t566; goto L562;
+                                                                                                                                }
+                                                                                                                                {
+                                                                                                                                    if (l33 == 0) goto L567;
+                                                                                                                                    const u64 t568 = load64(l0);
+                                                                                                                                    l14 = t568;
+                                                                                                                                    const u64 t569 = load32(l14 + 4ull);
+                                                                                                                                    const u32 t570 = load32(l0 + 16ull);
+                                                                                                                                    l33 = t570;
+                                                                                                                                    l8 = (u64)(l33 + l32);
+                                                                                                                                    l2 = (u64)(l6 + l33);
+                                                                                                                                    if (t569 != (l8 - l2)) goto L567;
+                                                                                                                                    l10 = 17ull - (l2 << 3);
+                                                                                                                                    l2 = (l8 ^ 18446744073709551615ull) + l2;
+                                                                                                                                    l8 = l14 + (l8 << 3);
+                                                                                                                                    L571:;
+                                                                                                                                    {
+                                                                                                                                        l2 = l2 + 1ull;
+                                                                                                                                        if (l2 == 0) goto L556;
+                                                                                                                                        l14 = l8 - 7ull;
+                                                                                                                                        l13 = l8 + l10;
+                                                                                                                                        l8 = l8 - 8ull;
+                                                                                                                                        const u32 t572 = load8(l13);
+                                                                                                                                        const u32 t573 = load8(l14);
+                                                                                                                                        if (t572 == t573) goto L571;
+                                                                                                                                    }
+                                                                                                                                }
+                                                                                                                                L567:;
+                                                                                                                                forms_work_Work_find_among_few(stack, l1 + 8ull, l0, l6, l32);
+                                                                                                                                const u32 t574 = load32(l1 + 12u);
+                                                                                                                                l6 = t574;
+                                                                                                                                const u32 t575 = load8(l1 + 8u);
+                                                                                                                                v562 = t575;
+                                                                                                                            }
+                                                                                                                            L562:;
+                                                                                                                            if ((v562 & 255u) != 1u) goto L554;
+                                                                                                                            goto L555;
+                                                                                                                        }
+                                                                                                                        trap();
+                                                                                                                    }
+                                                                                                                    L556:;
+                                                                                                                    store64(l0 + 44ull, 0ull);
+                                                                                                                    l6 = 0u;
+                                                                                                                }
+                                                                                                                L555:;
+                                                                                                                forms_work_Work_stored(stack, l1 + 40ull, l0, l6);
+                                                                                                                const u64 t576 = load64(l1 + 64u);
+                                                                                                                l8 = t576;
+                                                                                                                const u32 t577 = load32(l1 + 72u);
+                                                                                                                l32 = t577;
+                                                                                                                const u32 t578 = core_display_show_items2(stack, l1 + 40ull, 0u, l32, l11);
+                                                                                                                if (t578 & 255u) goto L552;
+                                                                                                                l0 = l11 + 16ull;
+                                                                                                                const u64 t579 = load64(l0);
+                                                                                                                l2 = t579;
+                                                                                                                l14 = l11 + 8ull;
+                                                                                                                const u64 t580 = load64(l14);
+                                                                                                                if (l2 >= t580) {
+                                                                                                                    l8 = l11 + 24ull;
+                                                                                                                    const u32 t582 = load8(l8);
+                                                                                                                    if (t582 == 1u) goto L553;
+                                                                                                                    store16(l8, (u16)15361u);
+                                                                                                                    goto L553;
+                                                                                                                }
+                                                                                                                const u64 t583 = load64(l11);
+                                                                                                                store8(t583 + l2, (u8)60u);
+                                                                                                                const u64 t584 = load64(l0);
+                                                                                                                l2 = t584 + 1ull;
+                                                                                                                store64(l0, l2);
+                                                                                                                {
+                                                                                                                    const u64 t586 = load64(l14);
+                                                                                                                    l0 = t586;
+                                                                                                                    if (l0 <= l2) {
+                                                                                                                        l14 = l11 + 24ull;
+                                                                                                                        const u32 t588 = load8(l14);
+                                                                                                                        if (t588 == 1u) goto L553;
+                                                                                                                        store16(l14, (u16)24065u);
+                                                                                                                        goto L585;
+                                                                                                                    }
+                                                                                                                    const u64 t589 = load64(l11);
+                                                                                                                    store8(t589 + l2, (u8)94u);
+                                                                                                                    l2 = l11 + 16ull;
+                                                                                                                    const u64 t590 = load64(l2);
+                                                                                                                    const u64 t591 = l2;
+                                                                                                                    l2 = t590 + 1ull;
+                                                                                                                    store64(t591, l2);
+                                                                                                                    const u64 t592 = load64(l11 + 8ull);
+                                                                                                                    l0 = t592;
+                                                                                                                }
+                                                                                                                L585:;
+                                                                                                                {
+                                                                                                                    if (l0 <= l2) {
+                                                                                                                        l2 = l11 + 24ull;
+                                                                                                                        const u32 t595 = load8(l2);
+                                                                                                                        if (t595 == 1u) goto L553;
+                                                                                                                        store16(l2, (u16)15873u);
+                                                                                                                        goto L593;
+                                                                                                                    }
+                                                                                                                    const u64 t596 = load64(l11);
+                                                                                                                    store8(t596 + l2, (u8)62u);
+                                                                                                                    l2 = l11 + 16ull;
+                                                                                                                    const u64 t597 = load64(l2);
+                                                                                                                    store64(l2, t597 + 1ull);
+                                                                                                                }
+                                                                                                                L593:;
+                                                                                                                const u32 t598 = core_display_show_items2(stack, l1 + 40ull, l32, (u32)l8, l11);
+                                                                                                                if (t598 & 255u) goto L552;
+                                                                                                            }
+                                                                                                            L554:;
+                                                                                                            l6 = 3u;
+                                                                                                            v551 = 0u; goto L551;
+                                                                                                        }
+                                                                                                        L553:;
+                                                                                                        l8 = l11 + 32ull;
+                                                                                                        const u64 t599 = load64(l8);
+                                                                                                        store64(l8, t599 + 1ull);
+                                                                                                    }
+                                                                                                    L552:;
+                                                                                                    l6 = 4u;
+                                                                                                    v551 = 5u;
+                                                                                                }
+                                                                                                L551:;
+                                                                                                l32 = v551;
+                                                                                                store8(l17, (u8)l6);
+                                                                                                store32(l17 + 4ull, 0u);
+                                                                                                store8(l17 + 1ull, (u8)l32);
+                                                                                                stack = l1 + 80ull;
+                                                                                                goto L481;
+                                                                                            }
+                                                                                            L483:;
+                                                                                            const u32 t600 = load8(l9 + 138u);
+                                                                                            l37 = t600;
+                                                                                            l36 = 0u;
+                                                                                            store16(l27, (u16)0u);
+                                                                                            store8(l27 + 2u, (u8)0u);
+                                                                                            store8(l9 + 124u, (u8)l6);
+                                                                                            store32(l9 + 120u, l32);
+                                                                                            store32(l9 + 116u, l31);
+                                                                                            store32(l9 + 112u, l35);
+                                                                                            store64(l9 + 208u, 0ull);
+                                                                                            {
+                                                                                                if ((l33 - 5u) < 20u) goto L601;
+                                                                                                l32 = 0u;
+                                                                                                {
+                                                                                                    switch (l33 - 3u) {
+                                                                                                    case 0: goto L601;
+                                                                                                    case 1: goto L216;
+                                                                                                    default: goto L602;
                                                                                                     }
                                                                                                 }
-                                                                                                L63:;
-                                                                                                const u32 t64 = load16(l26 + 84u);
-                                                                                                store16(l46, (u16)t64);
-                                                                                                const u32 t65 = load8(l26 + 86u);
-                                                                                                store8(l46 + 2u, (u8)t65);
-                                                                                                store8(l26 + 124u, (u8)l9);
-                                                                                                store32(l26 + 120u, l11);
-                                                                                                store32(l26 + 116u, l8);
-                                                                                                store32(l26 + 112u, l10);
-                                                                                                functions_arguments_Arguments_next(e, l26 + 8ull, l26 + 112ull, l27);
-                                                                                                const u32 t66 = load32(l26 + 8u);
-                                                                                                l8 = t66;
-                                                                                                const u32 t67 = load32(l26 + 12u);
-                                                                                                if (l8 == t67) goto L44;
-                                                                                                l29 = l30 + ((u64)(l8 + l14) << 3);
-                                                                                                const u32 t68 = load8(l29);
-                                                                                                const u64 t69 = l40;
-                                                                                                u32 v70;
-                                                                                                if (t68) {
-                                                                                                    v70 = 0u;
-                                                                                                } else {
-                                                                                                    const u32 t71 = load8(l29 + 1ull);
-                                                                                                    v70 = t71;
+                                                                                                L602:;
+                                                                                                l2 = l9 + 208ull;
+                                                                                                l1 = l9 + 112ull;
+                                                                                                l0 = stack - 32ull;
+                                                                                                stack = l0;
+                                                                                                {
+                                                                                                    {
+                                                                                                        const u64 t605 = load64(l1 + 8u);
+                                                                                                        store64(l0 + 24u, t605);
+                                                                                                        const u64 t606 = load64(l1);
+                                                                                                        store64(l0 + 16u, t606);
+                                                                                                        functions_arguments_Arguments_next(stack, l0 + 8ull, l0 + 16ull, l12);
+                                                                                                        const u32 t607 = load32(l0 + 8u);
+                                                                                                        l6 = t607;
+                                                                                                        const u32 t608 = load32(l0 + 12u);
+                                                                                                        if (l6 != t608) {
+                                                                                                            const u64 t610 = load64(l12);
+                                                                                                            const u32 t611 = load32(l12 + 16ull);
+                                                                                                            l1 = t610 + ((u64)(t611 + l6) << 3);
+                                                                                                            const u32 t612 = load8(l1);
+                                                                                                            const u64 t613 = l23;
+                                                                                                            u32 v614;
+                                                                                                            if (t612) {
+                                                                                                                v614 = 0u;
+                                                                                                            } else {
+                                                                                                                const u32 t615 = load8(l1 + 1ull);
+                                                                                                                v614 = t615;
+                                                                                                            }
+                                                                                                            store8(t613, (u8)v614);
+                                                                                                        }
+                                                                                                        store16(l2, (u16)3u);
+                                                                                                        store32(l2 + 4ull, 0u);
+                                                                                                        stack = l0 + 32ull;
+                                                                                                        goto L603;
+                                                                                                    }
+                                                                                                    trap();
                                                                                                 }
-                                                                                                store8(t69, (u8)v70);
-                                                                                                goto L44;
+                                                                                                L603:;
+                                                                                                const u32 t616 = load32(l9 + 212u);
+                                                                                                l36 = t616;
+                                                                                                const u32 t617 = load8(l9 + 209u);
+                                                                                                l32 = t617;
+                                                                                                const u32 t618 = load8(l9 + 208u);
+                                                                                                l33 = t618;
+                                                                                                goto L216;
                                                                                             }
-                                                                                            L62:;
-                                                                                            const u32 t72 = load16(l26 + 84u);
-                                                                                            store16(l31, (u16)t72);
-                                                                                            const u32 t73 = load8(l26 + 86u);
-                                                                                            store8(l31 + 2u, (u8)t73);
-                                                                                            store8(l26 + 108u, (u8)l9);
-                                                                                            store32(l26 + 104u, l11);
-                                                                                            store32(l26 + 100u, l8);
-                                                                                            store32(l26 + 96u, l10);
-                                                                                            store64(l26 + 88u, 0ull);
+                                                                                            L601:;
+                                                                                            store64(l9 + 216u, 0ull);
                                                                                             {
                                                                                                 {
                                                                                                     {
@@ -20643,2432 +22443,656 @@ static void engine_turn(struct engine *e, u64 l0, u64 l1, u64 l2, u64 l3, u64 l4
                                                                                                                                                             {
                                                                                                                                                                 {
                                                                                                                                                                     {
-                                                                                                                                                                        switch (l15 - 5u) {
-                                                                                                                                                                        case 0: goto L80;
-                                                                                                                                                                        case 1: goto L79;
-                                                                                                                                                                        case 2: goto L77;
-                                                                                                                                                                        case 3: goto L76;
-                                                                                                                                                                        case 4: goto L75;
-                                                                                                                                                                        case 6: goto L78;
-                                                                                                                                                                        case 7: goto L85;
-                                                                                                                                                                        case 8: goto L84;
-                                                                                                                                                                        case 9: goto L83;
-                                                                                                                                                                        case 10: goto L82;
-                                                                                                                                                                        case 11: goto L81;
-                                                                                                                                                                        case 12: goto L74;
-                                                                                                                                                                        case 13: goto L92;
-                                                                                                                                                                        case 14: goto L91;
-                                                                                                                                                                        case 15: goto L90;
-                                                                                                                                                                        case 16: goto L89;
-                                                                                                                                                                        case 17: goto L88;
-                                                                                                                                                                        case 18: goto L87;
-                                                                                                                                                                        case 19: goto L86;
-                                                                                                                                                                        default: goto L45;
+                                                                                                                                                                        {
+                                                                                                                                                                            switch (l33 - 5u) {
+                                                                                                                                                                            case 0: goto L625;
+                                                                                                                                                                            case 1: goto L624;
+                                                                                                                                                                            case 2: goto L622;
+                                                                                                                                                                            case 3: goto L621;
+                                                                                                                                                                            case 4: goto L620;
+                                                                                                                                                                            case 6: goto L623;
+                                                                                                                                                                            case 7: goto L630;
+                                                                                                                                                                            case 8: goto L629;
+                                                                                                                                                                            case 9: goto L628;
+                                                                                                                                                                            case 10: goto L627;
+                                                                                                                                                                            case 11: goto L626;
+                                                                                                                                                                            case 12: goto L638;
+                                                                                                                                                                            case 13: goto L637;
+                                                                                                                                                                            case 14: goto L636;
+                                                                                                                                                                            case 15: goto L635;
+                                                                                                                                                                            case 16: goto L634;
+                                                                                                                                                                            case 17: goto L633;
+                                                                                                                                                                            case 18: goto L632;
+                                                                                                                                                                            case 19: goto L631;
+                                                                                                                                                                            default: goto L619;
+                                                                                                                                                                            }
                                                                                                                                                                         }
+                                                                                                                                                                        L638:;
+                                                                                                                                                                        functions_comparing_equal(stack, l9 + 216ull, l12, l9 + 112ull);
+                                                                                                                                                                        goto L217;
                                                                                                                                                                     }
-                                                                                                                                                                    L92:;
-                                                                                                                                                                    functions_comparing_greater(e, l26 + 88ull, l27, l26 + 96ull);
-                                                                                                                                                                    goto L47;
+                                                                                                                                                                    L637:;
+                                                                                                                                                                    functions_comparing_greater(stack, l9 + 216ull, l12, l9 + 112ull);
+                                                                                                                                                                    goto L217;
                                                                                                                                                                 }
-                                                                                                                                                                L91:;
-                                                                                                                                                                functions_arithmetic_arithmetic(e, l26 + 88ull, l27, l13, l26 + 96ull);
-                                                                                                                                                                goto L47;
+                                                                                                                                                                L636:;
+                                                                                                                                                                functions_arithmetic_arithmetic(stack, l9 + 216ull, l12, l37, l9 + 112ull);
+                                                                                                                                                                goto L217;
                                                                                                                                                             }
-                                                                                                                                                            L90:;
-                                                                                                                                                            functions_bit_strings_union(e, l26 + 88ull, l27, l26 + 96ull);
-                                                                                                                                                            goto L47;
+                                                                                                                                                            L635:;
+                                                                                                                                                            functions_bit_strings_union(stack, l9 + 216ull, l12, l9 + 112ull);
+                                                                                                                                                            goto L217;
                                                                                                                                                         }
-                                                                                                                                                        L89:;
-                                                                                                                                                        functions_bit_strings_intersection(e, l26 + 88ull, l27, l26 + 96ull);
-                                                                                                                                                        goto L47;
+                                                                                                                                                        L634:;
+                                                                                                                                                        functions_bit_strings_intersection(stack, l9 + 216ull, l12, l9 + 112ull);
+                                                                                                                                                        goto L217;
                                                                                                                                                     }
-                                                                                                                                                    L88:;
-                                                                                                                                                    store64(l26 + 152u, 0ull);
-                                                                                                                                                    const u64 t93 = load64(l26 + 96u);
-                                                                                                                                                    store64(l26 + 136u, t93);
-                                                                                                                                                    const u64 t94 = load64(l26 + 104u);
-                                                                                                                                                    store64(l26 + 144u, t94);
-                                                                                                                                                    store64(l26 + 124u, 0ull);
-                                                                                                                                                    functions_arguments_Arguments_next(e, l26 + 16ull, l26 + 136ull, l27);
-                                                                                                                                                    const u32 t95 = load32(l26 + 16u);
-                                                                                                                                                    l9 = t95;
-                                                                                                                                                    const u32 t96 = load32(l26 + 20u);
-                                                                                                                                                    l11 = t96;
-                                                                                                                                                    l29 = (u64)(l11 + l14);
-                                                                                                                                                    l33 = (u64)(l9 + l14) - l29;
-                                                                                                                                                    l29 = (l30 + (l29 << 3)) - 8ull;
-                                                                                                                                                    l6 = l11;
-                                                                                                                                                    L97:;
+                                                                                                                                                    L633:;
+                                                                                                                                                    l8 = l9 + 216ull;
+                                                                                                                                                    l2 = l9 + 112ull;
+                                                                                                                                                    l1 = stack - 64ull;
+                                                                                                                                                    stack = l1;
                                                                                                                                                     {
+                                                                                                                                                        l0 = l1;
                                                                                                                                                         {
-                                                                                                                                                            l15 = l6;
-                                                                                                                                                            if (l33 == 0) goto L98;
-                                                                                                                                                            const u32 t99 = load8(l29);
-                                                                                                                                                            if (t99) goto L98;
-                                                                                                                                                            l33 = l33 + 1ull;
-                                                                                                                                                            l6 = l15 - 1u;
-                                                                                                                                                            l30 = l29 + 1ull;
-                                                                                                                                                            l29 = l29 - 8ull;
-                                                                                                                                                            const u32 t100 = load8(l30);
-                                                                                                                                                            if ((t100 & 248u) == 48u) goto L97;
+                                                                                                                                                            store64(l0 + 32u, 0ull);
+                                                                                                                                                            store64(l0 + 56u, 0ull);
+                                                                                                                                                            const u64 t641 = load64(l2);
+                                                                                                                                                            store64(l0 + 40u, t641);
+                                                                                                                                                            const u64 t642 = load64(l2 + 8u);
+                                                                                                                                                            store64(l0 + 48u, t642);
+                                                                                                                                                            functions_arguments_Arguments_next(stack, l0 + 8ull, l0 + 40ull, l12);
+                                                                                                                                                            const u32 t643 = load32(l12 + 16ull);
+                                                                                                                                                            l32 = t643;
+                                                                                                                                                            const u32 t644 = load32(l0 + 8u);
+                                                                                                                                                            l36 = t644;
+                                                                                                                                                            const u32 t645 = load32(l0 + 12u);
+                                                                                                                                                            l33 = t645;
+                                                                                                                                                            l2 = (u64)(l32 + l33);
+                                                                                                                                                            l1 = (u64)(l32 + l36) - l2;
+                                                                                                                                                            const u64 t646 = load64(l12);
+                                                                                                                                                            l2 = (t646 + (l2 << 3)) - 8ull;
+                                                                                                                                                            l6 = l33;
+                                                                                                                                                            L647:;
+                                                                                                                                                            {
+                                                                                                                                                                {
+                                                                                                                                                                    l32 = l6;
+                                                                                                                                                                    if (l1 == 0) goto L648;
+                                                                                                                                                                    const u32 t649 = load8(l2);
+                                                                                                                                                                    if (t649) goto L648;
+                                                                                                                                                                    l1 = l1 + 1ull;
+                                                                                                                                                                    l6 = l32 - 1u;
+                                                                                                                                                                    l11 = l2 + 1ull;
+                                                                                                                                                                    l2 = l2 - 8ull;
+                                                                                                                                                                    const u32 t650 = load8(l11);
+                                                                                                                                                                    if ((t650 & 248u) == 48u) goto L647;
+                                                                                                                                                                }
+                                                                                                                                                                L648:;
+                                                                                                                                                            }
+                                                                                                                                                            store32(l0 + 28u, l33);
+                                                                                                                                                            store32(l0 + 24u, l32);
+                                                                                                                                                            store32(l0 + 20u, 2u);
+                                                                                                                                                            functions_bit_strings_give_bits(stack, l0 + 56ull, l12, l36, l32, l0 + 20ull);
+                                                                                                                                                            const u32 t651 = load16(l0 + 56u);
+                                                                                                                                                            store16(l8, (u16)t651);
+                                                                                                                                                            const u32 t652 = load32(l0 + 60u);
+                                                                                                                                                            store32(l8 + 4ull, t652);
+                                                                                                                                                            stack = l0 + 64ull;
+                                                                                                                                                            goto L639;
                                                                                                                                                         }
-                                                                                                                                                        L98:;
+                                                                                                                                                        trap();
                                                                                                                                                     }
-                                                                                                                                                    store32(l26 + 120u, l11);
-                                                                                                                                                    store32(l26 + 116u, l15);
-                                                                                                                                                    store32(l26 + 112u, 2u);
-                                                                                                                                                    functions_bit_strings_give_bits(e, l26 + 152ull, l27, l9, l15, l26 + 112ull);
-                                                                                                                                                    const u32 t101 = load16(l26 + 152u);
-                                                                                                                                                    store16(l26 + 88u, (u16)t101);
-                                                                                                                                                    const u32 t102 = load32(l26 + 156u);
-                                                                                                                                                    store32(l26 + 92u, t102);
-                                                                                                                                                    goto L47;
+                                                                                                                                                    L639:;
+                                                                                                                                                    goto L217;
                                                                                                                                                 }
-                                                                                                                                                L87:;
-                                                                                                                                                functions_bit_strings_shift(e, l26 + 88ull, l27, l26 + 96ull);
-                                                                                                                                                goto L47;
+                                                                                                                                                L632:;
+                                                                                                                                                functions_bit_strings_shift(stack, l9 + 216ull, l12, l9 + 112ull);
+                                                                                                                                                goto L217;
                                                                                                                                             }
-                                                                                                                                            L86:;
-                                                                                                                                            functions_bit_strings_rotate(e, l26 + 88ull, l27, l26 + 96ull);
-                                                                                                                                            goto L47;
+                                                                                                                                            L631:;
+                                                                                                                                            functions_bit_strings_rotate(stack, l9 + 216ull, l12, l9 + 112ull);
+                                                                                                                                            goto L217;
                                                                                                                                         }
-                                                                                                                                        L85:;
-                                                                                                                                        functions_form_parts_call_segment(e, l26 + 88ull, l27, l26 + 96ull);
-                                                                                                                                        goto L47;
+                                                                                                                                        L630:;
+                                                                                                                                        functions_form_parts_call_segment(stack, l9 + 216ull, l12, l9 + 112ull);
+                                                                                                                                        goto L217;
                                                                                                                                     }
-                                                                                                                                    L84:;
-                                                                                                                                    functions_form_parts_call_character(e, l26 + 88ull, l27, l26 + 96ull);
-                                                                                                                                    goto L47;
+                                                                                                                                    L629:;
+                                                                                                                                    functions_form_parts_call_character(stack, l9 + 216ull, l12, l9 + 112ull);
+                                                                                                                                    goto L217;
                                                                                                                                 }
-                                                                                                                                L83:;
-                                                                                                                                functions_form_parts_call_number(e, l26 + 88ull, l27, l26 + 96ull);
-                                                                                                                                goto L47;
+                                                                                                                                L628:;
+                                                                                                                                functions_form_parts_call_number(stack, l9 + 216ull, l12, l9 + 112ull);
+                                                                                                                                goto L217;
                                                                                                                             }
-                                                                                                                            L82:;
-                                                                                                                            functions_form_parts_initial_part(e, l26 + 88ull, l27, l26 + 96ull);
-                                                                                                                            goto L47;
+                                                                                                                            L627:;
+                                                                                                                            functions_form_parts_initial_part(stack, l9 + 216ull, l12, l9 + 112ull);
+                                                                                                                            goto L217;
                                                                                                                         }
-                                                                                                                        L81:;
-                                                                                                                        functions_form_parts_call_restore(e, l26 + 88ull, l27, l26 + 96ull);
-                                                                                                                        goto L47;
+                                                                                                                        L626:;
+                                                                                                                        functions_form_parts_call_restore(stack, l9 + 216ull, l12, l9 + 112ull);
+                                                                                                                        goto L217;
                                                                                                                     }
-                                                                                                                    L80:;
-                                                                                                                    functions_form_calls_define_string(e, l26 + 88ull, l27, l26 + 96ull);
-                                                                                                                    goto L47;
+                                                                                                                    L625:;
+                                                                                                                    functions_form_calls_define_string(stack, l9 + 216ull, l12, l9 + 112ull);
+                                                                                                                    goto L217;
                                                                                                                 }
-                                                                                                                L79:;
-                                                                                                                functions_form_calls_segment_string(e, l26 + 88ull, l27, l26 + 96ull);
-                                                                                                                goto L47;
+                                                                                                                L624:;
+                                                                                                                functions_form_calls_segment_string(stack, l9 + 216ull, l12, l9 + 112ull);
+                                                                                                                goto L217;
                                                                                                             }
-                                                                                                            L78:;
-                                                                                                            const u64 t103 = load64(l26 + 104u);
-                                                                                                            store64(l26 + 120u, t103);
-                                                                                                            const u64 t104 = load64(l26 + 96u);
-                                                                                                            store64(l26 + 112u, t104);
-                                                                                                            const u32 t105 = load8(l26 + 124u);
-                                                                                                            l11 = t105;
-                                                                                                            functions_arguments_Arguments_next(e, l26 + 48ull, l26 + 112ull, l27);
-                                                                                                            const u32 t106 = load32(l26 + 52u);
-                                                                                                            l15 = t106;
-                                                                                                            const u32 t107 = load32(l26 + 48u);
-                                                                                                            l6 = t107;
-                                                                                                            u32 v108;
+                                                                                                            L623:;
+                                                                                                            const u64 t653 = load64(l9 + 120u);
+                                                                                                            store64(l9 + 144u, t653);
+                                                                                                            const u64 t654 = load64(l9 + 112u);
+                                                                                                            store64(l9 + 136u, t654);
+                                                                                                            const u32 t655 = load8(l9 + 148u);
+                                                                                                            l33 = t655;
+                                                                                                            functions_arguments_Arguments_next(stack, l9 + 32ull, l9 + 136ull, l12);
+                                                                                                            const u32 t656 = load32(l9 + 36u);
+                                                                                                            l6 = t656;
+                                                                                                            const u32 t657 = load32(l9 + 32u);
+                                                                                                            l36 = t657;
+                                                                                                            u32 v658;
                                                                                                             {
-                                                                                                                const u32 t109 = load32(l27 + 40ull);
-                                                                                                                l9 = t109;
-                                                                                                                if (l9 >= 8u) {
-                                                                                                                    forms_work_Work_find_among_more(e, l26 + 32ull, l27, l6, l15);
-                                                                                                                    const u32 t111 = load8(l26 + 32u);
-                                                                                                                    l15 = t111;
-                                                                                                                    const u32 t112 = load32(l26 + 36u);
-                                                                                                                    v108 = t112; goto L108;
+                                                                                                                const u32 t659 = load32(l12 + 40ull);
+                                                                                                                l32 = t659;
+                                                                                                                if (l32 >= 8u) {
+                                                                                                                    forms_work_Work_find_among_more(stack, l9 + 16ull, l12, l36, l6);
+                                                                                                                    const u32 t661 = load32(l9 + 20u);
+                                                                                                                    l36 = t661;
+                                                                                                                    const u32 t662 = load8(l9 + 16u);
+                                                                                                                    v658 = t662; goto L658;
                                                                                                                 }
                                                                                                                 {
-                                                                                                                    if (l9 == 0) goto L113;
-                                                                                                                    const u64 t114 = load32(l30 + 4ull);
-                                                                                                                    l29 = (u64)(l14 + l15);
-                                                                                                                    l33 = (u64)(l6 + l14);
-                                                                                                                    if (t114 != (l29 - l33)) goto L113;
-                                                                                                                    l1 = 17ull - (l33 << 3);
-                                                                                                                    l33 = (l29 ^ 18446744073709551615ull) + l33;
-                                                                                                                    l29 = l30 + (l29 << 3);
-                                                                                                                    L115:;
+                                                                                                                    if (l32 == 0) goto L663;
+                                                                                                                    const u64 t664 = load32(l8 + 4ull);
+                                                                                                                    l14 = (u64)(l6 + l30);
+                                                                                                                    l2 = (u64)(l30 + l36);
+                                                                                                                    if (t664 != (l14 - l2)) goto L663;
+                                                                                                                    l1 = 17ull - (l2 << 3);
+                                                                                                                    l2 = (l14 ^ 18446744073709551615ull) + l2;
+                                                                                                                    l8 = l8 + (l14 << 3);
+                                                                                                                    L665:;
                                                                                                                     {
-                                                                                                                        l33 = l33 + 1ull;
-                                                                                                                        if (l33 == 0) goto L50;
-                                                                                                                        l30 = l29 - 7ull;
-                                                                                                                        l34 = l1 + l29;
-                                                                                                                        l29 = l29 - 8ull;
-                                                                                                                        const u32 t116 = load8(l34);
-                                                                                                                        const u32 t117 = load8(l30);
-                                                                                                                        if (t116 == t117) goto L115;
+                                                                                                                        l2 = l2 + 1ull;
+                                                                                                                        if (l2 == 0) goto L220;
+                                                                                                                        l14 = l8 - 7ull;
+                                                                                                                        l11 = l1 + l8;
+                                                                                                                        l8 = l8 - 8ull;
+                                                                                                                        const u32 t666 = load8(l11);
+                                                                                                                        const u32 t667 = load8(l14);
+                                                                                                                        if (t666 == t667) goto L665;
                                                                                                                     }
                                                                                                                 }
-                                                                                                                L113:;
-                                                                                                                forms_work_Work_find_among_few(e, l26 + 40ull, l27, l6, l15);
-                                                                                                                const u32 t118 = load8(l26 + 40u);
-                                                                                                                l15 = t118;
-                                                                                                                const u32 t119 = load32(l26 + 44u);
-                                                                                                                v108 = t119;
+                                                                                                                L663:;
+                                                                                                                forms_work_Work_find_among_few(stack, l9 + 24ull, l12, l36, l6);
+                                                                                                                const u32 t668 = load32(l9 + 28u);
+                                                                                                                l36 = t668;
+                                                                                                                const u32 t669 = load8(l9 + 24u);
+                                                                                                                v658 = t669;
                                                                                                             }
-                                                                                                            L108:;
-                                                                                                            l6 = v108;
-                                                                                                            if ((l15 & 255u) != 1u) goto L49;
-                                                                                                            goto L48;
+                                                                                                            L658:;
+                                                                                                            if ((v658 & 255u) != 1u) goto L219;
+                                                                                                            goto L218;
                                                                                                         }
-                                                                                                        L77:;
-                                                                                                        functions_form_calls_delete_definition(e, l26 + 88ull, l27, l26 + 96ull);
-                                                                                                        goto L47;
+                                                                                                        L622:;
+                                                                                                        functions_form_calls_delete_definition(stack, l9 + 216ull, l12, l9 + 112ull);
+                                                                                                        goto L217;
                                                                                                     }
-                                                                                                    L76:;
-                                                                                                    functions_form_calls_delete_all(e, l26 + 88ull, l27);
-                                                                                                    goto L47;
+                                                                                                    L621:;
+                                                                                                    functions_form_calls_delete_all(stack, l9 + 216ull, l12);
+                                                                                                    goto L217;
                                                                                                 }
-                                                                                                L75:;
-                                                                                                functions_form_calls_list_names(e, l26 + 88ull, l27, l26 + 96ull);
-                                                                                                goto L47;
+                                                                                                L620:;
+                                                                                                functions_form_calls_list_names(stack, l9 + 216ull, l12, l9 + 112ull);
+                                                                                                goto L217;
                                                                                             }
-                                                                                            L74:;
-                                                                                            functions_comparing_equal(e, l26 + 88ull, l27, l26 + 96ull);
-                                                                                            goto L47;
-                                                                                        }
-                                                                                        L52:;
-                                                                                        store32(l35 + 20u, 0u);
-                                                                                        store32(l35 + 16u, l20);
-                                                                                        l27 = l3 - l32;
-                                                                                        store64(l35, l27);
-                                                                                        store64(l35 + 8u, l27 + l37);
-                                                                                        goto L10;
-                                                                                    }
-                                                                                    L51:;
-                                                                                    l29 = l3 - l32;
-                                                                                    l27 = l29 + l37;
-                                                                                    l14 = 0u;
-                                                                                    goto L46;
-                                                                                }
-                                                                                L50:;
-                                                                                store64(l27 + 44ull, 0ull);
-                                                                                l6 = 0u;
-                                                                                goto L48;
-                                                                            }
-                                                                            L49:;
-                                                                            store32(l26 + 92u, 0u);
-                                                                            store16(l26 + 88u, (u16)1u);
-                                                                            goto L47;
-                                                                        }
-                                                                        L48:;
-                                                                        const u32 t120 = load32(l26 + 116u);
-                                                                        l15 = t120;
-                                                                        const u32 t121 = load32(l26 + 112u);
-                                                                        l9 = t121;
-                                                                        {
-                                                                            {
-                                                                                {
-                                                                                    {
-                                                                                        {
-                                                                                            if ((l11 & 1u) == 0) goto L126;
-                                                                                            if (l9 <= l15) goto L126;
-                                                                                            const u32 t127 = load32(l27 + 44ull);
-                                                                                            const u32 t128 = load32(l27 + 48ull);
-                                                                                            const u32 t129 = store_form_cells_place_of(e, l27, t127, t128, l6);
-                                                                                            l10 = t129;
-                                                                                            const u64 t130 = load64(l27);
-                                                                                            l33 = t130;
-                                                                                            l29 = l33 + ((u64)l10 << 3);
-                                                                                            const u32 t131 = load32(l29 + 12ull);
-                                                                                            l21 = t131;
-                                                                                            const u32 t132 = load32(l29 + 20ull);
-                                                                                            l13 = t132;
-                                                                                            l11 = l21 - l13;
-                                                                                            if (l11 == 0) {
-                                                                                                l11 = 0u;
-                                                                                                goto L122;
-                                                                                            }
-                                                                                            const u32 t134 = load32(l29 + 4ull);
-                                                                                            l22 = (l10 + t134) + 3u;
-                                                                                            l10 = l13 + l22;
-                                                                                            {
-                                                                                                const u32 t136 = load32(l27 + 28ull);
-                                                                                                l13 = t136;
-                                                                                                const u32 t137 = load32(l27 + 20ull);
-                                                                                                const u32 t138 = load32(l27 + 24ull);
-                                                                                                l19 = t138;
-                                                                                                const u32 t139 = load32(l27 + 16ull);
-                                                                                                if (l11 <= (l13 - (t137 + (l19 + t139)))) {
-                                                                                                    l0 = (u64)l11;
-                                                                                                    l34 = (u64)l10;
-                                                                                                    {
-                                                                                                        {
-                                                                                                            if (l11 >= 8u) {
-                                                                                                                if (l11 == 8u) goto L141;
-                                                                                                                l29 = l33 + (l34 << 3);
-                                                                                                                l30 = l0;
-                                                                                                                goto L142;
-                                                                                                            }
-                                                                                                            if (l11 >= 4u) {
-                                                                                                                l29 = l33 + (l34 << 3);
-                                                                                                                const u32 t145 = load8(l29 + 24ull);
-                                                                                                                const u32 t146 = load8(l29 + 16ull);
-                                                                                                                const u32 t147 = load8(l29 + 8ull);
-                                                                                                                const u32 t148 = load8(l29);
-                                                                                                                if (((t145 + t146) | (t147 + t148)) & 255u) goto L126;
-                                                                                                                l30 = l0 + l34;
-                                                                                                                l29 = l33 + (l30 << 3);
-                                                                                                                const u32 t149 = load8(l29 - 8ull);
-                                                                                                                const u32 t150 = load8(l29 - 16ull);
-                                                                                                                const u32 t151 = load8(l29 - 24ull);
-                                                                                                                const u32 t152 = load8(l29 - 32ull);
-                                                                                                                if (((t149 + t150) | (t151 + t152)) & 255u) goto L126;
-                                                                                                                l15 = l11 + l19;
-                                                                                                                l29 = (u64)(l13 - l15);
-                                                                                                                core_slice_edits_slice_T_copy_from_slice(e, l33 + (l29 << 3), l33 + (l34 << 3), 4ull);
-                                                                                                                const u64 t153 = l29 - l34;
-                                                                                                                l29 = l30 - 4ull;
-                                                                                                                core_slice_edits_slice_T_copy_from_slice(e, l33 + ((t153 + l29) << 3), l33 + (l29 << 3), 4ull);
-                                                                                                                goto L123;
-                                                                                                            }
-                                                                                                            l29 = l33 + (l34 << 3);
-                                                                                                            const u32 t154 = load8(l29);
-                                                                                                            l10 = t154;
-                                                                                                            if (l11 == 1u) goto L135;
-                                                                                                            const u32 t155 = load8(l29 + 8ull);
-                                                                                                            if (t155 | (l10 & 255u)) goto L126;
-                                                                                                            l30 = l0 + l34;
-                                                                                                            l29 = l33 + (l30 << 3);
-                                                                                                            const u32 t156 = load8(l29 - 8ull);
-                                                                                                            const u32 t157 = load8(l29 - 16ull);
-                                                                                                            if (t156 | t157) goto L126;
-                                                                                                            l15 = l11 + l19;
-                                                                                                            l29 = (u64)(l13 - l15);
-                                                                                                            core_slice_edits_slice_T_copy_from_slice(e, l33 + (l29 << 3), l33 + (l34 << 3), 2ull);
-                                                                                                            const u64 t158 = l29 - l34;
-                                                                                                            l29 = l30 - 2ull;
-                                                                                                            core_slice_edits_slice_T_copy_from_slice(e, l33 + ((t158 + l29) << 3), l33 + (l29 << 3), 2ull);
-                                                                                                            goto L123;
-                                                                                                        }
-                                                                                                        L142:;
-                                                                                                        L159:;
-                                                                                                        {
-                                                                                                            const u32 t160 = load8(l29 + 56ull);
-                                                                                                            const u32 t161 = load8(l29 + 48ull);
-                                                                                                            const u32 t162 = load8(l29 + 40ull);
-                                                                                                            const u32 t163 = load8(l29 + 32ull);
-                                                                                                            const u32 t164 = load8(l29 + 24ull);
-                                                                                                            const u32 t165 = load8(l29 + 16ull);
-                                                                                                            const u32 t166 = load8(l29 + 8ull);
-                                                                                                            const u32 t167 = load8(l29);
-                                                                                                            if (t160 | ((t161 + (t162 + (t163 + (t164 + (t165 + (t166 + t167)))))) & 255u)) goto L126;
-                                                                                                            l29 = l29 + 64ull;
-                                                                                                            l30 = l30 - 8ull;
-                                                                                                            if (l30 >= 9ull) goto L159;
-                                                                                                        }
-                                                                                                    }
-                                                                                                    L141:;
-                                                                                                    l30 = l0 + l34;
-                                                                                                    l29 = l33 + (l30 << 3);
-                                                                                                    const u32 t168 = load8(l29 - 56ull);
-                                                                                                    const u32 t169 = load8(l29 - 64ull);
-                                                                                                    const u32 t170 = load8(l29 - 48ull);
-                                                                                                    const u32 t171 = load8(l29 - 40ull);
-                                                                                                    const u32 t172 = load8(l29 - 32ull);
-                                                                                                    const u32 t173 = load8(l29 - 24ull);
-                                                                                                    const u32 t174 = load8(l29 - 16ull);
-                                                                                                    const u32 t175 = load8(l29 - 8ull);
-                                                                                                    if ((((((((t168 + t169) + t170) + t171) + t172) + t173) + t174) & 255u) | t175) goto L126;
-                                                                                                    l15 = l11 + l19;
-                                                                                                    l42 = (u64)(l13 - l15);
-                                                                                                    if (l11 > 24u) goto L125;
-                                                                                                    if (l11 != 8u) {
-                                                                                                        l29 = l33 + (l42 << 3);
-                                                                                                        l30 = l33 + (l34 << 3);
-                                                                                                        l1 = l0;
-                                                                                                        L177:;
-                                                                                                        {
-                                                                                                            core_slice_edits_slice_T_copy_from_slice(e, l29, l30, 8ull);
-                                                                                                            l29 = l29 + 64ull;
-                                                                                                            l30 = l30 + 64ull;
-                                                                                                            l1 = l1 - 8ull;
-                                                                                                            if (l1 > 8ull) goto L177;
-                                                                                                        }
-                                                                                                    }
-                                                                                                    l29 = l0 - 8ull;
-                                                                                                    core_slice_edits_slice_T_copy_from_slice(e, l33 + ((l29 + l42) << 3), l33 + ((l29 + l34) << 3), 8ull);
-                                                                                                    store32(l27 + 24ull, l15);
-                                                                                                    goto L122;
-                                                                                                }
-                                                                                                store_item_copies_load_items_over_spare(e, l26 + 24ull, l27, l10, l21 + l22);
-                                                                                                const u32 t178 = load8(l26 + 24u);
-                                                                                                if (t178 != 1u) goto L126;
-                                                                                                const u32 t179 = load32(l26 + 28u);
-                                                                                                l11 = t179;
-                                                                                                goto L122;
-                                                                                            }
-                                                                                            L135:;
-                                                                                            if ((l10 & 255u) == 0) goto L124;
-                                                                                        }
-                                                                                        L126:;
-                                                                                        const u32 t180 = forms_work_Work_fill_body(e, l27, l6, l9, l15);
-                                                                                        l15 = t180;
-                                                                                        store32(l26 + 92u, 0u);
-                                                                                        store8(l26 + 89u, (u8)0u);
-                                                                                        store8(l26 + 88u, (u8)l15);
-                                                                                        goto L47;
-                                                                                    }
-                                                                                    L125:;
-                                                                                    space_copies_copy_long(e, l33, l34, l30, l42);
-                                                                                    goto L123;
-                                                                                }
-                                                                                L124:;
-                                                                                l15 = l11 + l19;
-                                                                                l29 = l33 + ((u64)(l13 - l15) << 3);
-                                                                                l30 = l33 + (l34 << 3);
-                                                                                const u32 t181 = load16(l30);
-                                                                                store16(l29, (u16)t181);
-                                                                                const u32 t182 = load32(l30 + 4ull);
-                                                                                store32(l29 + 4ull, t182);
-                                                                            }
-                                                                            L123:;
-                                                                            store32(l27 + 24ull, l15);
-                                                                        }
-                                                                        L122:;
-                                                                        store32(l26 + 92u, l11);
-                                                                        store16(l26 + 88u, (u16)2u);
-                                                                    }
-                                                                    L47:;
-                                                                    const u32 t183 = load32(l26 + 92u);
-                                                                    l6 = t183;
-                                                                    {
-                                                                        const u64 t185 = load8(l26 + 88u);
-                                                                        switch ((u32)t185 - 1u) {
-                                                                        case 0: goto L45;
-                                                                        case 1: goto L44;
-                                                                        case 2: goto L44;
-                                                                        case 3: goto L184;
-                                                                        default: goto L12;
-                                                                        }
-                                                                    }
-                                                                    L184:;
-                                                                    const u32 t186 = load32(l27 + 24ull);
-                                                                    const u32 t187 = load32(l27 + 20ull);
-                                                                    const u32 t188 = load32(l27 + 16ull);
-                                                                    l18 = t186 + (t187 + t188);
-                                                                    l29 = l3 - l32;
-                                                                    l27 = l29 + l37;
-                                                                    const u32 t189 = load8(l26 + 89u);
-                                                                    l14 = t189;
-                                                                    l8 = 1u << (l14 & 31);
-                                                                    if (l8 & 3u) goto L46;
-                                                                    if (l8 & 12u) goto L11;
-                                                                    l20 = (l18 > l20) ? l18 : l20;
-                                                                    goto L11;
-                                                                }
-                                                                L46:;
-                                                                l20 = (l18 > l20) ? l18 : l20;
-                                                                l27 = l27 + 1ull;
-                                                                goto L11;
-                                                            }
-                                                            L45:;
-                                                            const u32 t190 = load32(l27 + 20ull);
-                                                            l15 = t190;
-                                                            core_delivery_deliver(e, l27, l16, l8);
-                                                            v26 = l15 + (l14 + l17); goto L26;
-                                                        }
-                                                        L44:;
-                                                        const u64 t191 = load64(l27);
-                                                        const u64 t192 = load32(l27 + 16ull);
-                                                        l29 = t191 + (t192 << 3);
-                                                        {
-                                                            {
-                                                                const u32 t195 = load32(l27 + 32ull);
-                                                                l14 = t195;
-                                                                l8 = l14 <= l16;
-                                                                if (l8) goto L194;
-                                                                if ((l14 - l16) != 1u) goto L194;
-                                                                const u32 t196 = load32((l29 + ((l38 << 3) & 34359738360ull)) + 4ull);
-                                                                l14 = t196;
-                                                                l8 = l14 ? (l12 - l14) : 0u;
-                                                                goto L193;
-                                                            }
-                                                            L194:;
-                                                            if (l8) {
-                                                                l8 = l14;
-                                                                goto L193;
-                                                            }
-                                                            L198:;
-                                                            {
-                                                                const u32 t199 = load32((l29 + ((u64)(l14 - 1u) << 3)) + 4ull);
-                                                                l8 = t199;
-                                                                l14 = l14 - l8;
-                                                                l8 = l8 ? l14 : 0u;
-                                                                if (l8 > l16) goto L198;
-                                                            }
-                                                        }
-                                                        L193:;
-                                                        store32(l27 + 20ull, l16);
-                                                        store32(l27 + 32ull, l8);
-                                                        v26 = l6 + l18;
-                                                    }
-                                                    L26:;
-                                                    l14 = v26;
-                                                    store32(l26 + 76u, 0u);
-                                                    const u32 t200 = load32(l27 + 20ull);
-                                                    l8 = t200;
-                                                    store32(l26 + 80u, l8);
-                                                    const u32 t201 = load32(l27 + 24ull);
-                                                    const u32 t202 = load32(l27 + 16ull);
-                                                    l8 = t201 + (l8 + t202);
-                                                    l20 = (l14 > l20) ? l14 : l20;
-                                                    v22 = l32 - 1ull;
-                                                }
-                                                L22:;
-                                                l32 = v22;
-                                                if (l32 != 0ull) goto L21;
-                                            }
-                                        }
-                                        store32(l35 + 20u, 0u);
-                                        store32(l35 + 16u, l20);
-                                        store64(l35, l3);
-                                        store64(l35 + 8u, l3 + l37);
-                                        goto L10;
-                                    }
-                                    trap();
-                                }
-                                L12:;
-                                l29 = l3 - l32;
-                                l27 = l29 + l37;
-                                l14 = 2u;
-                            }
-                            L11:;
-                            store16(l35 + 22u, (u16)0u);
-                            store8(l35 + 21u, (u8)l14);
-                            store8(l35 + 20u, (u8)1u);
-                            store32(l35 + 16u, l20);
-                            store64(l35 + 8u, l27);
-                            store64(l35, l29);
-                        }
-                        L10:;
-                        e->stack_pointer = l26 + 160ull;
-                        const u64 t203 = load64(l25 + 112u);
-                        store64(l41, t203);
-                        const u32 t204 = load32(l25 + 120u);
-                        store32(l2, t204);
-                        const u32 t205 = load16(l25 + 124u);
-                        store16(l5, (u16)t205);
-                        const u64 t206 = load64(l25 + 104u);
-                        v6 = t206;
-                    } else {
-                        v6 = 0ull;
-                    }
-                    l41 = v6 + l4;
-                    if (l41 == l7) goto L3;
-                    {
-                        if (l24) goto L207;
-                        const u64 t208 = load64(l25 + 80u);
-                        l30 = t208;
-                        const u64 t209 = load64(l25 + 72u);
-                        l3 = t209;
-                        {
-                            {
-                                const u32 t212 = core_machine_Machine_awaits(e, l28);
-                                switch ((t212 & 255u) - 1u) {
-                                case 0: goto L211;
-                                case 1: goto L210;
-                                default: goto L207;
-                                }
-                            }
-                            L211:;
-                            const u32 t213 = load8(l40);
-                            l9 = t213;
-                            {
-                                if (l30 <= 3ull) {
-                                    if (l30 == 0) goto L214;
-                                    l8 = l9 & 255u;
-                                    const u32 t216 = load8(l3);
-                                    if (l8 == t216) goto L207;
-                                    const u32 t217 = load8(l3 + (l30 >> 1));
-                                    if (t217 == l8) goto L207;
-                                    const u32 t218 = load8((l3 + l30) - 1ull);
-                                    if (t218 == (l9 & 255u)) goto L207;
-                                    goto L214;
-                                }
-                                if (l30 <= 8ull) {
-                                    l8 = l9 & 255u;
-                                    const u32 t220 = load8(l3);
-                                    if (l8 == t220) goto L207;
-                                    const u32 t221 = load8(l3 + 1ull);
-                                    if (t221 == l8) goto L207;
-                                    l8 = l9 & 255u;
-                                    const u32 t222 = load8(l3 + 2ull);
-                                    if (l8 == t222) goto L207;
-                                    const u32 t223 = load8(l3 + 3ull);
-                                    if (t223 == l8) goto L207;
-                                    l8 = l9 & 255u;
-                                    l4 = l3 + l30;
-                                    const u32 t224 = load8(l4 - 4ull);
-                                    if (l8 == t224) goto L207;
-                                    const u32 t225 = load8(l4 - 3ull);
-                                    if (t225 == l8) goto L207;
-                                    l8 = l9 & 255u;
-                                    const u32 t226 = load8(l4 - 2ull);
-                                    if (l8 == t226) goto L207;
-                                    const u32 t227 = load8(l4 - 1ull);
-                                    if (t227 == l8) goto L207;
-                                    goto L214;
-                                }
-                                if (l30 <= 32ull) {
-                                    l8 = l9 & 255u;
-                                    const u32 t229 = load8(l3);
-                                    if (l8 == t229) goto L207;
-                                    const u32 t230 = load8(l3 + 1ull);
-                                    if (t230 == l8) goto L207;
-                                    l8 = l9 & 255u;
-                                    const u32 t231 = load8(l3 + 2ull);
-                                    if (l8 == t231) goto L207;
-                                    const u32 t232 = load8(l3 + 3ull);
-                                    if (t232 == l8) goto L207;
-                                    l8 = l9 & 255u;
-                                    const u32 t233 = load8(l3 + 4ull);
-                                    if (l8 == t233) goto L207;
-                                    const u32 t234 = load8(l3 + 5ull);
-                                    if (t234 == l8) goto L207;
-                                    l8 = l9 & 255u;
-                                    const u32 t235 = load8(l3 + 6ull);
-                                    if (l8 == t235) goto L207;
-                                    const u32 t236 = load8(l3 + 7ull);
-                                    if (t236 == l8) goto L207;
-                                    l8 = l9 & 255u;
-                                    l2 = l30 - 8ull;
-                                    l4 = l3 + ((l2 < 8ull) ? l2 : 8ull);
-                                    const u32 t237 = load8(l4);
-                                    if (l8 == t237) goto L207;
-                                    const u32 t238 = load8(l4 + 1ull);
-                                    if (t238 == l8) goto L207;
-                                    l8 = l9 & 255u;
-                                    const u32 t239 = load8(l4 + 2ull);
-                                    if (l8 == t239) goto L207;
-                                    const u32 t240 = load8(l4 + 3ull);
-                                    if (t240 == l8) goto L207;
-                                    l8 = l9 & 255u;
-                                    const u32 t241 = load8(l4 + 4ull);
-                                    if (l8 == t241) goto L207;
-                                    const u32 t242 = load8(l4 + 5ull);
-                                    if (t242 == l8) goto L207;
-                                    l8 = l9 & 255u;
-                                    const u32 t243 = load8(l4 + 6ull);
-                                    if (l8 == t243) goto L207;
-                                    const u32 t244 = load8(l4 + 7ull);
-                                    if (t244 == l8) goto L207;
-                                    l8 = l9 & 255u;
-                                    l4 = l3 + ((l2 < 16ull) ? l2 : 16ull);
-                                    const u32 t245 = load8(l4);
-                                    if (l8 == t245) goto L207;
-                                    const u32 t246 = load8(l4 + 1ull);
-                                    if (t246 == l8) goto L207;
-                                    l8 = l9 & 255u;
-                                    const u32 t247 = load8(l4 + 2ull);
-                                    if (l8 == t247) goto L207;
-                                    const u32 t248 = load8(l4 + 3ull);
-                                    if (t248 == l8) goto L207;
-                                    l8 = l9 & 255u;
-                                    const u32 t249 = load8(l4 + 4ull);
-                                    if (l8 == t249) goto L207;
-                                    const u32 t250 = load8(l4 + 5ull);
-                                    if (t250 == l8) goto L207;
-                                    l8 = l9 & 255u;
-                                    const u32 t251 = load8(l4 + 6ull);
-                                    if (l8 == t251) goto L207;
-                                    const u32 t252 = load8(l4 + 7ull);
-                                    if (t252 == l8) goto L207;
-                                    l8 = l9 & 255u;
-                                    l4 = l2 + l3;
-                                    const u32 t253 = load8(l4);
-                                    if (l8 == t253) goto L207;
-                                    const u32 t254 = load8(l4 + 1ull);
-                                    if (t254 == l8) goto L207;
-                                    l8 = l9 & 255u;
-                                    const u32 t255 = load8(l4 + 2ull);
-                                    if (l8 == t255) goto L207;
-                                    const u32 t256 = load8(l4 + 3ull);
-                                    if (t256 == l8) goto L207;
-                                    l8 = l9 & 255u;
-                                    const u32 t257 = load8(l4 + 4ull);
-                                    if (l8 == t257) goto L207;
-                                    const u32 t258 = load8(l4 + 5ull);
-                                    if (t258 == l8) goto L207;
-                                    l8 = l9 & 255u;
-                                    const u32 t259 = load8(l4 + 6ull);
-                                    if (l8 == t259) goto L207;
-                                    const u32 t260 = load8(l4 + 7ull);
-                                    if (t260 == l8) goto L207;
-                                    goto L214;
-                                }
-                                if (l30 <= 64ull) {
-                                    l8 = l9 & 255u;
-                                    const u32 t262 = load8(l3);
-                                    if (l8 == t262) goto L207;
-                                    const u32 t263 = load8(l3 + 1ull);
-                                    if (t263 == l8) goto L207;
-                                    l8 = l9 & 255u;
-                                    const u32 t264 = load8(l3 + 2ull);
-                                    if (l8 == t264) goto L207;
-                                    const u32 t265 = load8(l3 + 3ull);
-                                    if (t265 == l8) goto L207;
-                                    l8 = l9 & 255u;
-                                    const u32 t266 = load8(l3 + 4ull);
-                                    if (l8 == t266) goto L207;
-                                    const u32 t267 = load8(l3 + 5ull);
-                                    if (t267 == l8) goto L207;
-                                    l8 = l9 & 255u;
-                                    const u32 t268 = load8(l3 + 6ull);
-                                    if (l8 == t268) goto L207;
-                                    const u32 t269 = load8(l3 + 7ull);
-                                    if (t269 == l8) goto L207;
-                                    l8 = l9 & 255u;
-                                    const u32 t270 = load8(l3 + 8ull);
-                                    if (l8 == t270) goto L207;
-                                    const u32 t271 = load8(l3 + 9ull);
-                                    if (t271 == l8) goto L207;
-                                    l8 = l9 & 255u;
-                                    const u32 t272 = load8(l3 + 10ull);
-                                    if (l8 == t272) goto L207;
-                                    const u32 t273 = load8(l3 + 11ull);
-                                    if (t273 == l8) goto L207;
-                                    l8 = l9 & 255u;
-                                    const u32 t274 = load8(l3 + 12ull);
-                                    if (l8 == t274) goto L207;
-                                    const u32 t275 = load8(l3 + 13ull);
-                                    if (t275 == l8) goto L207;
-                                    l8 = l9 & 255u;
-                                    const u32 t276 = load8(l3 + 14ull);
-                                    if (l8 == t276) goto L207;
-                                    const u32 t277 = load8(l3 + 15ull);
-                                    if (t277 == l8) goto L207;
-                                    l8 = l9 & 255u;
-                                    const u32 t278 = load8(l3 + 16ull);
-                                    if (l8 == t278) goto L207;
-                                    const u32 t279 = load8(l3 + 17ull);
-                                    if (t279 == l8) goto L207;
-                                    l8 = l9 & 255u;
-                                    const u32 t280 = load8(l3 + 18ull);
-                                    if (l8 == t280) goto L207;
-                                    const u32 t281 = load8(l3 + 19ull);
-                                    if (t281 == l8) goto L207;
-                                    l8 = l9 & 255u;
-                                    const u32 t282 = load8(l3 + 20ull);
-                                    if (l8 == t282) goto L207;
-                                    const u32 t283 = load8(l3 + 21ull);
-                                    if (t283 == l8) goto L207;
-                                    l8 = l9 & 255u;
-                                    const u32 t284 = load8(l3 + 22ull);
-                                    if (l8 == t284) goto L207;
-                                    const u32 t285 = load8(l3 + 23ull);
-                                    if (t285 == l8) goto L207;
-                                    l8 = l9 & 255u;
-                                    const u32 t286 = load8(l3 + 24ull);
-                                    if (l8 == t286) goto L207;
-                                    const u32 t287 = load8(l3 + 25ull);
-                                    if (t287 == l8) goto L207;
-                                    l8 = l9 & 255u;
-                                    const u32 t288 = load8(l3 + 26ull);
-                                    if (l8 == t288) goto L207;
-                                    const u32 t289 = load8(l3 + 27ull);
-                                    if (t289 == l8) goto L207;
-                                    l8 = l9 & 255u;
-                                    const u32 t290 = load8(l3 + 28ull);
-                                    if (l8 == t290) goto L207;
-                                    const u32 t291 = load8(l3 + 29ull);
-                                    if (t291 == l8) goto L207;
-                                    l8 = l9 & 255u;
-                                    const u32 t292 = load8(l3 + 30ull);
-                                    if (l8 == t292) goto L207;
-                                    const u32 t293 = load8(l3 + 31ull);
-                                    if (t293 == l8) goto L207;
-                                    l8 = l9 & 255u;
-                                    l4 = l3 + l30;
-                                    const u32 t294 = load8(l4 - 32ull);
-                                    if (l8 == t294) goto L207;
-                                    const u32 t295 = load8(l4 - 31ull);
-                                    if (t295 == l8) goto L207;
-                                    l8 = l9 & 255u;
-                                    const u32 t296 = load8(l4 - 30ull);
-                                    if (l8 == t296) goto L207;
-                                    const u32 t297 = load8(l4 - 29ull);
-                                    if (t297 == l8) goto L207;
-                                    l8 = l9 & 255u;
-                                    const u32 t298 = load8(l4 - 28ull);
-                                    if (l8 == t298) goto L207;
-                                    const u32 t299 = load8(l4 - 27ull);
-                                    if (t299 == l8) goto L207;
-                                    l8 = l9 & 255u;
-                                    const u32 t300 = load8(l4 - 26ull);
-                                    if (l8 == t300) goto L207;
-                                    const u32 t301 = load8(l4 - 25ull);
-                                    if (t301 == l8) goto L207;
-                                    l8 = l9 & 255u;
-                                    const u32 t302 = load8(l4 - 24ull);
-                                    if (l8 == t302) goto L207;
-                                    const u32 t303 = load8(l4 - 23ull);
-                                    if (t303 == l8) goto L207;
-                                    l8 = l9 & 255u;
-                                    const u32 t304 = load8(l4 - 22ull);
-                                    if (l8 == t304) goto L207;
-                                    const u32 t305 = load8(l4 - 21ull);
-                                    if (t305 == l8) goto L207;
-                                    l8 = l9 & 255u;
-                                    const u32 t306 = load8(l4 - 20ull);
-                                    if (l8 == t306) goto L207;
-                                    const u32 t307 = load8(l4 - 19ull);
-                                    if (t307 == l8) goto L207;
-                                    l8 = l9 & 255u;
-                                    const u32 t308 = load8(l4 - 18ull);
-                                    if (l8 == t308) goto L207;
-                                    const u32 t309 = load8(l4 - 17ull);
-                                    if (t309 == l8) goto L207;
-                                    l8 = l9 & 255u;
-                                    const u32 t310 = load8(l4 - 16ull);
-                                    if (l8 == t310) goto L207;
-                                    const u32 t311 = load8(l4 - 15ull);
-                                    if (t311 == l8) goto L207;
-                                    l8 = l9 & 255u;
-                                    const u32 t312 = load8(l4 - 14ull);
-                                    if (l8 == t312) goto L207;
-                                    const u32 t313 = load8(l4 - 13ull);
-                                    if (t313 == l8) goto L207;
-                                    l8 = l9 & 255u;
-                                    const u32 t314 = load8(l4 - 12ull);
-                                    if (l8 == t314) goto L207;
-                                    const u32 t315 = load8(l4 - 11ull);
-                                    if (t315 == l8) goto L207;
-                                    l8 = l9 & 255u;
-                                    const u32 t316 = load8(l4 - 10ull);
-                                    if (l8 == t316) goto L207;
-                                    const u32 t317 = load8(l4 - 9ull);
-                                    if (t317 == l8) goto L207;
-                                    l8 = l9 & 255u;
-                                    const u32 t318 = load8(l4 - 8ull);
-                                    if (l8 == t318) goto L207;
-                                    const u32 t319 = load8(l4 - 7ull);
-                                    if (t319 == l8) goto L207;
-                                    l8 = l9 & 255u;
-                                    const u32 t320 = load8(l4 - 6ull);
-                                    if (l8 == t320) goto L207;
-                                    const u32 t321 = load8(l4 - 5ull);
-                                    if (t321 == l8) goto L207;
-                                    l8 = l9 & 255u;
-                                    const u32 t322 = load8(l4 - 4ull);
-                                    if (l8 == t322) goto L207;
-                                    const u32 t323 = load8(l4 - 3ull);
-                                    if (t323 == l8) goto L207;
-                                    l8 = l9 & 255u;
-                                    const u32 t324 = load8(l4 - 2ull);
-                                    if (l8 == t324) goto L207;
-                                    const u32 t325 = load8(l4 - 1ull);
-                                    if (t325 != l8) goto L214;
-                                    goto L207;
-                                }
-                                l0 = l30 & 18446744073709551552ull;
-                                l1 = 0ull;
-                                l5 = l3;
-                                {
-                                    L327:;
-                                    {
-                                        l6 = 0u;
-                                        l2 = 0ull;
-                                        L328:;
-                                        {
-                                            l8 = l9 & 255u;
-                                            l4 = l2 + l5;
-                                            const u32 t329 = load8(l4);
-                                            const u32 t330 = load8(l4 + 1ull);
-                                            const u32 t331 = load8(l4 + 2ull);
-                                            const u32 t332 = load8(l4 + 3ull);
-                                            l6 = (((l6 | (l8 == t329)) | (t330 == l8)) | (t331 == l8)) | (t332 == l8);
-                                            l2 = l2 + 4ull;
-                                            if (l2 != 64ull) goto L328;
-                                        }
-                                        if (l6 & 1u) goto L326;
-                                        l5 = l5 + 64ull;
-                                        l1 = l1 + 64ull;
-                                        if ((l30 - l1) > 63ull) goto L327;
-                                    }
-                                    l1 = l0;
-                                }
-                                L326:;
-                                {
-                                    l2 = l30 - l1;
-                                    if (l2 < 32ull) goto L333;
-                                    l4 = l1 + l3;
-                                    L334:;
-                                    {
-                                        {
-                                            l8 = l9 & 255u;
-                                            const u32 t336 = load8(l4);
-                                            if (l8 == t336) goto L335;
-                                            const u32 t337 = load8(l4 + 1ull);
-                                            if (t337 == l8) goto L335;
-                                            l8 = l9 & 255u;
-                                            const u32 t338 = load8(l4 + 2ull);
-                                            if (l8 == t338) goto L335;
-                                            const u32 t339 = load8(l4 + 3ull);
-                                            if (t339 == l8) goto L335;
-                                            l8 = l9 & 255u;
-                                            const u32 t340 = load8(l4 + 4ull);
-                                            if (l8 == t340) goto L335;
-                                            const u32 t341 = load8(l4 + 5ull);
-                                            if (t341 == l8) goto L335;
-                                            l8 = l9 & 255u;
-                                            const u32 t342 = load8(l4 + 6ull);
-                                            if (l8 == t342) goto L335;
-                                            const u32 t343 = load8(l4 + 7ull);
-                                            if (t343 == l8) goto L335;
-                                            l8 = l9 & 255u;
-                                            const u32 t344 = load8(l4 + 8ull);
-                                            if (l8 == t344) goto L335;
-                                            const u32 t345 = load8(l4 + 9ull);
-                                            if (t345 == l8) goto L335;
-                                            l8 = l9 & 255u;
-                                            const u32 t346 = load8(l4 + 10ull);
-                                            if (l8 == t346) goto L335;
-                                            const u32 t347 = load8(l4 + 11ull);
-                                            if (t347 == l8) goto L335;
-                                            l8 = l9 & 255u;
-                                            const u32 t348 = load8(l4 + 12ull);
-                                            if (l8 == t348) goto L335;
-                                            const u32 t349 = load8(l4 + 13ull);
-                                            if (t349 == l8) goto L335;
-                                            l8 = l9 & 255u;
-                                            const u32 t350 = load8(l4 + 14ull);
-                                            if (l8 == t350) goto L335;
-                                            const u32 t351 = load8(l4 + 15ull);
-                                            if (t351 == l8) goto L335;
-                                            l8 = l9 & 255u;
-                                            const u32 t352 = load8(l4 + 16ull);
-                                            if (l8 == t352) goto L335;
-                                            const u32 t353 = load8(l4 + 17ull);
-                                            if (t353 == l8) goto L335;
-                                            l8 = l9 & 255u;
-                                            const u32 t354 = load8(l4 + 18ull);
-                                            if (l8 == t354) goto L335;
-                                            const u32 t355 = load8(l4 + 19ull);
-                                            if (t355 == l8) goto L335;
-                                            l8 = l9 & 255u;
-                                            const u32 t356 = load8(l4 + 20ull);
-                                            if (l8 == t356) goto L335;
-                                            const u32 t357 = load8(l4 + 21ull);
-                                            if (t357 == l8) goto L335;
-                                            l8 = l9 & 255u;
-                                            const u32 t358 = load8(l4 + 22ull);
-                                            if (l8 == t358) goto L335;
-                                            const u32 t359 = load8(l4 + 23ull);
-                                            if (t359 == l8) goto L335;
-                                            l8 = l9 & 255u;
-                                            const u32 t360 = load8(l4 + 24ull);
-                                            if (l8 == t360) goto L335;
-                                            const u32 t361 = load8(l4 + 25ull);
-                                            if (t361 == l8) goto L335;
-                                            l8 = l9 & 255u;
-                                            const u32 t362 = load8(l4 + 26ull);
-                                            if (l8 == t362) goto L335;
-                                            const u32 t363 = load8(l4 + 27ull);
-                                            if (t363 == l8) goto L335;
-                                            l8 = l9 & 255u;
-                                            const u32 t364 = load8(l4 + 28ull);
-                                            if (l8 == t364) goto L335;
-                                            const u32 t365 = load8(l4 + 29ull);
-                                            if (t365 == l8) goto L335;
-                                            l8 = l9 & 255u;
-                                            const u32 t366 = load8(l4 + 30ull);
-                                            if (l8 == t366) goto L335;
-                                            const u32 t367 = load8(l4 + 31ull);
-                                            if (t367 == l8) goto L335;
-                                            l4 = l4 + 32ull;
-                                            l2 = l2 - 32ull;
-                                            if (l2 > 31ull) goto L334;
-                                            goto L333;
-                                        }
-                                        L335:;
-                                    }
-                                    if (l2 > 31ull) goto L207;
-                                }
-                                L333:;
-                                l8 = l9 & 255u;
-                                l4 = l3 + l30;
-                                const u32 t368 = load8(l4 - 32ull);
-                                if (l8 == t368) goto L207;
-                                const u32 t369 = load8(l4 - 31ull);
-                                if (t369 == l8) goto L207;
-                                l8 = l9 & 255u;
-                                const u32 t370 = load8(l4 - 30ull);
-                                if (l8 == t370) goto L207;
-                                const u32 t371 = load8(l4 - 29ull);
-                                if (t371 == l8) goto L207;
-                                l8 = l9 & 255u;
-                                const u32 t372 = load8(l4 - 28ull);
-                                if (l8 == t372) goto L207;
-                                const u32 t373 = load8(l4 - 27ull);
-                                if (t373 == l8) goto L207;
-                                l8 = l9 & 255u;
-                                const u32 t374 = load8(l4 - 26ull);
-                                if (l8 == t374) goto L207;
-                                const u32 t375 = load8(l4 - 25ull);
-                                if (t375 == l8) goto L207;
-                                l8 = l9 & 255u;
-                                const u32 t376 = load8(l4 - 24ull);
-                                if (l8 == t376) goto L207;
-                                const u32 t377 = load8(l4 - 23ull);
-                                if (t377 == l8) goto L207;
-                                l8 = l9 & 255u;
-                                const u32 t378 = load8(l4 - 22ull);
-                                if (l8 == t378) goto L207;
-                                const u32 t379 = load8(l4 - 21ull);
-                                if (t379 == l8) goto L207;
-                                l8 = l9 & 255u;
-                                const u32 t380 = load8(l4 - 20ull);
-                                if (l8 == t380) goto L207;
-                                const u32 t381 = load8(l4 - 19ull);
-                                if (t381 == l8) goto L207;
-                                l8 = l9 & 255u;
-                                const u32 t382 = load8(l4 - 18ull);
-                                if (l8 == t382) goto L207;
-                                const u32 t383 = load8(l4 - 17ull);
-                                if (t383 == l8) goto L207;
-                                l8 = l9 & 255u;
-                                const u32 t384 = load8(l4 - 16ull);
-                                if (l8 == t384) goto L207;
-                                const u32 t385 = load8(l4 - 15ull);
-                                if (t385 == l8) goto L207;
-                                l8 = l9 & 255u;
-                                const u32 t386 = load8(l4 - 14ull);
-                                if (l8 == t386) goto L207;
-                                const u32 t387 = load8(l4 - 13ull);
-                                if (t387 == l8) goto L207;
-                                l8 = l9 & 255u;
-                                const u32 t388 = load8(l4 - 12ull);
-                                if (l8 == t388) goto L207;
-                                const u32 t389 = load8(l4 - 11ull);
-                                if (t389 == l8) goto L207;
-                                l8 = l9 & 255u;
-                                const u32 t390 = load8(l4 - 10ull);
-                                if (l8 == t390) goto L207;
-                                const u32 t391 = load8(l4 - 9ull);
-                                if (t391 == l8) goto L207;
-                                l8 = l9 & 255u;
-                                const u32 t392 = load8(l4 - 8ull);
-                                if (l8 == t392) goto L207;
-                                const u32 t393 = load8(l4 - 7ull);
-                                if (t393 == l8) goto L207;
-                                l8 = l9 & 255u;
-                                const u32 t394 = load8(l4 - 6ull);
-                                if (l8 == t394) goto L207;
-                                const u32 t395 = load8(l4 - 5ull);
-                                if (t395 == l8) goto L207;
-                                l8 = l9 & 255u;
-                                const u32 t396 = load8(l4 - 4ull);
-                                if (l8 == t396) goto L207;
-                                const u32 t397 = load8(l4 - 3ull);
-                                if (t397 == l8) goto L207;
-                                l8 = l9 & 255u;
-                                const u32 t398 = load8(l4 - 2ull);
-                                if (l8 == t398) goto L207;
-                                const u32 t399 = load8(l4 - 1ull);
-                                if (t399 == l8) goto L207;
-                            }
-                            L214:;
-                            const u32 t400 = load32(l28 + 24ull);
-                            const u32 t401 = load32(l28 + 20ull);
-                            const u32 t402 = load32(l28 + 16ull);
-                            const u64 t403 = load32(l28 + 8ull);
-                            if ((l30 + (u64)((t400 + (t401 + t402)))) > (t403 + 1ull)) goto L207;
-                            l23 = 7u;
-                            goto L3;
-                        }
-                        L210:;
-                        if ((l30 == 0) == 0) goto L207;
-                        l23 = 7u;
-                        goto L3;
-                    }
-                    L207:;
-                    const u32 t404 = load8(l28 + 84ull);
-                    l8 = t404;
-                    u32 v405;
-                    {
-                        {
-                            u32 v407;
-                            {
-                                {
-                                    {
-                                        {
-                                            {
-                                                {
-                                                    {
-                                                        {
-                                                            {
-                                                                {
-                                                                    {
-                                                                        u32 v418;
-                                                                        {
-                                                                            const u64 t419 = load64(l25 + 40u);
-                                                                            const u64 t420 = load64(l25 + 48u);
-                                                                            l4 = t419 - t420;
-                                                                            const u32 t421 = load32(l28 + 16ull);
-                                                                            l6 = t421;
-                                                                            const u32 t422 = load32(l28 + 20ull);
-                                                                            l9 = t422;
-                                                                            l2 = (u64)(l6 + l9);
-                                                                            if (l4 >= (l2 - (u64)l6)) {
-                                                                                if ((l8 & 255u) == 1u) goto L416;
-                                                                                const u64 t424 = load64(l28 + 72ull);
-                                                                                l5 = t424;
-                                                                                const u64 t425 = load64(l28 + 64ull);
-                                                                                l30 = t425;
-                                                                                if (l5 == l30) goto L417;
-                                                                                const u32 t426 = load32(l28 + 24ull);
-                                                                                l8 = t426;
-                                                                                if (l8 == 0) goto L417;
-                                                                                const u64 t427 = load64(l28);
-                                                                                l3 = t427;
-                                                                                const u32 t428 = load32(l28 + 28ull);
-                                                                                const u32 t429 = load8((l3 + ((u64)(t428 - l8) << 3)) + 1ull);
-                                                                                if (t429 != 41u) goto L417;
-                                                                                const u32 t430 = load32(l28 + 32ull);
-                                                                                l8 = t430;
-                                                                                if (l8 == 0) goto L417;
-                                                                                l8 = l8 - (l8 != 0u);
-                                                                                if ((u64)l9 <= l4) {
-                                                                                    store8(l25 + 130u, (u8)0u);
-                                                                                    store16(l25 + 128u, (u16)0u);
-                                                                                    l1 = (u64)(((l6 + l8) + 1u));
-                                                                                    l2 = l2 - l1;
-                                                                                    if (l2 < 2ull) goto L417;
-                                                                                    l3 = l3 + (l1 << 3);
-                                                                                    if (l2 != 2ull) {
-                                                                                        const u32 t433 = load8(l3 + 16ull);
-                                                                                        if (t433 != 2u) goto L417;
-                                                                                    }
-                                                                                    functions_function_function_of(e, l25 + 128ull, l3, l3 + 8ull);
-                                                                                    const u32 t434 = load8(l25 + 128u);
-                                                                                    if (t434 != 1u) goto L417;
-                                                                                    const u32 t435 = load8(l25 + 129u);
-                                                                                    if (t435 != 10u) goto L417;
-                                                                                }
-                                                                                const u32 t436 = core_machine_printing_call_len(e, l28, l8);
-                                                                                l6 = t436;
-                                                                                const u32 t437 = load8(l28 + 84ull);
-                                                                                l8 = t437;
-                                                                                if (l4 >= (u64)l6) { v418 = l8; goto L418; }
-                                                                            }
-                                                                            if ((l8 & 255u) == 1u) goto L416;
-                                                                            const u64 t438 = load64(l28 + 72ull);
-                                                                            l5 = t438;
-                                                                            const u64 t439 = load64(l28 + 64ull);
-                                                                            l30 = t439;
-                                                                            if (l5 == l30) goto L417;
-                                                                            const u32 t440 = load32(l28 + 24ull);
-                                                                            l8 = t440;
-                                                                            if (l8 == 0) goto L417;
-                                                                            const u64 t441 = load64(l28);
-                                                                            const u32 t442 = load32(l28 + 28ull);
-                                                                            const u32 t443 = load8((t441 + ((u64)(t442 - l8) << 3)) + 1ull);
-                                                                            if (t443 != 41u) goto L417;
-                                                                            const u32 t444 = load32(l28 + 32ull);
-                                                                            l8 = t444;
-                                                                            if (l8 == 0) goto L417;
-                                                                            const u32 t445 = core_machine_printing_call_len(e, l28, l8 - 1u);
-                                                                            l2 = (u64)t445;
-                                                                            if (l2 > l4) {
-                                                                                l23 = 8u;
-                                                                                l47 = l2;
-                                                                                goto L3;
-                                                                            }
-                                                                            const u32 t447 = load8(l28 + 84ull);
-                                                                            v418 = t447;
-                                                                        }
-                                                                        L418:;
-                                                                        if ((v418 & 255u) == 1u) goto L416;
-                                                                        const u64 t448 = load64(l28 + 64ull);
-                                                                        l30 = t448;
-                                                                        const u64 t449 = load64(l28 + 72ull);
-                                                                        l5 = t449;
-                                                                    }
-                                                                    L417:;
-                                                                    if (l5 == l30) {
-                                                                        store16(l28 + 84ull, (u16)769u);
-                                                                        l6 = 3u;
-                                                                        v405 = 1u; goto L405;
-                                                                    }
-                                                                    const u32 t451 = load32(l28 + 24ull);
-                                                                    l8 = t451;
-                                                                    const u32 t452 = load32(l28 + 16ull);
-                                                                    l9 = t452;
-                                                                    const u32 t453 = load32(l28 + 20ull);
-                                                                    l19 = t453;
-                                                                    store32(l25 + 168u, l19);
-                                                                    l6 = 0u;
-                                                                    store32(l25 + 152u, 0u);
-                                                                    store64(l25 + 136u, 0ull);
-                                                                    store64(l25 + 128u, 0ull);
-                                                                    core_scan_pass(e, l25 + 128ull, l28, 1ull, l25 + 168ull, l25 + 152ull);
-                                                                    const u32 t454 = load8(l25 + 128u);
-                                                                    if (t454 == 1u) {
-                                                                        const u32 t456 = load8(l25 + 132u);
-                                                                        if (t456 == 0) {
-                                                                            l9 = 0u;
-                                                                            store32(l28 + 32ull, 0u);
-                                                                            l2 = l28 + 20ull;
-                                                                            store32(l2, 0u);
-                                                                            const u32 t458 = load32(l28 + 28ull);
-                                                                            l6 = t458;
-                                                                            l30 = l28 + 24ull;
-                                                                            const u32 t459 = load32(l30);
-                                                                            l8 = t459;
-                                                                            l5 = l28 + 16ull;
-                                                                            const u32 t460 = load32(l5);
-                                                                            if ((l6 - (l8 + t460)) <= 10u) {
-                                                                                const u32 t462 = space_space_Space_try_claim_spare(e, l28, 11ull);
-                                                                                if (t462 == 0) {
-                                                                                    l6 = 2u;
-                                                                                    goto L406;
-                                                                                }
-                                                                                const u32 t464 = load32(l28 + 24ull);
-                                                                                l8 = t464;
-                                                                                const u32 t465 = load32(l28 + 28ull);
-                                                                                l6 = t465;
-                                                                            }
-                                                                            const u64 t466 = load64(l28);
-                                                                            l8 = l8 + 11u;
-                                                                            l4 = t466 + ((u64)(l6 - l8) << 3);
-                                                                            store64(l4 + 56u, 0ull);
-                                                                            store64(l4 + 48u, 0ull);
-                                                                            store64(l4 + 40u, 0ull);
-                                                                            store64(l4 + 32u, 0ull);
-                                                                            store64(l4 + 24u, 0ull);
-                                                                            store64(l4 + 16u, 0ull);
-                                                                            store64(l4 + 8u, 0ull);
-                                                                            store64(l4, 0ull);
-                                                                            store16(l4 + 80u, (u16)10496u);
-                                                                            store16(l4 + 72u, (u16)10496u);
-                                                                            store16(l4 + 64u, (u16)29440u);
-                                                                            store32(l4 + 84ull, 0u);
-                                                                            store32(l4 + 76ull, 0u);
-                                                                            store32(l4 + 68ull, 0u);
-                                                                            store8(l4 + 57ull, (u8)114u);
-                                                                            store8(l4 + 49ull, (u8)40u);
-                                                                            store8(l4 + 41ull, (u8)35u);
-                                                                            store8(l4 + 33ull, (u8)44u);
-                                                                            store8(l4 + 25ull, (u8)115u);
-                                                                            store8(l4 + 17ull, (u8)112u);
-                                                                            store8(l4 + 9ull, (u8)40u);
-                                                                            store8(l4 + 1ull, (u8)35u);
-                                                                            store32(l30, l8);
-                                                                            const u32 t467 = load32(l2);
-                                                                            const u32 t468 = load32(l5);
-                                                                            l8 = t467 + (t468 + l8);
-                                                                            goto L408;
-                                                                        }
-                                                                        const u64 t469 = load64(l25 + 136u);
-                                                                        l2 = t469;
-                                                                        l4 = l28 + 24ull;
-                                                                        const u32 t470 = load32(l4);
-                                                                        l22 = t470 - 1u;
-                                                                        store32(l4, l22);
-                                                                        const u32 t471 = load32(l28 + 20ull);
-                                                                        l19 = t471;
-                                                                        const u32 t472 = load32(l28 + 16ull);
-                                                                        l8 = t472;
-                                                                        store64(l25 + 184u, 0ull);
-                                                                        store64(l25 + 168u, 0ull);
-                                                                        store64(l25 + 176u, 0ull);
-                                                                        store64(l25 + 152u, 0ull);
-                                                                        store64(l25 + 160u, 0ull);
-                                                                        const u64 t473 = load64(l28);
-                                                                        l4 = t473;
-                                                                        l9 = (u32)l2;
-                                                                        const u32 t474 = load8((l4 + ((u64)(l8 + l9) << 3)) + 1ull);
-                                                                        l6 = t474;
-                                                                        store8(l25 + 130u, (u8)0u);
-                                                                        store16(l25 + 128u, (u16)0u);
-                                                                        {
-                                                                            l14 = l8 + l19;
-                                                                            l15 = l9 + 1u;
-                                                                            l5 = (u64)(l8 + l15);
-                                                                            l30 = (u64)l14 - l5;
-                                                                            if (l30 < 2ull) goto L475;
-                                                                            l5 = l4 + (l5 << 3);
-                                                                            if (l30 != 2ull) {
-                                                                                const u32 t477 = load8(l5 + 16ull);
-                                                                                if (t477 != 2u) goto L475;
-                                                                            }
-                                                                            functions_function_function_of(e, l25 + 128ull, l5, l5 + 8ull);
-                                                                            const u32 t478 = load8(l25 + 128u);
-                                                                            if (t478 != 1u) goto L475;
-                                                                            l12 = (u32)(l2 >> 32);
-                                                                            l6 = l6 == 0;
-                                                                            l18 = l9 + 4u;
-                                                                            {
-                                                                                {
-                                                                                    {
-                                                                                        {
-                                                                                            {
-                                                                                                {
-                                                                                                    const u32 t485 = load8(l25 + 129u);
-                                                                                                    l13 = t485;
-                                                                                                    switch (l13 - 1u) {
-                                                                                                    case 0: goto L484;
-                                                                                                    case 1: goto L481;
-                                                                                                    case 2: goto L483;
-                                                                                                    case 3: goto L481;
-                                                                                                    case 4: goto L481;
-                                                                                                    case 5: goto L481;
-                                                                                                    case 6: goto L481;
-                                                                                                    case 7: goto L481;
-                                                                                                    case 8: goto L481;
-                                                                                                    case 9: goto L482;
-                                                                                                    case 10: goto L481;
-                                                                                                    case 11: goto L481;
-                                                                                                    case 12: goto L481;
-                                                                                                    case 13: goto L481;
-                                                                                                    case 14: goto L481;
-                                                                                                    case 15: goto L481;
-                                                                                                    case 16: goto L481;
-                                                                                                    case 17: goto L481;
-                                                                                                    case 18: goto L481;
-                                                                                                    case 19: goto L481;
-                                                                                                    case 20: goto L481;
-                                                                                                    case 21: goto L481;
-                                                                                                    case 22: goto L481;
-                                                                                                    case 23: goto L481;
-                                                                                                    default: goto L480;
-                                                                                                    }
-                                                                                                }
-                                                                                                L484:;
-                                                                                                l1 = l25 + 184ull;
-                                                                                                l0 = l28;
-                                                                                                l5 = l25 + 72ull;
-                                                                                                l3 = e->stack_pointer - 16ull;
-                                                                                                e->stack_pointer = l3;
-                                                                                                u32 v486;
-                                                                                                {
-                                                                                                    {
-                                                                                                        if ((i64)(l3 - e->stack) >= (i64)16ull) {
-                                                                                                            l11 = 4u;
-                                                                                                            const u32 t489 = load8(l5 + 17ull);
-                                                                                                            if (t489) { v486 = 1u; goto L486; }
-                                                                                                            {
-                                                                                                                const u64 t491 = load64(l5 + 8u);
-                                                                                                                l4 = t491;
-                                                                                                                if (l4 == 0) {
-                                                                                                                    const u32 t493 = load8(l5 + 16ull);
-                                                                                                                    if (t493) goto L490;
-                                                                                                                    store8(l5 + 17ull, (u8)1u);
-                                                                                                                    v486 = 1u; goto L486;
-                                                                                                                }
-                                                                                                                store64(l5 + 8u, l4 - 1ull);
-                                                                                                                const u64 t494 = load64(l5);
-                                                                                                                l4 = t494;
-                                                                                                                store64(l5, l4 + 1ull);
-                                                                                                                const u32 t495 = load8(l4);
-                                                                                                                l11 = t495;
-                                                                                                                store64(l3 + 8u, 0ull);
-                                                                                                                store8(l3 + 9u, (u8)l11);
-                                                                                                                const u32 t496 = load32(l0 + 28ull);
-                                                                                                                l5 = l0 + 20ull;
-                                                                                                                const u32 t497 = load32(l5);
-                                                                                                                l10 = t497;
-                                                                                                                const u32 t498 = load32(l0 + 16ull);
-                                                                                                                l12 = l10 + t498;
-                                                                                                                const u32 t499 = load32(l0 + 24ull);
-                                                                                                                if (t496 != (l12 + t499)) {
-                                                                                                                    l4 = l0 + 32ull;
-                                                                                                                    const u32 t501 = load32(l4);
-                                                                                                                    l6 = t501;
-                                                                                                                    const u64 t502 = load64(l0);
-                                                                                                                    l0 = t502 + ((u64)l12 << 3);
-                                                                                                                    store8(l0, (u8)0u);
-                                                                                                                    store32(l0 + 4ull, 0u);
-                                                                                                                    store8(l0 + 1ull, (u8)l11);
-                                                                                                                    store32(l5, l10 + 1u);
-                                                                                                                    store32(l4, l6);
-                                                                                                                    goto L487;
-                                                                                                                }
-                                                                                                                const u32 t503 = space_space_Space_push_over_spare(e, l0, l3 + 8ull);
-                                                                                                                if (t503) goto L487;
-                                                                                                                l11 = 0u;
-                                                                                                                v486 = 0u; goto L486;
-                                                                                                            }
-                                                                                                            L490:;
-                                                                                                            l5 = l5 + 24ull;
-                                                                                                            const u64 t504 = load64(l5);
-                                                                                                            store64(l5, t504 + 1ull);
-                                                                                                            v486 = 4u; goto L486;
-                                                                                                        }
-                                                                                                        trap();
-                                                                                                    }
-                                                                                                    L487:;
-                                                                                                    l11 = 1u;
-                                                                                                    v486 = 0u;
-                                                                                                }
-                                                                                                L486:;
-                                                                                                l10 = v486;
-                                                                                                store8(l1, (u8)l11);
-                                                                                                store32(l1 + 4ull, 0u);
-                                                                                                store8(l1 + 1ull, (u8)l10);
-                                                                                                e->stack_pointer = l3 + 16ull;
-                                                                                                goto L479;
-                                                                                            }
-                                                                                            L483:;
-                                                                                            store16(l43, (u16)0u);
-                                                                                            store8(l43 + 2u, (u8)0u);
-                                                                                            store8(l25 + 180u, (u8)l6);
-                                                                                            store32(l25 + 176u, l12);
-                                                                                            store32(l25 + 172u, l19);
-                                                                                            store32(l25 + 168u, l18);
-                                                                                            l5 = l25 + 184ull;
-                                                                                            l1 = l28;
-                                                                                            l27 = l25 + 168ull;
-                                                                                            l31 = l25 + 32ull;
-                                                                                            l3 = e->stack_pointer - 32ull;
-                                                                                            e->stack_pointer = l3;
-                                                                                            {
-                                                                                                l0 = l3;
-                                                                                                if ((i64)(l0 - e->stack) >= (i64)16ull) {
-                                                                                                    const u64 t507 = load64(l27 + 8u);
-                                                                                                    store64(l0 + 24u, t507);
-                                                                                                    const u64 t508 = load64(l27);
-                                                                                                    store64(l0 + 16u, t508);
-                                                                                                    functions_arguments_Arguments_next(e, l0 + 8ull, l0 + 16ull, l1);
-                                                                                                    l6 = 3u;
-                                                                                                    u32 v509;
-                                                                                                    {
-                                                                                                        const u32 t510 = load32(l0 + 12u);
-                                                                                                        l10 = t510;
-                                                                                                        const u32 t511 = load32(l0 + 8u);
-                                                                                                        l12 = t511;
-                                                                                                        if (l10 == l12) { v509 = 0u; goto L509; }
-                                                                                                        const u64 t512 = load64(l1);
-                                                                                                        const u32 t513 = load32(l1 + 16ull);
-                                                                                                        const u32 t514 = l12;
-                                                                                                        l12 = t513;
-                                                                                                        l30 = (u64)(t514 + l12);
-                                                                                                        l27 = t512 + (l30 << 3);
-                                                                                                        {
-                                                                                                            l4 = (u64)(l10 + l12);
-                                                                                                            l1 = l4 - l30;
-                                                                                                            if (l1 <= 15ull) {
-                                                                                                                {
-                                                                                                                    L518:;
-                                                                                                                    {
-                                                                                                                        l10 = 0u;
-                                                                                                                        const u32 t519 = load8(l27);
-                                                                                                                        if (t519 == 0) {
-                                                                                                                            const u32 t521 = load8(l27 + 1ull);
-                                                                                                                            l10 = t521;
-                                                                                                                        }
-                                                                                                                        {
-                                                                                                                            l3 = l31 + 16ull;
-                                                                                                                            const u64 t523 = load64(l3);
-                                                                                                                            l30 = t523;
-                                                                                                                            const u64 t524 = load64(l31 + 8ull);
-                                                                                                                            if (l30 < t524) {
-                                                                                                                                const u64 t526 = load64(l31);
-                                                                                                                                store8(t526 + l30, (u8)l10);
-                                                                                                                                const u64 t527 = load64(l3);
-                                                                                                                                store64(l3, t527 + 1ull);
-                                                                                                                                goto L522;
-                                                                                                                            }
-                                                                                                                            l3 = l31 + 24ull;
-                                                                                                                            const u32 t528 = load8(l3);
-                                                                                                                            if (t528 == 1u) goto L517;
-                                                                                                                            store8(l31 + 25ull, (u8)l10);
-                                                                                                                            store8(l3, (u8)1u);
-                                                                                                                        }
-                                                                                                                        L522:;
-                                                                                                                        l27 = l27 + 8ull;
-                                                                                                                        l1 = l1 - 1ull;
-                                                                                                                        if ((l1 == 0) == 0) goto L518;
-                                                                                                                    }
-                                                                                                                    v509 = 0u; goto L509;
-                                                                                                                }
-                                                                                                                L517:;
-                                                                                                                l31 = l31 + 32ull;
-                                                                                                                const u64 t529 = load64(l31);
-                                                                                                                store64(l31, t529 + 1ull);
-                                                                                                                goto L515;
-                                                                                                            }
-                                                                                                            l3 = l31 + 16ull;
-                                                                                                            const u64 t530 = load64(l3);
-                                                                                                            const u64 t531 = load64(l31);
-                                                                                                            const u64 t532 = load64(l31 + 8ull);
-                                                                                                            const u64 t533 = c_filling_put_characters(e, l27, l1, t530, t531, t532);
-                                                                                                            l32 = t533;
-                                                                                                            const u64 t534 = load64(l3);
-                                                                                                            const u64 t535 = l3;
-                                                                                                            l3 = l32 + t534;
-                                                                                                            store64(t535, l3);
-                                                                                                            if (l1 == l32) { v509 = 0u; goto L509; }
-                                                                                                            l27 = l27 + (l32 << 3);
-                                                                                                            l1 = (l30 + l32) - l4;
-                                                                                                            {
-                                                                                                                L537:;
-                                                                                                                {
-                                                                                                                    l10 = 0u;
-                                                                                                                    const u32 t538 = load8(l27);
-                                                                                                                    if (t538 == 0) {
-                                                                                                                        const u32 t540 = load8(l27 + 1ull);
-                                                                                                                        l10 = t540;
-                                                                                                                    }
-                                                                                                                    {
-                                                                                                                        const u64 t542 = load64(l31 + 8ull);
-                                                                                                                        if (t542 > l3) {
-                                                                                                                            const u64 t544 = load64(l31);
-                                                                                                                            store8(t544 + l3, (u8)l10);
-                                                                                                                            l3 = l31 + 16ull;
-                                                                                                                            const u64 t545 = load64(l3);
-                                                                                                                            const u64 t546 = l3;
-                                                                                                                            l3 = t545 + 1ull;
-                                                                                                                            store64(t546, l3);
-                                                                                                                            goto L541;
-                                                                                                                        }
-                                                                                                                        l30 = l31 + 24ull;
-                                                                                                                        const u32 t547 = load8(l30);
-                                                                                                                        if (t547 == 1u) goto L536;
-                                                                                                                        store8(l31 + 25ull, (u8)l10);
-                                                                                                                        store8(l30, (u8)1u);
-                                                                                                                    }
-                                                                                                                    L541:;
-                                                                                                                    l27 = l27 + 8ull;
-                                                                                                                    l1 = l1 + 1ull;
-                                                                                                                    if ((l1 == 0) == 0) goto L537;
-                                                                                                                }
-                                                                                                                v509 = 0u; goto L509;
-                                                                                                            }
-                                                                                                            L536:;
-                                                                                                            l31 = l31 + 32ull;
-                                                                                                            const u64 t548 = load64(l31);
-                                                                                                            store64(l31, t548 + 1ull);
-                                                                                                        }
-                                                                                                        L515:;
-                                                                                                        l6 = 4u;
-                                                                                                        v509 = 5u;
-                                                                                                    }
-                                                                                                    L509:;
-                                                                                                    l10 = v509;
-                                                                                                    store8(l5, (u8)l6);
-                                                                                                    store32(l5 + 4ull, 0u);
-                                                                                                    store8(l5 + 1ull, (u8)l10);
-                                                                                                    e->stack_pointer = l0 + 32ull;
-                                                                                                    goto L505;
-                                                                                                }
-                                                                                                trap();
-                                                                                            }
-                                                                                            L505:;
-                                                                                            goto L479;
+                                                                                            L619:;
+                                                                                            store8(l9 + 216u, (u8)1u);
+                                                                                            goto L217;
                                                                                         }
                                                                                         L482:;
-                                                                                        store16(l44, (u16)0u);
-                                                                                        store8(l44 + 2u, (u8)0u);
-                                                                                        store8(l25 + 164u, (u8)l6);
-                                                                                        store32(l25 + 160u, l12);
-                                                                                        store32(l25 + 156u, l19);
-                                                                                        store32(l25 + 152u, l18);
-                                                                                        l4 = l25 + 184ull;
-                                                                                        l0 = l28;
-                                                                                        l30 = l25 + 152ull;
-                                                                                        l32 = l25 + 32ull;
-                                                                                        l31 = e->stack_pointer - 80ull;
-                                                                                        e->stack_pointer = l31;
-                                                                                        u32 v549;
+                                                                                        l11 = l9 + 200ull;
+                                                                                        l0 = l12;
+                                                                                        const u32 t670 = load8(l12 + 56ull);
+                                                                                        l32 = t670;
+                                                                                        l1 = l9 + 80ull;
+                                                                                        l8 = stack - 16ull;
+                                                                                        stack = l8;
                                                                                         {
                                                                                             {
+                                                                                                l17 = l0 + 20ull;
+                                                                                                const u32 t673 = load32(l17);
+                                                                                                l33 = t673;
+                                                                                                devices_slice_source_SliceSourceSource_take_held(stack, l1, l32, l0);
+                                                                                                const u64 t674 = l11;
+                                                                                                u32 v675;
                                                                                                 {
                                                                                                     {
                                                                                                         {
+                                                                                                            const u32 t678 = load8(l1 + 17ull);
+                                                                                                            if (t678) goto L677;
+                                                                                                            L679:;
                                                                                                             {
-                                                                                                                if ((i64)(l31 - e->stack) >= (i64)16ull) {
-                                                                                                                    const u64 t556 = load64(l30 + 8u);
-                                                                                                                    store64(l31 + 32u, t556);
-                                                                                                                    const u64 t557 = load64(l30);
-                                                                                                                    store64(l31 + 24u, t557);
-                                                                                                                    functions_arguments_Arguments_next(e, l31 + 16ull, l31 + 24ull, l0);
-                                                                                                                    const u32 t558 = load32(l31 + 20u);
-                                                                                                                    l12 = t558;
-                                                                                                                    const u32 t559 = load32(l31 + 16u);
-                                                                                                                    l10 = t559;
-                                                                                                                    store64(l31 + 72u, 0ull);
-                                                                                                                    store64(l31 + 64u, 0ull);
-                                                                                                                    store64(l31 + 56u, 0ull);
-                                                                                                                    store64(l31 + 48u, 0ull);
-                                                                                                                    store64(l31 + 40u, 0ull);
-                                                                                                                    u32 v560;
-                                                                                                                    {
-                                                                                                                        const u32 t561 = load32(l0 + 40ull);
-                                                                                                                        l6 = t561;
-                                                                                                                        if (l6 >= 8u) {
-                                                                                                                            forms_work_Work_find_among_more(e, l31, l0, l10, l12);
-                                                                                                                            const u32 t563 = load32(l31 + 4u);
-                                                                                                                            l10 = t563;
-                                                                                                                            const u32 t564 = load8(l31);
-                                                                                                                            v560 = t564; goto L560;
-                                                                                                                        }
-                                                                                                                        {
-                                                                                                                            if (l6 == 0) goto L565;
-                                                                                                                            const u64 t566 = load64(l0);
-                                                                                                                            l5 = t566;
-                                                                                                                            const u64 t567 = load32(l5 + 4ull);
-                                                                                                                            const u32 t568 = load32(l0 + 16ull);
-                                                                                                                            l6 = t568;
-                                                                                                                            l30 = (u64)(l6 + l12);
-                                                                                                                            l27 = (u64)(l6 + l10);
-                                                                                                                            if (t567 != (l30 - l27)) goto L565;
-                                                                                                                            l3 = 17ull - (l27 << 3);
-                                                                                                                            l27 = (l30 ^ 18446744073709551615ull) + l27;
-                                                                                                                            l30 = l5 + (l30 << 3);
-                                                                                                                            L569:;
-                                                                                                                            {
-                                                                                                                                l27 = l27 + 1ull;
-                                                                                                                                if (l27 == 0) goto L554;
-                                                                                                                                l5 = l30 - 7ull;
-                                                                                                                                l1 = l3 + l30;
-                                                                                                                                l30 = l30 - 8ull;
-                                                                                                                                const u32 t570 = load8(l1);
-                                                                                                                                const u32 t571 = load8(l5);
-                                                                                                                                if (t570 == t571) goto L569;
-                                                                                                                            }
-                                                                                                                        }
-                                                                                                                        L565:;
-                                                                                                                        forms_work_Work_find_among_few(e, l31 + 8ull, l0, l10, l12);
-                                                                                                                        const u32 t572 = load32(l31 + 12u);
-                                                                                                                        l10 = t572;
-                                                                                                                        const u32 t573 = load8(l31 + 8u);
-                                                                                                                        v560 = t573;
-                                                                                                                    }
-                                                                                                                    L560:;
-                                                                                                                    if ((v560 & 255u) != 1u) goto L552;
-                                                                                                                    goto L553;
+                                                                                                                const u64 t680 = load64(l1 + 8u);
+                                                                                                                l2 = t680;
+                                                                                                                if (l2 == 0) {
+                                                                                                                    const u32 t682 = load8(l1 + 16ull);
+                                                                                                                    if (t682) goto L676;
+                                                                                                                    store8(l1 + 17ull, (u8)1u);
+                                                                                                                    goto L677;
                                                                                                                 }
-                                                                                                                trap();
+                                                                                                                store64(l1 + 8u, l2 - 1ull);
+                                                                                                                const u64 t683 = load64(l1);
+                                                                                                                l2 = t683;
+                                                                                                                store64(l1, l2 + 1ull);
+                                                                                                                const u32 t684 = load8(l2);
+                                                                                                                l6 = t684;
+                                                                                                                if (l6 == l32) {
+                                                                                                                    l6 = 0u;
+                                                                                                                    v675 = 1u; goto L675;
+                                                                                                                }
+                                                                                                                store64(l8 + 8u, 0ull);
+                                                                                                                store8(l8 + 9u, (u8)l6);
+                                                                                                                {
+                                                                                                                    const u32 t687 = load32(l0 + 28ull);
+                                                                                                                    l2 = l0 + 20ull;
+                                                                                                                    const u32 t688 = load32(l2);
+                                                                                                                    l36 = t688;
+                                                                                                                    const u32 t689 = load32(l0 + 16ull);
+                                                                                                                    l35 = l36 + t689;
+                                                                                                                    const u32 t690 = load32(l0 + 24ull);
+                                                                                                                    if (t687 == (l35 + t690)) {
+                                                                                                                        const u32 t692 = space_space_Space_push_over_spare(stack, l0, l8 + 8ull);
+                                                                                                                        if (t692) goto L686;
+                                                                                                                        l6 = 0u;
+                                                                                                                        v675 = 0u; goto L675;
+                                                                                                                    }
+                                                                                                                    l10 = l0 + 32ull;
+                                                                                                                    const u32 t693 = load32(l10);
+                                                                                                                    l37 = t693;
+                                                                                                                    const u64 t694 = load64(l0);
+                                                                                                                    l14 = t694 + ((u64)l35 << 3);
+                                                                                                                    store8(l14, (u8)0u);
+                                                                                                                    store32(l14 + 4ull, 0u);
+                                                                                                                    store8(l14 + 1ull, (u8)l6);
+                                                                                                                    store32(l2, l36 + 1u);
+                                                                                                                    store32(l10, l37);
+                                                                                                                }
+                                                                                                                L686:;
+                                                                                                                devices_slice_source_SliceSourceSource_take_held(stack, l1, l32, l0);
+                                                                                                                const u32 t695 = load8(l1 + 17ull);
+                                                                                                                if (t695 == 0) goto L679;
                                                                                                             }
-                                                                                                            L554:;
-                                                                                                            store64(l0 + 44ull, 0ull);
-                                                                                                            l10 = 0u;
                                                                                                         }
-                                                                                                        L553:;
-                                                                                                        forms_work_Work_stored(e, l31 + 40ull, l0, l10);
-                                                                                                        const u64 t574 = load64(l31 + 64u);
-                                                                                                        l30 = t574;
-                                                                                                        const u32 t575 = load32(l31 + 72u);
-                                                                                                        l12 = t575;
-                                                                                                        const u32 t576 = core_display_show_items2(e, l31 + 40ull, 0u, l12, l32);
-                                                                                                        if (t576 & 255u) goto L550;
-                                                                                                        l0 = l32 + 16ull;
-                                                                                                        const u64 t577 = load64(l0);
-                                                                                                        l27 = t577;
-                                                                                                        l5 = l32 + 8ull;
-                                                                                                        const u64 t578 = load64(l5);
-                                                                                                        if (l27 >= t578) {
-                                                                                                            l30 = l32 + 24ull;
-                                                                                                            const u32 t580 = load8(l30);
-                                                                                                            if (t580 == 1u) goto L551;
-                                                                                                            store16(l30, (u16)15361u);
-                                                                                                            goto L551;
-                                                                                                        }
-                                                                                                        const u64 t581 = load64(l32);
-                                                                                                        store8(t581 + l27, (u8)60u);
-                                                                                                        const u64 t582 = load64(l0);
-                                                                                                        l27 = t582 + 1ull;
-                                                                                                        store64(l0, l27);
-                                                                                                        {
-                                                                                                            const u64 t584 = load64(l5);
-                                                                                                            l0 = t584;
-                                                                                                            if (l0 <= l27) {
-                                                                                                                l5 = l32 + 24ull;
-                                                                                                                const u32 t586 = load8(l5);
-                                                                                                                if (t586 == 1u) goto L551;
-                                                                                                                store16(l5, (u16)24065u);
-                                                                                                                goto L583;
-                                                                                                            }
-                                                                                                            const u64 t587 = load64(l32);
-                                                                                                            store8(t587 + l27, (u8)94u);
-                                                                                                            l27 = l32 + 16ull;
-                                                                                                            const u64 t588 = load64(l27);
-                                                                                                            const u64 t589 = l27;
-                                                                                                            l27 = t588 + 1ull;
-                                                                                                            store64(t589, l27);
-                                                                                                            const u64 t590 = load64(l32 + 8ull);
-                                                                                                            l0 = t590;
-                                                                                                        }
-                                                                                                        L583:;
-                                                                                                        {
-                                                                                                            if (l0 <= l27) {
-                                                                                                                l27 = l32 + 24ull;
-                                                                                                                const u32 t593 = load8(l27);
-                                                                                                                if (t593 == 1u) goto L551;
-                                                                                                                store16(l27, (u16)15873u);
-                                                                                                                goto L591;
-                                                                                                            }
-                                                                                                            const u64 t594 = load64(l32);
-                                                                                                            store8(t594 + l27, (u8)62u);
-                                                                                                            l27 = l32 + 16ull;
-                                                                                                            const u64 t595 = load64(l27);
-                                                                                                            store64(l27, t595 + 1ull);
-                                                                                                        }
-                                                                                                        L591:;
-                                                                                                        const u32 t596 = core_display_show_items2(e, l31 + 40ull, l12, (u32)l30, l32);
-                                                                                                        if (t596 & 255u) goto L550;
+                                                                                                        L677:;
+                                                                                                        const u32 t696 = load32(l17);
+                                                                                                        l6 = t696 == l33;
+                                                                                                        v675 = l6 ? 4u : 1u; goto L675;
                                                                                                     }
-                                                                                                    L552:;
-                                                                                                    l10 = 3u;
-                                                                                                    v549 = 0u; goto L549;
+                                                                                                    L676:;
+                                                                                                    l0 = l1 + 24ull;
+                                                                                                    const u64 t697 = load64(l0);
+                                                                                                    store64(l0, t697 + 1ull);
+                                                                                                    l6 = 4u;
+                                                                                                    v675 = 4u;
                                                                                                 }
-                                                                                                L551:;
-                                                                                                l30 = l32 + 32ull;
-                                                                                                const u64 t597 = load64(l30);
-                                                                                                store64(l30, t597 + 1ull);
-                                                                                            }
-                                                                                            L550:;
-                                                                                            l10 = 4u;
-                                                                                            v549 = 5u;
-                                                                                        }
-                                                                                        L549:;
-                                                                                        l12 = v549;
-                                                                                        store8(l4, (u8)l10);
-                                                                                        store32(l4 + 4ull, 0u);
-                                                                                        store8(l4 + 1ull, (u8)l12);
-                                                                                        e->stack_pointer = l31 + 80ull;
-                                                                                        goto L479;
-                                                                                    }
-                                                                                    L481:;
-                                                                                    const u32 t598 = load8(l25 + 130u);
-                                                                                    l17 = t598;
-                                                                                    l16 = 0u;
-                                                                                    store16(l45, (u16)0u);
-                                                                                    store8(l45 + 2u, (u8)0u);
-                                                                                    store8(l25 + 116u, (u8)l6);
-                                                                                    store32(l25 + 112u, l12);
-                                                                                    store32(l25 + 108u, l19);
-                                                                                    store32(l25 + 104u, l18);
-                                                                                    store64(l25 + 192u, 0ull);
-                                                                                    {
-                                                                                        if ((l13 - 5u) < 20u) goto L599;
-                                                                                        l12 = 0u;
-                                                                                        {
-                                                                                            switch (l13 - 3u) {
-                                                                                            case 0: goto L599;
-                                                                                            case 1: goto L411;
-                                                                                            default: goto L600;
-                                                                                            }
-                                                                                        }
-                                                                                        L600:;
-                                                                                        l0 = l25 + 192ull;
-                                                                                        l1 = l25 + 104ull;
-                                                                                        l3 = e->stack_pointer - 32ull;
-                                                                                        e->stack_pointer = l3;
-                                                                                        {
-                                                                                            if ((i64)(l3 - e->stack) >= (i64)16ull) {
-                                                                                                const u64 t603 = load64(l1 + 8u);
-                                                                                                store64(l3 + 24u, t603);
-                                                                                                const u64 t604 = load64(l1);
-                                                                                                store64(l3 + 16u, t604);
-                                                                                                functions_arguments_Arguments_next(e, l3 + 8ull, l3 + 16ull, l28);
-                                                                                                const u32 t605 = load32(l3 + 8u);
-                                                                                                l6 = t605;
-                                                                                                const u32 t606 = load32(l3 + 12u);
-                                                                                                if (l6 != t606) {
-                                                                                                    const u64 t608 = load64(l28);
-                                                                                                    const u32 t609 = load32(l28 + 16ull);
-                                                                                                    l1 = t608 + ((u64)(t609 + l6) << 3);
-                                                                                                    const u32 t610 = load8(l1);
-                                                                                                    const u64 t611 = l40;
-                                                                                                    u32 v612;
-                                                                                                    if (t610) {
-                                                                                                        v612 = 0u;
-                                                                                                    } else {
-                                                                                                        const u32 t613 = load8(l1 + 1ull);
-                                                                                                        v612 = t613;
-                                                                                                    }
-                                                                                                    store8(t611, (u8)v612);
-                                                                                                }
-                                                                                                store16(l0, (u16)3u);
-                                                                                                store32(l0 + 4ull, 0u);
-                                                                                                e->stack_pointer = l3 + 32ull;
-                                                                                                goto L601;
+                                                                                                L675:;
+                                                                                                store8(t674, (u8)v675);
+                                                                                                store32(l11 + 4ull, 0u);
+                                                                                                store8(l11 + 1ull, (u8)l6);
+                                                                                                stack = l8 + 16ull;
+                                                                                                goto L671;
                                                                                             }
                                                                                             trap();
                                                                                         }
-                                                                                        L601:;
-                                                                                        const u32 t614 = load32(l25 + 196u);
-                                                                                        l16 = t614;
-                                                                                        const u32 t615 = load8(l25 + 193u);
-                                                                                        l12 = t615;
-                                                                                        const u32 t616 = load8(l25 + 192u);
-                                                                                        l13 = t616;
-                                                                                        goto L411;
+                                                                                        L671:;
                                                                                     }
-                                                                                    L599:;
-                                                                                    store64(l25 + 200u, 0ull);
-                                                                                    {
-                                                                                        {
-                                                                                            {
-                                                                                                {
-                                                                                                    {
-                                                                                                        {
-                                                                                                            {
-                                                                                                                {
-                                                                                                                    {
-                                                                                                                        {
-                                                                                                                            {
-                                                                                                                                {
-                                                                                                                                    {
-                                                                                                                                        {
-                                                                                                                                            {
-                                                                                                                                                {
-                                                                                                                                                    {
-                                                                                                                                                        {
-                                                                                                                                                            {
-                                                                                                                                                                {
-                                                                                                                                                                    switch (l13 - 5u) {
-                                                                                                                                                                    case 0: goto L623;
-                                                                                                                                                                    case 1: goto L622;
-                                                                                                                                                                    case 2: goto L620;
-                                                                                                                                                                    case 3: goto L619;
-                                                                                                                                                                    case 4: goto L618;
-                                                                                                                                                                    case 6: goto L621;
-                                                                                                                                                                    case 7: goto L628;
-                                                                                                                                                                    case 8: goto L627;
-                                                                                                                                                                    case 9: goto L626;
-                                                                                                                                                                    case 10: goto L625;
-                                                                                                                                                                    case 11: goto L624;
-                                                                                                                                                                    case 12: goto L636;
-                                                                                                                                                                    case 13: goto L635;
-                                                                                                                                                                    case 14: goto L634;
-                                                                                                                                                                    case 15: goto L633;
-                                                                                                                                                                    case 16: goto L632;
-                                                                                                                                                                    case 17: goto L631;
-                                                                                                                                                                    case 18: goto L630;
-                                                                                                                                                                    case 19: goto L629;
-                                                                                                                                                                    default: goto L617;
-                                                                                                                                                                    }
-                                                                                                                                                                }
-                                                                                                                                                                L636:;
-                                                                                                                                                                functions_comparing_equal(e, l25 + 200ull, l28, l25 + 104ull);
-                                                                                                                                                                goto L412;
-                                                                                                                                                            }
-                                                                                                                                                            L635:;
-                                                                                                                                                            functions_comparing_greater(e, l25 + 200ull, l28, l25 + 104ull);
-                                                                                                                                                            goto L412;
-                                                                                                                                                        }
-                                                                                                                                                        L634:;
-                                                                                                                                                        functions_arithmetic_arithmetic(e, l25 + 200ull, l28, l17, l25 + 104ull);
-                                                                                                                                                        goto L412;
-                                                                                                                                                    }
-                                                                                                                                                    L633:;
-                                                                                                                                                    functions_bit_strings_union(e, l25 + 200ull, l28, l25 + 104ull);
-                                                                                                                                                    goto L412;
-                                                                                                                                                }
-                                                                                                                                                L632:;
-                                                                                                                                                functions_bit_strings_intersection(e, l25 + 200ull, l28, l25 + 104ull);
-                                                                                                                                                goto L412;
-                                                                                                                                            }
-                                                                                                                                            L631:;
-                                                                                                                                            l4 = l25 + 200ull;
-                                                                                                                                            l5 = l25 + 104ull;
-                                                                                                                                            l0 = e->stack_pointer - 64ull;
-                                                                                                                                            e->stack_pointer = l0;
-                                                                                                                                            {
-                                                                                                                                                l1 = l0;
-                                                                                                                                                if ((i64)(l1 - e->stack) >= (i64)16ull) {
-                                                                                                                                                    store64(l1 + 32u, 0ull);
-                                                                                                                                                    store64(l1 + 56u, 0ull);
-                                                                                                                                                    const u64 t639 = load64(l5);
-                                                                                                                                                    store64(l1 + 40u, t639);
-                                                                                                                                                    const u64 t640 = load64(l5 + 8u);
-                                                                                                                                                    store64(l1 + 48u, t640);
-                                                                                                                                                    functions_arguments_Arguments_next(e, l1 + 8ull, l1 + 40ull, l28);
-                                                                                                                                                    const u32 t641 = load32(l28 + 16ull);
-                                                                                                                                                    l10 = t641;
-                                                                                                                                                    const u32 t642 = load32(l1 + 8u);
-                                                                                                                                                    l11 = t642;
-                                                                                                                                                    const u32 t643 = load32(l1 + 12u);
-                                                                                                                                                    l12 = t643;
-                                                                                                                                                    l5 = (u64)(l10 + l12);
-                                                                                                                                                    l0 = (u64)(l10 + l11) - l5;
-                                                                                                                                                    const u64 t644 = load64(l28);
-                                                                                                                                                    l5 = (t644 + (l5 << 3)) - 8ull;
-                                                                                                                                                    l6 = l12;
-                                                                                                                                                    L645:;
-                                                                                                                                                    {
-                                                                                                                                                        {
-                                                                                                                                                            l10 = l6;
-                                                                                                                                                            if (l0 == 0) goto L646;
-                                                                                                                                                            const u32 t647 = load8(l5);
-                                                                                                                                                            if (t647) goto L646;
-                                                                                                                                                            l0 = l0 + 1ull;
-                                                                                                                                                            l6 = l10 - 1u;
-                                                                                                                                                            l3 = l5 + 1ull;
-                                                                                                                                                            l5 = l5 - 8ull;
-                                                                                                                                                            const u32 t648 = load8(l3);
-                                                                                                                                                            if ((t648 & 248u) == 48u) goto L645;
-                                                                                                                                                        }
-                                                                                                                                                        L646:;
-                                                                                                                                                    }
-                                                                                                                                                    store32(l1 + 28u, l12);
-                                                                                                                                                    store32(l1 + 24u, l10);
-                                                                                                                                                    store32(l1 + 20u, 2u);
-                                                                                                                                                    functions_bit_strings_give_bits(e, l1 + 56ull, l28, l11, l10, l1 + 20ull);
-                                                                                                                                                    const u32 t649 = load16(l1 + 56u);
-                                                                                                                                                    store16(l4, (u16)t649);
-                                                                                                                                                    const u32 t650 = load32(l1 + 60u);
-                                                                                                                                                    store32(l4 + 4ull, t650);
-                                                                                                                                                    e->stack_pointer = l1 + 64ull;
-                                                                                                                                                    goto L637;
-                                                                                                                                                }
-                                                                                                                                                trap();
-                                                                                                                                            }
-                                                                                                                                            L637:;
-                                                                                                                                            goto L412;
-                                                                                                                                        }
-                                                                                                                                        L630:;
-                                                                                                                                        functions_bit_strings_shift(e, l25 + 200ull, l28, l25 + 104ull);
-                                                                                                                                        goto L412;
-                                                                                                                                    }
-                                                                                                                                    L629:;
-                                                                                                                                    functions_bit_strings_rotate(e, l25 + 200ull, l28, l25 + 104ull);
-                                                                                                                                    goto L412;
-                                                                                                                                }
-                                                                                                                                L628:;
-                                                                                                                                functions_form_parts_call_segment(e, l25 + 200ull, l28, l25 + 104ull);
-                                                                                                                                goto L412;
-                                                                                                                            }
-                                                                                                                            L627:;
-                                                                                                                            functions_form_parts_call_character(e, l25 + 200ull, l28, l25 + 104ull);
-                                                                                                                            goto L412;
-                                                                                                                        }
-                                                                                                                        L626:;
-                                                                                                                        functions_form_parts_call_number(e, l25 + 200ull, l28, l25 + 104ull);
-                                                                                                                        goto L412;
-                                                                                                                    }
-                                                                                                                    L625:;
-                                                                                                                    functions_form_parts_initial_part(e, l25 + 200ull, l28, l25 + 104ull);
-                                                                                                                    goto L412;
-                                                                                                                }
-                                                                                                                L624:;
-                                                                                                                functions_form_parts_call_restore(e, l25 + 200ull, l28, l25 + 104ull);
-                                                                                                                goto L412;
-                                                                                                            }
-                                                                                                            L623:;
-                                                                                                            functions_form_calls_define_string(e, l25 + 200ull, l28, l25 + 104ull);
-                                                                                                            goto L412;
-                                                                                                        }
-                                                                                                        L622:;
-                                                                                                        functions_form_calls_segment_string(e, l25 + 200ull, l28, l25 + 104ull);
-                                                                                                        goto L412;
-                                                                                                    }
-                                                                                                    L621:;
-                                                                                                    const u64 t651 = load64(l25 + 112u);
-                                                                                                    store64(l25 + 136u, t651);
-                                                                                                    const u64 t652 = load64(l25 + 104u);
-                                                                                                    store64(l25 + 128u, t652);
-                                                                                                    const u32 t653 = load8(l25 + 140u);
-                                                                                                    l13 = t653;
-                                                                                                    functions_arguments_Arguments_next(e, l25 + 24ull, l25 + 128ull, l28);
-                                                                                                    const u32 t654 = load32(l25 + 28u);
-                                                                                                    l6 = t654;
-                                                                                                    const u32 t655 = load32(l25 + 24u);
-                                                                                                    l16 = t655;
-                                                                                                    u32 v656;
-                                                                                                    {
-                                                                                                        const u32 t657 = load32(l28 + 40ull);
-                                                                                                        l12 = t657;
-                                                                                                        if (l12 >= 8u) {
-                                                                                                            forms_work_Work_find_among_more(e, l25 + 8ull, l28, l16, l6);
-                                                                                                            const u32 t659 = load32(l25 + 12u);
-                                                                                                            l16 = t659;
-                                                                                                            const u32 t660 = load8(l25 + 8u);
-                                                                                                            v656 = t660; goto L656;
-                                                                                                        }
-                                                                                                        {
-                                                                                                            if (l12 == 0) goto L661;
-                                                                                                            const u64 t662 = load32(l4 + 4ull);
-                                                                                                            l30 = (u64)(l6 + l8);
-                                                                                                            l5 = (u64)(l8 + l16);
-                                                                                                            if (t662 != (l30 - l5)) goto L661;
-                                                                                                            l1 = 17ull - (l5 << 3);
-                                                                                                            l5 = (l30 ^ 18446744073709551615ull) + l5;
-                                                                                                            l4 = l4 + (l30 << 3);
-                                                                                                            L663:;
-                                                                                                            {
-                                                                                                                l5 = l5 + 1ull;
-                                                                                                                if (l5 == 0) goto L415;
-                                                                                                                l30 = l4 - 7ull;
-                                                                                                                l3 = l1 + l4;
-                                                                                                                l4 = l4 - 8ull;
-                                                                                                                const u32 t664 = load8(l3);
-                                                                                                                const u32 t665 = load8(l30);
-                                                                                                                if (t664 == t665) goto L663;
-                                                                                                            }
-                                                                                                        }
-                                                                                                        L661:;
-                                                                                                        forms_work_Work_find_among_few(e, l25 + 16ull, l28, l16, l6);
-                                                                                                        const u32 t666 = load32(l25 + 20u);
-                                                                                                        l16 = t666;
-                                                                                                        const u32 t667 = load8(l25 + 16u);
-                                                                                                        v656 = t667;
-                                                                                                    }
-                                                                                                    L656:;
-                                                                                                    if ((v656 & 255u) != 1u) goto L414;
-                                                                                                    goto L413;
-                                                                                                }
-                                                                                                L620:;
-                                                                                                functions_form_calls_delete_definition(e, l25 + 200ull, l28, l25 + 104ull);
-                                                                                                goto L412;
-                                                                                            }
-                                                                                            L619:;
-                                                                                            functions_form_calls_delete_all(e, l25 + 200ull, l28);
-                                                                                            goto L412;
-                                                                                        }
-                                                                                        L618:;
-                                                                                        functions_form_calls_list_names(e, l25 + 200ull, l28, l25 + 104ull);
-                                                                                        goto L412;
-                                                                                    }
-                                                                                    L617:;
-                                                                                    store8(l25 + 200u, (u8)1u);
-                                                                                    goto L412;
+                                                                                    L481:;
+                                                                                    const u32 t698 = load32(l9 + 204u);
+                                                                                    l36 = t698;
+                                                                                    const u32 t699 = load8(l9 + 201u);
+                                                                                    l32 = t699;
+                                                                                    const u32 t700 = load8(l9 + 200u);
+                                                                                    l33 = t700;
+                                                                                    goto L216;
                                                                                 }
-                                                                                L480:;
-                                                                                l5 = l25 + 184ull;
-                                                                                l0 = l28;
-                                                                                const u32 t668 = load8(l28 + 56ull);
-                                                                                l21 = t668;
-                                                                                l27 = l25 + 72ull;
-                                                                                l32 = e->stack_pointer - 16ull;
-                                                                                e->stack_pointer = l32;
-                                                                                {
-                                                                                    if ((i64)(l32 - e->stack) >= (i64)16ull) {
-                                                                                        l3 = l0 + 20ull;
-                                                                                        const u32 t671 = load32(l3);
-                                                                                        l11 = t671;
-                                                                                        devices_slice_source_SliceSourceSource_take_held(e, l27, l21, l0);
-                                                                                        const u64 t672 = l5;
-                                                                                        u32 v673;
-                                                                                        {
-                                                                                            {
-                                                                                                {
-                                                                                                    const u32 t676 = load8(l27 + 17ull);
-                                                                                                    if (t676) goto L675;
-                                                                                                    L677:;
-                                                                                                    {
-                                                                                                        const u64 t678 = load64(l27 + 8u);
-                                                                                                        l30 = t678;
-                                                                                                        if (l30 == 0) {
-                                                                                                            const u32 t680 = load8(l27 + 16ull);
-                                                                                                            if (t680) goto L674;
-                                                                                                            store8(l27 + 17ull, (u8)1u);
-                                                                                                            goto L675;
-                                                                                                        }
-                                                                                                        store64(l27 + 8u, l30 - 1ull);
-                                                                                                        const u64 t681 = load64(l27);
-                                                                                                        l30 = t681;
-                                                                                                        store64(l27, l30 + 1ull);
-                                                                                                        const u32 t682 = load8(l30);
-                                                                                                        l17 = t682;
-                                                                                                        if (l17 == l21) {
-                                                                                                            l17 = 0u;
-                                                                                                            v673 = 1u; goto L673;
-                                                                                                        }
-                                                                                                        store64(l32 + 8u, 0ull);
-                                                                                                        store8(l32 + 9u, (u8)l17);
-                                                                                                        {
-                                                                                                            const u32 t685 = load32(l0 + 28ull);
-                                                                                                            l30 = l0 + 20ull;
-                                                                                                            const u32 t686 = load32(l30);
-                                                                                                            l10 = t686;
-                                                                                                            const u32 t687 = load32(l0 + 16ull);
-                                                                                                            l12 = l10 + t687;
-                                                                                                            const u32 t688 = load32(l0 + 24ull);
-                                                                                                            if (t685 == (l12 + t688)) {
-                                                                                                                const u32 t690 = space_space_Space_push_over_spare(e, l0, l32 + 8ull);
-                                                                                                                if (t690) goto L684;
-                                                                                                                l17 = 0u;
-                                                                                                                v673 = 0u; goto L673;
-                                                                                                            }
-                                                                                                            l1 = l0 + 32ull;
-                                                                                                            const u32 t691 = load32(l1);
-                                                                                                            l6 = t691;
-                                                                                                            const u64 t692 = load64(l0);
-                                                                                                            l4 = t692 + ((u64)l12 << 3);
-                                                                                                            store8(l4, (u8)0u);
-                                                                                                            store32(l4 + 4ull, 0u);
-                                                                                                            store8(l4 + 1ull, (u8)l17);
-                                                                                                            store32(l30, l10 + 1u);
-                                                                                                            store32(l1, l6);
-                                                                                                        }
-                                                                                                        L684:;
-                                                                                                        devices_slice_source_SliceSourceSource_take_held(e, l27, l21, l0);
-                                                                                                        const u32 t693 = load8(l27 + 17ull);
-                                                                                                        if (t693 == 0) goto L677;
-                                                                                                    }
-                                                                                                }
-                                                                                                L675:;
-                                                                                                const u32 t694 = load32(l3);
-                                                                                                l17 = t694 == l11;
-                                                                                                v673 = l17 ? 4u : 1u; goto L673;
-                                                                                            }
-                                                                                            L674:;
-                                                                                            l0 = l27 + 24ull;
-                                                                                            const u64 t695 = load64(l0);
-                                                                                            store64(l0, t695 + 1ull);
-                                                                                            l17 = 4u;
-                                                                                            v673 = 4u;
-                                                                                        }
-                                                                                        L673:;
-                                                                                        store8(t672, (u8)v673);
-                                                                                        store32(l5 + 4ull, 0u);
-                                                                                        store8(l5 + 1ull, (u8)l17);
-                                                                                        e->stack_pointer = l32 + 16ull;
-                                                                                        goto L669;
-                                                                                    }
-                                                                                    trap();
-                                                                                }
-                                                                                L669:;
+                                                                                L477:;
+                                                                                l36 = 0u;
+                                                                                goto L215;
                                                                             }
-                                                                            L479:;
-                                                                            const u32 t696 = load32(l25 + 188u);
-                                                                            l16 = t696;
-                                                                            const u32 t697 = load8(l25 + 185u);
-                                                                            l12 = t697;
-                                                                            const u32 t698 = load8(l25 + 184u);
-                                                                            l13 = t698;
-                                                                            goto L411;
+                                                                            l8 = l12 + 72ull;
+                                                                            const u64 t701 = load64(l8);
+                                                                            store64(l8, t701 + 1ull);
+                                                                            l8 = l12 + 80ull;
+                                                                            l30 = (l31 + l34) + l30;
+                                                                            const u32 t702 = load32(l8);
+                                                                            l34 = t702;
+                                                                            store32(l8, (l30 > l34) ? l30 : l34);
+                                                                            v210 = 0u; goto L210;
                                                                         }
-                                                                        L475:;
-                                                                        l16 = 0u;
-                                                                        goto L410;
+                                                                        L420:;
+                                                                        l44 = 8u;
+                                                                        l5 = l16;
+                                                                        goto L3;
                                                                     }
-                                                                    l4 = l28 + 72ull;
-                                                                    const u64 t699 = load64(l4);
-                                                                    store64(l4, t699 + 1ull);
-                                                                    l4 = l28 + 80ull;
-                                                                    l8 = (l9 + l19) + l8;
-                                                                    const u32 t700 = load32(l4);
-                                                                    l9 = t700;
-                                                                    store32(l4, (l8 > l9) ? l8 : l9);
-                                                                    v405 = 0u; goto L405;
+                                                                    L221:;
+                                                                    l44 = 7u;
+                                                                    goto L3;
                                                                 }
-                                                                L416:;
-                                                                const u32 t701 = load8(l28 + 85ull);
-                                                                l6 = t701;
-                                                                v405 = 1u; goto L405;
+                                                                L220:;
+                                                                store64(l12 + 44ull, 0ull);
+                                                                l36 = 0u;
+                                                                goto L218;
                                                             }
-                                                            L415:;
-                                                            store64(l28 + 44ull, 0ull);
-                                                            l16 = 0u;
-                                                            goto L413;
+                                                            L219:;
+                                                            store32(l9 + 220u, 0u);
+                                                            store16(l9 + 216u, (u16)1u);
+                                                            goto L217;
                                                         }
-                                                        L414:;
-                                                        store32(l25 + 204u, 0u);
-                                                        store16(l25 + 200u, (u16)1u);
-                                                        goto L412;
-                                                    }
-                                                    L413:;
-                                                    const u32 t702 = load32(l25 + 132u);
-                                                    l6 = t702;
-                                                    const u32 t703 = load32(l25 + 128u);
-                                                    l12 = t703;
-                                                    {
+                                                        L218:;
+                                                        const u32 t703 = load32(l9 + 140u);
+                                                        l6 = t703;
+                                                        const u32 t704 = load32(l9 + 136u);
+                                                        l32 = t704;
                                                         {
                                                             {
                                                                 {
                                                                     {
-                                                                        if ((l13 & 1u) == 0) goto L708;
-                                                                        if (l6 >= l12) goto L708;
-                                                                        const u32 t709 = load32(l28 + 44ull);
-                                                                        const u32 t710 = load32(l28 + 48ull);
-                                                                        const u32 t711 = store_form_cells_place_of(e, l28, t709, t710, l16);
-                                                                        l18 = t711;
-                                                                        const u64 t712 = load64(l28);
-                                                                        l30 = t712;
-                                                                        l4 = l30 + ((u64)l18 << 3);
-                                                                        const u32 t713 = load32(l4 + 12ull);
-                                                                        l11 = t713;
-                                                                        const u32 t714 = load32(l4 + 20ull);
-                                                                        l17 = t714;
-                                                                        l13 = l11 - l17;
-                                                                        if (l13 == 0) {
-                                                                            l13 = 0u;
-                                                                            goto L704;
-                                                                        }
-                                                                        const u32 t716 = load32(l4 + 4ull);
-                                                                        l10 = (l18 + t716) + 3u;
-                                                                        l18 = l17 + l10;
                                                                         {
-                                                                            const u32 t718 = load32(l28 + 28ull);
-                                                                            l17 = t718;
-                                                                            const u32 t719 = load32(l28 + 20ull);
-                                                                            const u32 t720 = load32(l28 + 24ull);
-                                                                            l21 = t720;
-                                                                            const u32 t721 = load32(l28 + 16ull);
-                                                                            if (l13 <= (l17 - (t719 + (l21 + t721)))) {
-                                                                                l0 = (u64)l13;
-                                                                                l3 = (u64)l18;
-                                                                                {
+                                                                            if ((l33 & 1u) == 0) goto L709;
+                                                                            if (l6 >= l32) goto L709;
+                                                                            const u32 t710 = load32(l12 + 44ull);
+                                                                            const u32 t711 = load32(l12 + 48ull);
+                                                                            const u32 t712 = store_form_cells_place_of(stack, l12, t710, t711, l36);
+                                                                            l35 = t712;
+                                                                            const u64 t713 = load64(l12);
+                                                                            l14 = t713;
+                                                                            l8 = l14 + ((u64)l35 << 3);
+                                                                            const u32 t714 = load32(l8 + 12ull);
+                                                                            l42 = t714;
+                                                                            const u32 t715 = load32(l8 + 20ull);
+                                                                            l37 = t715;
+                                                                            l33 = l42 - l37;
+                                                                            if (l33 == 0) {
+                                                                                l33 = 0u;
+                                                                                goto L705;
+                                                                            }
+                                                                            const u32 t717 = load32(l8 + 4ull);
+                                                                            l43 = (l35 + t717) + 3u;
+                                                                            l35 = l37 + l43;
+                                                                            {
+                                                                                const u32 t719 = load32(l12 + 28ull);
+                                                                                l37 = t719;
+                                                                                const u32 t720 = load32(l12 + 20ull);
+                                                                                const u32 t721 = load32(l12 + 24ull);
+                                                                                l38 = t721;
+                                                                                const u32 t722 = load32(l12 + 16ull);
+                                                                                if (l33 <= (l37 - (t720 + (l38 + t722)))) {
+                                                                                    l0 = (u64)l33;
+                                                                                    l11 = (u64)l35;
                                                                                     {
-                                                                                        if (l13 >= 8u) {
-                                                                                            if (l13 == 8u) goto L723;
-                                                                                            l4 = l30 + (l3 << 3);
-                                                                                            l5 = l0;
-                                                                                            goto L724;
+                                                                                        {
+                                                                                            if (l33 >= 8u) {
+                                                                                                if (l33 == 8u) goto L724;
+                                                                                                l8 = l14 + (l11 << 3);
+                                                                                                l2 = l0;
+                                                                                                goto L725;
+                                                                                            }
+                                                                                            if (l33 >= 4u) {
+                                                                                                l8 = l14 + (l11 << 3);
+                                                                                                const u32 t728 = load8(l8 + 24ull);
+                                                                                                const u32 t729 = load8(l8 + 16ull);
+                                                                                                const u32 t730 = load8(l8 + 8ull);
+                                                                                                const u32 t731 = load8(l8);
+                                                                                                if (((t728 + t729) | (t730 + t731)) & 255u) goto L709;
+                                                                                                l2 = l14 + ((l0 + l11) << 3);
+                                                                                                const u32 t732 = load8(l2 - 8ull);
+                                                                                                const u32 t733 = load8(l2 - 16ull);
+                                                                                                const u32 t734 = load8(l2 - 24ull);
+                                                                                                l2 = l2 - 32ull;
+                                                                                                const u32 t735 = load8(l2);
+                                                                                                if (((t732 + t733) | (t734 + t735)) & 255u) goto L709;
+                                                                                                l6 = l33 + l38;
+                                                                                                l11 = (u64)(l37 - l6);
+                                                                                                core_slice_edits_slice_T_copy_from_slice(stack, l14 + (l11 << 3), l8, 4ull);
+                                                                                                core_slice_edits_slice_T_copy_from_slice(stack, (((l0 + l11) << 3) + l14) - 32ull, l2, 4ull);
+                                                                                                goto L706;
+                                                                                            }
+                                                                                            l8 = l14 + (l11 << 3);
+                                                                                            const u32 t736 = load8(l8);
+                                                                                            l35 = t736;
+                                                                                            if (l33 == 1u) goto L718;
+                                                                                            const u32 t737 = load8(l8 + 8ull);
+                                                                                            if (t737 | (l35 & 255u)) goto L709;
+                                                                                            l2 = l14 + ((l0 + l11) << 3);
+                                                                                            const u32 t738 = load8(l2 - 8ull);
+                                                                                            l2 = l2 - 16ull;
+                                                                                            const u32 t739 = load8(l2);
+                                                                                            if (t738 | t739) goto L709;
+                                                                                            l6 = l33 + l38;
+                                                                                            l11 = (u64)(l37 - l6);
+                                                                                            core_slice_edits_slice_T_copy_from_slice(stack, l14 + (l11 << 3), l8, 2ull);
+                                                                                            core_slice_edits_slice_T_copy_from_slice(stack, (((l0 + l11) << 3) + l14) - 16ull, l2, 2ull);
+                                                                                            goto L706;
                                                                                         }
-                                                                                        if (l13 >= 4u) {
-                                                                                            l4 = l30 + (l3 << 3);
-                                                                                            const u32 t727 = load8(l4 + 24ull);
-                                                                                            const u32 t728 = load8(l4 + 16ull);
-                                                                                            const u32 t729 = load8(l4 + 8ull);
-                                                                                            const u32 t730 = load8(l4);
-                                                                                            if (((t727 + t728) | (t729 + t730)) & 255u) goto L708;
-                                                                                            l5 = l30 + ((l0 + l3) << 3);
-                                                                                            const u32 t731 = load8(l5 - 8ull);
-                                                                                            const u32 t732 = load8(l5 - 16ull);
-                                                                                            const u32 t733 = load8(l5 - 24ull);
-                                                                                            l5 = l5 - 32ull;
-                                                                                            const u32 t734 = load8(l5);
-                                                                                            if (((t731 + t732) | (t733 + t734)) & 255u) goto L708;
-                                                                                            l6 = l13 + l21;
-                                                                                            l3 = (u64)(l17 - l6);
-                                                                                            core_slice_edits_slice_T_copy_from_slice(e, l30 + (l3 << 3), l4, 4ull);
-                                                                                            core_slice_edits_slice_T_copy_from_slice(e, (((l0 + l3) << 3) + l30) - 32ull, l5, 4ull);
-                                                                                            goto L705;
+                                                                                        L725:;
+                                                                                        L740:;
+                                                                                        {
+                                                                                            const u32 t741 = load8(l8 + 56ull);
+                                                                                            const u32 t742 = load8(l8 + 48ull);
+                                                                                            const u32 t743 = load8(l8 + 40ull);
+                                                                                            const u32 t744 = load8(l8 + 32ull);
+                                                                                            const u32 t745 = load8(l8 + 24ull);
+                                                                                            const u32 t746 = load8(l8 + 16ull);
+                                                                                            const u32 t747 = load8(l8 + 8ull);
+                                                                                            const u32 t748 = load8(l8);
+                                                                                            if (t741 | ((t742 + (t743 + (t744 + (t745 + (t746 + (t747 + t748)))))) & 255u)) goto L709;
+                                                                                            l8 = l8 + 64ull;
+                                                                                            l2 = l2 - 8ull;
+                                                                                            if (l2 >= 9ull) goto L740;
                                                                                         }
-                                                                                        l4 = l30 + (l3 << 3);
-                                                                                        const u32 t735 = load8(l4);
-                                                                                        l18 = t735;
-                                                                                        if (l13 == 1u) goto L717;
-                                                                                        const u32 t736 = load8(l4 + 8ull);
-                                                                                        if (t736 | (l18 & 255u)) goto L708;
-                                                                                        l5 = l30 + ((l0 + l3) << 3);
-                                                                                        const u32 t737 = load8(l5 - 8ull);
-                                                                                        l5 = l5 - 16ull;
-                                                                                        const u32 t738 = load8(l5);
-                                                                                        if (t737 | t738) goto L708;
-                                                                                        l6 = l13 + l21;
-                                                                                        l3 = (u64)(l17 - l6);
-                                                                                        core_slice_edits_slice_T_copy_from_slice(e, l30 + (l3 << 3), l4, 2ull);
-                                                                                        core_slice_edits_slice_T_copy_from_slice(e, (((l0 + l3) << 3) + l30) - 16ull, l5, 2ull);
-                                                                                        goto L705;
                                                                                     }
                                                                                     L724:;
-                                                                                    L739:;
-                                                                                    {
-                                                                                        const u32 t740 = load8(l4 + 56ull);
-                                                                                        const u32 t741 = load8(l4 + 48ull);
-                                                                                        const u32 t742 = load8(l4 + 40ull);
-                                                                                        const u32 t743 = load8(l4 + 32ull);
-                                                                                        const u32 t744 = load8(l4 + 24ull);
-                                                                                        const u32 t745 = load8(l4 + 16ull);
-                                                                                        const u32 t746 = load8(l4 + 8ull);
-                                                                                        const u32 t747 = load8(l4);
-                                                                                        if (t740 | ((t741 + (t742 + (t743 + (t744 + (t745 + (t746 + t747)))))) & 255u)) goto L708;
-                                                                                        l4 = l4 + 64ull;
-                                                                                        l5 = l5 - 8ull;
-                                                                                        if (l5 >= 9ull) goto L739;
+                                                                                    l2 = l0 + l11;
+                                                                                    l8 = l14 + (l2 << 3);
+                                                                                    const u32 t749 = load8(l8 - 56ull);
+                                                                                    const u32 t750 = load8(l8 - 64ull);
+                                                                                    const u32 t751 = load8(l8 - 48ull);
+                                                                                    const u32 t752 = load8(l8 - 40ull);
+                                                                                    const u32 t753 = load8(l8 - 32ull);
+                                                                                    const u32 t754 = load8(l8 - 24ull);
+                                                                                    const u32 t755 = load8(l8 - 16ull);
+                                                                                    const u32 t756 = load8(l8 - 8ull);
+                                                                                    if ((((((((t749 + t750) + t751) + t752) + t753) + t754) + t755) & 255u) | t756) goto L709;
+                                                                                    l6 = l33 + l38;
+                                                                                    l17 = (u64)(l37 - l6);
+                                                                                    if (l33 > 24u) goto L708;
+                                                                                    if (l33 != 8u) {
+                                                                                        l8 = l14 + (l11 << 3);
+                                                                                        l2 = l14 + (l17 << 3);
+                                                                                        l1 = l0;
+                                                                                        L758:;
+                                                                                        {
+                                                                                            core_slice_edits_slice_T_copy_from_slice(stack, l2, l8, 8ull);
+                                                                                            l8 = l8 + 64ull;
+                                                                                            l2 = l2 + 64ull;
+                                                                                            l1 = l1 - 8ull;
+                                                                                            if (l1 > 8ull) goto L758;
+                                                                                        }
                                                                                     }
+                                                                                    l8 = l0 - 8ull;
+                                                                                    core_slice_edits_slice_T_copy_from_slice(stack, l14 + ((l8 + l17) << 3), l14 + ((l8 + l11) << 3), 8ull);
+                                                                                    store32(l12 + 24ull, l6);
+                                                                                    goto L705;
                                                                                 }
-                                                                                L723:;
-                                                                                l5 = l0 + l3;
-                                                                                l4 = l30 + (l5 << 3);
-                                                                                const u32 t748 = load8(l4 - 56ull);
-                                                                                const u32 t749 = load8(l4 - 64ull);
-                                                                                const u32 t750 = load8(l4 - 48ull);
-                                                                                const u32 t751 = load8(l4 - 40ull);
-                                                                                const u32 t752 = load8(l4 - 32ull);
-                                                                                const u32 t753 = load8(l4 - 24ull);
-                                                                                const u32 t754 = load8(l4 - 16ull);
-                                                                                const u32 t755 = load8(l4 - 8ull);
-                                                                                if ((((((((t748 + t749) + t750) + t751) + t752) + t753) + t754) & 255u) | t755) goto L708;
-                                                                                l6 = l13 + l21;
-                                                                                l32 = (u64)(l17 - l6);
-                                                                                if (l13 > 24u) goto L707;
-                                                                                if (l13 != 8u) {
-                                                                                    l4 = l30 + (l3 << 3);
-                                                                                    l5 = l30 + (l32 << 3);
-                                                                                    l1 = l0;
-                                                                                    L757:;
-                                                                                    {
-                                                                                        core_slice_edits_slice_T_copy_from_slice(e, l5, l4, 8ull);
-                                                                                        l4 = l4 + 64ull;
-                                                                                        l5 = l5 + 64ull;
-                                                                                        l1 = l1 - 8ull;
-                                                                                        if (l1 > 8ull) goto L757;
-                                                                                    }
-                                                                                }
-                                                                                l4 = l0 - 8ull;
-                                                                                core_slice_edits_slice_T_copy_from_slice(e, l30 + ((l4 + l32) << 3), l30 + ((l3 + l4) << 3), 8ull);
-                                                                                store32(l28 + 24ull, l6);
-                                                                                goto L704;
+                                                                                store_item_copies_load_items_over_spare(stack, l9 + 8ull, l12, l35, l42 + l43);
+                                                                                const u32 t759 = load8(l9 + 8u);
+                                                                                if (t759 != 1u) goto L709;
+                                                                                const u32 t760 = load32(l9 + 12u);
+                                                                                l33 = t760;
+                                                                                goto L705;
                                                                             }
-                                                                            store_item_copies_load_items_over_spare(e, l25, l28, l18, l10 + l11);
-                                                                            const u32 t758 = load8(l25);
-                                                                            if (t758 != 1u) goto L708;
-                                                                            const u32 t759 = load32(l25 + 4u);
-                                                                            l13 = t759;
-                                                                            goto L704;
+                                                                            L718:;
+                                                                            if ((l35 & 255u) == 0) goto L707;
                                                                         }
-                                                                        L717:;
-                                                                        if ((l18 & 255u) == 0) goto L706;
+                                                                        L709:;
+                                                                        const u32 t761 = forms_work_Work_fill_body(stack, l12, l36, l32, l6);
+                                                                        l6 = t761;
+                                                                        store32(l9 + 220u, 0u);
+                                                                        store8(l9 + 217u, (u8)0u);
+                                                                        store8(l9 + 216u, (u8)l6);
+                                                                        goto L217;
                                                                     }
                                                                     L708:;
-                                                                    const u32 t760 = forms_work_Work_fill_body(e, l28, l16, l12, l6);
-                                                                    l6 = t760;
-                                                                    store32(l25 + 204u, 0u);
-                                                                    store8(l25 + 201u, (u8)0u);
-                                                                    store8(l25 + 200u, (u8)l6);
-                                                                    goto L412;
+                                                                    space_copies_copy_long(stack, l14, l11, l2, l17);
+                                                                    goto L706;
                                                                 }
                                                                 L707:;
-                                                                space_copies_copy_long(e, l30, l3, l5, l32);
-                                                                goto L705;
+                                                                l6 = l38 + 1u;
+                                                                l2 = l14 + ((u64)(l37 - l6) << 3);
+                                                                store8(l2, (u8)0u);
+                                                                const u32 t762 = load32(l8 + 4ull);
+                                                                store32(l2 + 4ull, t762);
+                                                                const u32 t763 = load8(l8 + 1ull);
+                                                                store8(l2 + 1ull, (u8)t763);
                                                             }
                                                             L706:;
-                                                            l6 = l21 + 1u;
-                                                            l5 = l30 + ((u64)(l17 - l6) << 3);
-                                                            store8(l5, (u8)0u);
-                                                            const u32 t761 = load32(l4 + 4ull);
-                                                            store32(l5 + 4ull, t761);
-                                                            const u32 t762 = load8(l4 + 1ull);
-                                                            store8(l5 + 1ull, (u8)t762);
+                                                            store32(l12 + 24ull, l6);
                                                         }
                                                         L705:;
-                                                        store32(l28 + 24ull, l6);
+                                                        store32(l9 + 220u, l33);
+                                                        store16(l9 + 216u, (u16)2u);
                                                     }
-                                                    L704:;
-                                                    store32(l25 + 204u, l13);
-                                                    store16(l25 + 200u, (u16)2u);
+                                                    L217:;
+                                                    const u32 t764 = load32(l9 + 220u);
+                                                    l36 = t764;
+                                                    const u32 t765 = load8(l9 + 217u);
+                                                    l32 = t765;
+                                                    const u32 t766 = load8(l9 + 216u);
+                                                    l33 = t766;
                                                 }
-                                                L412:;
-                                                const u32 t763 = load32(l25 + 204u);
-                                                l16 = t763;
-                                                const u32 t764 = load8(l25 + 201u);
-                                                l12 = t764;
-                                                const u32 t765 = load8(l25 + 200u);
-                                                l13 = t765;
-                                            }
-                                            L411:;
-                                            l6 = 2u;
-                                            {
-                                                switch ((u32)(((u64)l13 & 255ull)) - 1u) {
-                                                case 0: goto L766;
-                                                case 1: goto L410;
-                                                case 2: goto L410;
-                                                case 3: goto L409;
-                                                default: goto L406;
+                                                L216:;
+                                                l6 = 2u;
+                                                {
+                                                    switch ((u32)(((u64)l33 & 255ull)) - 1u) {
+                                                    case 0: goto L767;
+                                                    case 1: goto L215;
+                                                    case 2: goto L215;
+                                                    case 3: goto L214;
+                                                    default: goto L211;
+                                                    }
                                                 }
+                                                L767:;
+                                                const u32 t768 = load32(l12 + 20ull);
+                                                l6 = t768;
+                                                core_delivery_deliver(stack, l12, l34, l31);
+                                                l30 = l6 + (l30 + l39);
+                                                l34 = 0u;
+                                                goto L213;
                                             }
-                                            L766:;
-                                            const u32 t767 = load32(l28 + 20ull);
-                                            l6 = t767;
-                                            core_delivery_deliver(e, l28, l9, l19);
-                                            l8 = l6 + (l8 + l22);
-                                            l9 = 0u;
-                                            goto L408;
-                                        }
-                                        L410:;
-                                        l19 = l14 + l22;
-                                        const u64 t768 = load64(l28);
-                                        const u64 t769 = load32(l28 + 16ull);
-                                        l4 = t768 + (t769 << 3);
-                                        {
+                                            L215:;
+                                            l31 = l39 + l40;
+                                            const u64 t769 = load64(l12);
+                                            const u64 t770 = load32(l12 + 16ull);
+                                            l8 = t769 + (t770 << 3);
                                             {
-                                                const u32 t772 = load32(l28 + 32ull);
-                                                l8 = t772;
-                                                l6 = l8 <= l9;
-                                                if (l6) goto L771;
-                                                if ((l8 - l9) != 1u) goto L771;
-                                                const u32 t773 = load32((l4 + ((l2 << 3) & 34359738360ull)) + 4ull);
-                                                l8 = t773;
-                                                l6 = l8 ? (l15 - l8) : 0u;
-                                                goto L770;
+                                                {
+                                                    const u32 t773 = load32(l12 + 32ull);
+                                                    l30 = t773;
+                                                    l6 = l30 <= l34;
+                                                    if (l6) goto L772;
+                                                    if ((l30 - l34) != 1u) goto L772;
+                                                    const u32 t774 = load32((l8 + ((l16 << 3) & 34359738360ull)) + 4ull);
+                                                    l30 = t774;
+                                                    l6 = l30 ? (l41 - l30) : 0u;
+                                                    goto L771;
+                                                }
+                                                L772:;
+                                                if (l6) {
+                                                    l6 = l30;
+                                                    goto L771;
+                                                }
+                                                L776:;
+                                                {
+                                                    const u32 t777 = load32((l8 + ((u64)(l30 - 1u) << 3)) + 4ull);
+                                                    l6 = t777;
+                                                    l30 = l30 - l6;
+                                                    l6 = l6 ? l30 : 0u;
+                                                    if (l6 > l34) goto L776;
+                                                }
                                             }
                                             L771:;
-                                            if (l6) {
-                                                l6 = l8;
-                                                goto L770;
-                                            }
-                                            L775:;
-                                            {
-                                                const u32 t776 = load32((l4 + ((u64)(l8 - 1u) << 3)) + 4ull);
-                                                l6 = t776;
-                                                l8 = l8 - l6;
-                                                l6 = l6 ? l8 : 0u;
-                                                if (l6 > l9) goto L775;
-                                            }
+                                            store32(l12 + 20ull, l34);
+                                            store32(l12 + 32ull, l6);
+                                            l30 = l31 + l36;
+                                            l34 = 0u;
+                                            goto L213;
                                         }
-                                        L770:;
-                                        store32(l28 + 20ull, l9);
-                                        store32(l28 + 32ull, l6);
-                                        l8 = l16 + l19;
-                                        l9 = 0u;
-                                        goto L408;
+                                        L214:;
+                                        const u32 t778 = load32(l12 + 24ull);
+                                        const u32 t779 = load32(l12 + 20ull);
+                                        const u32 t780 = load32(l12 + 16ull);
+                                        l30 = t778 + (t779 + t780);
+                                        l34 = 1u;
+                                        l6 = 1u << (l32 & 31);
+                                        if (l6 & 3u) { v212 = l32; goto L212; }
+                                        if ((l6 & 12u) == 0) {
+                                            l8 = l12 + 80ull;
+                                            const u32 t782 = load32(l8);
+                                            l6 = t782;
+                                            store32(l8, (l6 < l30) ? l30 : l6);
+                                        }
+                                        l6 = l32;
+                                        goto L211;
                                     }
-                                    L409:;
-                                    const u32 t777 = load32(l28 + 24ull);
-                                    const u32 t778 = load32(l28 + 20ull);
-                                    const u32 t779 = load32(l28 + 16ull);
-                                    l8 = t777 + (t778 + t779);
-                                    l9 = 1u;
-                                    l6 = 1u << (l12 & 31);
-                                    if (l6 & 3u) { v407 = l12; goto L407; }
-                                    if ((l6 & 12u) == 0) {
-                                        l4 = l28 + 80ull;
-                                        const u32 t781 = load32(l4);
-                                        l6 = t781;
-                                        store32(l4, (l6 < l8) ? l8 : l6);
-                                    }
-                                    l6 = l12;
-                                    goto L406;
+                                    L213:;
+                                    v212 = 0u;
                                 }
-                                L408:;
-                                v407 = 0u;
+                                L212:;
+                                l6 = v212;
+                                l8 = l12 + 72ull;
+                                const u64 t783 = load64(l8);
+                                store64(l8, t783 + 1ull);
+                                l8 = l12 + 80ull;
+                                const u32 t784 = load32(l8);
+                                l31 = t784;
+                                store32(l8, (l30 > l31) ? l30 : l31);
+                                if (l34 == 0) { v210 = 0u; goto L210; }
                             }
-                            L407:;
-                            l6 = v407;
-                            l4 = l28 + 72ull;
-                            const u64 t782 = load64(l4);
-                            store64(l4, t782 + 1ull);
-                            l4 = l28 + 80ull;
-                            const u32 t783 = load32(l4);
-                            l19 = t783;
-                            store32(l4, (l8 > l19) ? l8 : l19);
-                            if (l9 == 0) { v405 = 0u; goto L405; }
+                            L211:;
+                            store8(l12 + 85ull, (u8)l6);
+                            store8(l12 + 84ull, (u8)1u);
+                            v210 = 1u;
                         }
-                        L406:;
-                        store8(l28 + 85ull, (u8)l6);
-                        store8(l28 + 84ull, (u8)1u);
-                        v405 = 1u;
+                        L210:;
+                        if (v210 & 255u) goto L5;
+                        l4 = l4 + 1ull;
+                        if (l4 < l7) goto L6;
                     }
-                    L405:;
-                    if ((v405 & 255u) == 0) {
-                        l4 = l41 + 1ull;
-                        if (l4 < l7) goto L4;
-                        goto L3;
-                    }
+                    goto L3;
                 }
-                l23 = (l6 & 255u) + 1u;
+                L5:;
+                l44 = (l6 & 255u) + 1u;
             }
             L3:;
-            const u32 t785 = load32(l28 + 80ull);
-            l8 = t785;
-            const u64 t786 = load64(l28 + 72ull);
-            l4 = t786;
-            const u64 t787 = load64(l25 + 48u);
-            l28 = t787;
-            const u64 t788 = load64(l25 + 80u);
-            l2 = t788;
-            store64(l36 + 32u, l47);
-            l2 = l39 - l2;
-            store64(l36 + 24u, (l2 > l39) ? 0ull : l2);
-            store64(l36 + 16u, l28);
-            store64(l36 + 8u, l4);
-            store32(l36 + 4u, l8);
-            store32(l36, l23);
-            e->stack_pointer = l25 + 208ull;
+            const u32 t785 = load32(l12 + 80ull);
+            l30 = t785;
+            const u64 t786 = load64(l12 + 72ull);
+            l12 = t786;
+            const u64 t787 = load64(l9 + 56u);
+            l7 = t787;
+            const u64 t788 = load64(l9 + 88u);
+            l4 = t788;
+            store64(l20 + 32u, l5);
+            l4 = l3 - l4;
+            store64(l20 + 24u, (l3 < l4) ? 0ull : l4);
+            store64(l20 + 16u, l7);
+            store64(l20 + 8u, l12);
+            store32(l20 + 4u, l30);
+            store32(l20, l44);
+            stack = l9 + 224ull;
             goto L1;
         }
         trap();
@@ -23080,21 +23104,16 @@ static void engine_turn(struct engine *e, u64 l0, u64 l1, u64 l2, u64 l3, u64 l4
 
 /* The bytes of that stack, beside what the functions above take of C's: what the deepest calls can take, the 16 bytes
  * that the engine keeps free, and what is lost where it is aligned. */
-enum { STACK = DEEPEST_STACK + 16 + 32 };
+enum { STACK = DEEPEST_STACK + 16 + 16 };
 
 struct lent {
-    struct engine engine;
     u8 stack[STACK];
 };
 
 static u64 address_of(const void *place) { return (u64)(uintptr_t)place; }
 
-/* An engine with a stack whose ends are multiples of 16. */
-static struct engine *lend(struct lent *to) {
-    to->engine.stack = (address_of(to->stack) + 15) & ~(u64)15;
-    to->engine.stack_pointer = address_of(to->stack + STACK) & ~(u64)15;
-    return &to->engine;
-}
+/* The end of a stack, a multiple of 16: what a function takes of it lies before the end that it is handed. */
+static u64 lend(struct lent *to) { return address_of(to->stack + STACK) & ~(u64)15; }
 
 /* A report as the engine writes it. */
 struct engine_report {
