@@ -1,6 +1,5 @@
 """Ends pytest's output with the line that the gate counts by; the package for Python, built once for a run."""
 import fcntl
-import importlib
 import os
 import sys
 
@@ -40,6 +39,7 @@ def trac_t64(python_site):
     """The module."""
     sys.path.insert(0, str(python_site))
     try:
-        return importlib.import_module('trac_t64')
+        import trac_t64 as module
+        return module
     finally:
         sys.path.remove(str(python_site))

@@ -20,10 +20,12 @@ ALLOWED = {
     'trac_functions/src/function.rt': {'let [first, second] = name else {', 'let [first, second, ..] = cells else {'},
     'trac_core/src/input_output.rt': {'[first, ..] => Some(character_of(first)),'},
 }
-CONTRACT = re.compile(r'^ *(?:requires|ensures|ghost)\b.*?^(?= *(?:requires|ensures|ghost|\{|pub|fn|let|//|\}|while|for)\b|\s*[{}]?\s*$)',
+CONTRACT = re.compile(r'^ *(?:requires|ensures|ghost)\b.*?'
+                      r'^(?= *(?:requires|ensures|ghost|\{|pub|fn|let|//|\}|while|for)\b|\s*[{}]?\s*$)',
                       re.MULTILINE | re.DOTALL)
 # What is no array: an index, an attribute, a slice behind a pointer, an array of no elements.
-NONE = re.compile(r"""(?<=[\w)\]?])\[|\[\]|\#!?\[[^\n]*|(?:&|->)\s*(?:'\w+\s+)?(?:mut\s+)?\[\w+\]|"(?:\\.|[^"\\])*"|//[^\n]*""")
+NONE = re.compile(r"""(?<=[\w)\]?])\[|\[\]|\#!?\[[^\n]*|(?:&|->)\s*(?:'\w+\s+)?(?:mut\s+)?\[\w+\]|"""
+                  r'"(?:\\.|[^"\\])*"|//[^\n]*')
 # A constant that is written over cells which are lent.
 WRITTEN = re.compile(r'^ *\*\w+ = \w+;$', re.MULTILINE)
 CONSTANT = re.compile(r'^ *(?:pub(?:\(\w+\))? )?(?:const|static) (\w+): ([^=;]*(?:;[^=]*)?)=[^;]*;', re.MULTILINE)
@@ -68,7 +70,8 @@ class Arrays(unittest.TestCase):
             self.assertEqual(len(brackets(f'fn g() {{\n    {body}\n}}\n')), 1, body)
 
     def test_a_copy_of_a_constant_is_found(self):
-        text = 'const T: [u8; 2] = [1, 2];\nfn f() {\n    let copy = T;\n    let one = T[0];\n    g(&T);\n    *lent = T;\n}\n'
+        text = ('const T: [u8; 2] = [1, 2];\nfn f() {\n    let copy = T;\n    let one = T[0];\n    g(&T);\n'
+                '    *lent = T;\n}\n')
         self.assertEqual(copies(text), ['T;'])
 
 

@@ -15,7 +15,8 @@ HEADING = re.compile(r'^#+ (.*)$', re.MULTILINE)
 
 
 def documents():
-    return [path for where in ('*.md', 'docs/*.md', 'hosts/*/*.md', 'examples/**/*.md', 'editors/*.md', 'conformance/*.md')
+    places = '*.md', 'docs/*.md', 'hosts/*/*.md', 'examples/**/*.md', 'editors/*.md', 'conformance/*.md'
+    return [path for where in places
             for path in glob.glob(os.path.join(TOP, where), recursive=True)]
 
 

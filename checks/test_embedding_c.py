@@ -11,7 +11,8 @@ from trac import TOP, instructions
 
 HEADERS = os.path.join(TOP, 'hosts', 'c')
 ENGINE = os.path.join(HEADERS, 'trac_engine.c')
-PROGRAM = re.compile(r'^```c\n(#include .*?)^```\n(?:\n```sh\n.*?^```\n)?\n```output\n(.*?)^```', re.MULTILINE | re.DOTALL)
+PROGRAM = re.compile(r'^```c\n(#include .*?)^```\n(?:\n```sh\n.*?^```\n)?\n```output\n(.*?)^```',
+                     re.MULTILINE | re.DOTALL)
 # Defines so many forms, and lists them where a second word stands.
 LISTING = """#include "trac.h"
 #include <stdio.h>

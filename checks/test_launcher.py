@@ -141,7 +141,8 @@ class Launcher(unittest.TestCase):
 
     def test_a_line_at_a_terminal(self):
         reading, writing = pty.openpty()
-        started = subprocess.Popen([os.path.join(self.top, 'trac')], stdin=subprocess.DEVNULL, stdout=subprocess.DEVNULL,
+        started = subprocess.Popen([os.path.join(self.top, 'trac')],
+                                   stdin=subprocess.DEVNULL, stdout=subprocess.DEVNULL,
                                    stderr=writing, env={**os.environ, 'PATH': self.tools + ':' + os.environ['PATH']})
         self.assertEqual(started.wait(timeout=60), 3)
         os.close(writing)

@@ -21,8 +21,8 @@ OTHER_WAYS = {'mmap', 'mmap64', 'mremap', 'brk', 'sbrk', 'valloc', 'pvalloc', 'r
 
 
 class Refused(unittest.TestCase):
-    # Of the program in C: the line of a refused request before the last; whether that ends it at once; how many requests
-    # there are at the least; and the bytes of the last for each cell, with room for a string beside the block.
+    # Of the program in C: the line of a refused request before the last; whether that ends it at once; how many
+    # requests there are at the least; and the bytes of the last for each cell, with room for a string beside the block.
     LINE, ENDS_AT_ONCE, FEWEST, BYTES = BLOCK_LINE, False, 2, CELL + 1
 
     @classmethod

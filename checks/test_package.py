@@ -10,13 +10,18 @@ from trac import TOP, make
 NAMES = ('trac-t64', 'libtrac0', 'libtrac-dev')
 
 
+def first_line(*words):
+    """What a tool of the system answers."""
+    return subprocess.run(words, capture_output=True, text=True, check=True).stdout.strip()
+
+
 class Package(unittest.TestCase):
     @classmethod
     def setUpClass(cls):
         make('package')
         with open(os.path.join(TOP, 'VERSION'), encoding='utf-8') as file:
             cls.version = file.read().strip()
-        kind = subprocess.run(['dpkg', '--print-architecture'], capture_output=True, text=True, check=True).stdout.strip()
+        kind = first_line('dpkg', '--print-architecture')
         cls.files = {name: os.path.join(TOP, 'dist', f'{name}_{cls.version}-1_{kind}.deb') for name in NAMES}
 
     def test_lintian_is_content(self):
@@ -31,7 +36,7 @@ class Package(unittest.TestCase):
             done = subprocess.run([os.path.join(room, 'usr/bin/trac')], cwd='/', input=b"#(ps,hello)'",
                                   capture_output=True, check=True)
             self.assertEqual(done.stdout, b'hello')
-            place = subprocess.run(['gcc', '-print-multiarch'], capture_output=True, text=True, check=True).stdout.strip()
+            place = first_line('gcc', '-print-multiarch')
             library = os.path.join(room, 'usr/lib', place)
             program = os.path.join(room, 'embedding')
             subprocess.run(['gcc', '-I', os.path.join(room, 'usr/include'), '-o', program,

@@ -1,7 +1,6 @@
 """The package for Python: on each case of conformance/, on random scripts beside the program, with arguments that can't
 be used, in threads, with signals, and where memory is refused."""
 import copy
-import importlib
 import os
 import pathlib
 import random
@@ -264,7 +263,7 @@ def test_a_session_that_is_closed(trac_t64):
 
 
 def test_the_machine_below_refuses_too(trac_t64):
-    machine = importlib.import_module('trac_t64._engine').Machine
+    from trac_t64._engine import Machine as machine
     for words, kind in (((0, 1), ValueError), ((16777217, 1), ValueError), ((1, -1), OverflowError),
                         ((1, 'x'), TypeError), ((), TypeError), ((2**70, 1), OverflowError)):
         with pytest.raises(kind):
@@ -448,7 +447,7 @@ def test_types(python_site):
 
 
 def test_the_types_of_the_machine_name_what_it_has(trac_t64):
-    machine = importlib.import_module('trac_t64._engine').Machine
+    from trac_t64._engine import Machine as machine
     with open(os.path.join(TOP, 'hosts', 'python', 'trac_t64', '_engine.pyi'), encoding='utf-8') as stub:
         named = re.findall(r'^    def ([a-z]\w*)\(', stub.read(), re.MULTILINE)
     assert sorted(named) == [name for name in dir(machine) if not name.startswith('_')]
@@ -487,5 +486,5 @@ def test_the_programs_of_the_pages(python_site, tmp_path):
 def test_the_functions_are_those_of_the_manual(trac_t64):
     with open(os.path.join(TOP, 'docs', 'LANGUAGE.md'), encoding='utf-8') as page:
         rows = re.findall(r'^#### `([^`]+)`: (.*)$', page.read(), re.MULTILINE)
-    functions = importlib.import_module('trac_t64.functions')
-    assert list(functions.FUNCTIONS.items()) == [(usage[:2], (usage, what)) for usage, what in rows]
+    from trac_t64.functions import FUNCTIONS
+    assert list(FUNCTIONS.items()) == [(usage[:2], (usage, what)) for usage, what in rows]

@@ -1,6 +1,5 @@
 """python -m trac_t64: cases of conformance/ and the rows of the program, places in files, devices that fail, and a
 session at a terminal."""
-import importlib
 import os
 import pty
 import re
@@ -36,7 +35,7 @@ def command(python_site):
 @pytest.fixture(scope='module')
 def forked(trac_t64):
     """The same in a fork of this process, which is quicker; standard input is a file or a descriptor."""
-    main = importlib.import_module('trac_t64.__main__').main
+    from trac_t64.__main__ import main
 
     def run_child(words, devices):
         status = 99

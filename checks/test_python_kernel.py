@@ -1,5 +1,4 @@
 """The kernel for Jupyter, asked by Jupyter's own client, and the lesson, a notebook that it runs from start to end."""
-import importlib
 import json
 import os
 import subprocess
@@ -31,8 +30,8 @@ def kernel(installed):
     with pytest.MonkeyPatch.context() as patch:
         for name, value in installed.items():
             patch.setenv(name, value)
-        manager, client = importlib.import_module('jupyter_client.manager').start_new_kernel(
-            kernel_name='trac_t64', stderr=subprocess.DEVNULL)
+        from jupyter_client.manager import start_new_kernel
+        manager, client = start_new_kernel(kernel_name='trac_t64', stderr=subprocess.DEVNULL)
     yield manager, client
     client.stop_channels()
     manager.shutdown_kernel(now=True)
@@ -121,7 +120,7 @@ def test_an_interrupt(kernel):
 
 def test_what_can_stand_at_the_cursor(kernel, trac_t64):
     _, client = kernel
-    functions = importlib.import_module('trac_t64.functions').FUNCTIONS
+    from trac_t64.functions import FUNCTIONS as functions
     run(kernel, "%reset\n#(ds,north,x)#(ds,nine,x)#(ds,south,x)'")
 
     def matches(code, end=''):

@@ -55,7 +55,8 @@ class CortexM(unittest.TestCase):
     def is_told(self, ram, cells, sizes):
         """The sizes are those of the table, as far as a compiler of another version goes."""
         with open(os.path.join(TOP, 'docs', 'EMBEDDING.md'), encoding='utf-8') as page:
-            row = re.search(rf'^\| {ram} KB \| {cells} \| ([\d,]+) \| ([\d,]+) \| ([\d,]+) \|$', page.read(), re.MULTILINE)
+            row = re.search(rf'^\| {ram} KB \| {cells} \| ([\d,]+) \| ([\d,]+) \| ([\d,]+) \|$',
+                            page.read(), re.MULTILINE)
         for told, size in zip(row.groups(), sizes):
             self.assertLess(abs(int(told.replace(',', '')) - size), 0.15 * size + 64, (row[0], sizes))
 

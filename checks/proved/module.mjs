@@ -64,7 +64,8 @@ for (const byte of new TextEncoder().encode('\u20ac')) {
 }
 
 const long = 3000000;
-const large = await run(`#(ds,a,${'x'.repeat(1000)})#(ds,b,(#(ps,${'##(cl,a)'.repeat(100)})))${'#(cl,b)'.repeat(long / 100000)}'`,
+const hundred = `#(ds,a,${'x'.repeat(1000)})#(ds,b,(#(ps,${'##(cl,a)'.repeat(100)})))`;
+const large = await run(`${hundred}${'#(cl,b)'.repeat(long / 100000)}'`,
     { cells: 400000, steps: 100000000 });
 const json = JSON.parse(JSON.stringify(await run("#(ps,hello)'")));
 const before = await Session.open({ cells: 10 });

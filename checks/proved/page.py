@@ -77,6 +77,14 @@ class Page(unittest.TestCase):
         self.wait(lambda: self.script('return document.readyState') == 'complete')
         self.assertGreater(self.script("return document.getElementById('example').length"), 1)
 
+    def open_without(self, before):
+        """Opens the page after a script that takes something away from the browser."""
+        made = browser.execute_cdp_cmd('Page.addScriptToEvaluateOnNewDocument', {'source': before})
+        try:
+            self.open(PLACE)
+        finally:
+            browser.execute_cdp_cmd('Page.removeScriptToEvaluateOnNewDocument', made)
+
     def script(self, text, *words):
         return browser.execute_script(text, *words)
 

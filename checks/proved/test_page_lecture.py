@@ -98,12 +98,7 @@ class States(Lecture):
         self.assertTrue(self.text('fate').startswith('Stopped by you.'))
 
     def test_no_webassembly(self):
-        made = browser.execute_cdp_cmd('Page.addScriptToEvaluateOnNewDocument', {
-            'source': 'delete window.WebAssembly'})
-        try:
-            self.open(PLACE)
-        finally:
-            browser.execute_cdp_cmd('Page.removeScriptToEvaluateOnNewDocument', made)
+        self.open_without('delete window.WebAssembly')
         self.assertIn('has no WebAssembly', self.text('fate'))
         self.assertFalse(self.find('run').is_enabled())
         self.choose('6. Gaps')
@@ -189,12 +184,7 @@ class Kept(Lecture):
         self.assertEqual(self.value('script'), text)
 
     def test_no_storage(self):
-        made = browser.execute_cdp_cmd('Page.addScriptToEvaluateOnNewDocument', {
-            'source': "Object.defineProperty(window, 'localStorage', { get() { throw new Error(); } })"})
-        try:
-            self.open(PLACE)
-        finally:
-            browser.execute_cdp_cmd('Page.removeScriptToEvaluateOnNewDocument', made)
+        self.open_without("Object.defineProperty(window, 'localStorage', { get() { throw new Error(); } })")
         self.type('x')
         self.run_it()
         self.assertEqual(self.text('output'), 'hellox')

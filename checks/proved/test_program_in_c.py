@@ -26,7 +26,8 @@ HELLO = b"#(ps,hello)'"
 LINES = [words.split() for words in REFUSED] + [
     ['-h'], ['--help'], ['-h=3'], ['-hx'], ['--help='], ['--help=x'], ['--report='], ['--report=yes'], ['--', 'x'],
     ['--'], ['-'], [''], [' '], ['x', '--help'], ['--help', 'x'], ['-x'], ['-xh'], ['-x=3'], ['-é'], ['--é'], ['é'],
-    ['--unknown=3'], ['--cell', '5'], ['--='], ['--=5'], ['---'], ['-1'], ['a=b'], ['--Report'], ['--cells', '--report'],
+    ['--unknown=3'], ['--cell', '5'], ['--='], ['--=5'], ['---'], ['-1'], ['a=b'], ['--Report'],
+    ['--cells', '--report'],
     ['--cells', '--report=yes'], ['--cells', '--'], ['--cells', '-5'], ['--cells', '-x', '5'], ['--cells', 'x', '-y'],
     ['--cells', 'x', 'y'], ['--cells', 'x', '--help'], ['--cells', 'x', '--help=y'], ['--cells', 'x', '--steps', 'y'],
     ['--cells', '5', '--cells', 'x'], ['--cells=5', '--cells=6'], ['--cells='], ['--cells', ''], ['--cells=+'],

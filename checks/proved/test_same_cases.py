@@ -9,11 +9,11 @@ from test_pipes import Closed, Streams
 from test_program import Devices, Memory, Program, Stack
 from test_rooms import Rooms
 
-__all__ = ['Closed', 'Conformance', 'Devices', 'Examples', 'Exercises', 'FullBlocks', 'Interruptions', 'Manual', 'Memory', 'Program',
-           'Refused', 'Rooms', 'Stack', 'Streams']
+__all__ = ['Closed', 'Conformance', 'Devices', 'Examples', 'Exercises', 'FullBlocks', 'Interruptions', 'Manual',
+           'Memory', 'Program', 'Refused', 'Rooms', 'Stack', 'Streams']
 
 
 class Refused(test_memory.Refused):
-    """The same, with a library of its own in front of the allocator: each refused request for the words ends the program
-    at once, and the last is for the block alone."""
+    """The same, with a library of its own in front of the allocator: each refused request for the words ends the
+    program at once, and the last is for the block alone."""
     LINE, ENDS_AT_ONCE, FEWEST, BYTES = test_memory.WORDS_LINE, True, 21, test_memory.CELL

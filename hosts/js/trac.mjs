@@ -613,7 +613,8 @@ export class Session {
         const { cells, machine, pages, steps, cut } = saved;
         if (cells !== this.#cells) throw new RangeError('saved with another number of cells');
         const isMachine = machine instanceof Uint8Array && machine.length === this.#machineSize;
-        if (!isMachine || !arePages(pages, this.#words().length) || typeof steps !== 'bigint' || !(cut instanceof Uint8Array)) {
+        const isWhole = isMachine && arePages(pages, this.#words().length);
+        if (!isWhole || typeof steps !== 'bigint' || !(cut instanceof Uint8Array)) {
             throw new TypeError('saved must be what save gives');
         }
         this.#bytes(this.#machine, this.#machineSize).set(machine);

@@ -1,4 +1,4 @@
-"""Builds the package over the engine in C, which stands beside this folder, or in it where this is an unpacked archive."""
+"""Builds the package over the engine in C, which stands beside this folder, or in it in an unpacked archive."""
 import os
 import re
 

@@ -14,3 +14,6 @@ kept_more a b c k l = (k.0 ++ l.0, l.1 ∙ ap (λ (x : List Warning). x ++ l.0) 
 pub kept_pushed : (a b : List Warning) (x : Warning) → b ≡ a ++ x ∷ [] → Kept a b
 unfolding Kept
 kept_pushed a b x is = (x ∷ [], is)
+
+-- What the functions that note warnings go by.
+pub ruleset keeping = (kept_same, kept_more, kept_pushed)

@@ -32,7 +32,7 @@ pub struct Ending<'a> {
 }
 
 /// Adds what is suspicious in a call that a machine is about to perform. An error is want of memory.
-#[tactic(auto, using(crate::proofs::Keeping::kept_same, crate::proofs::Keeping::kept_more, crate::proofs::Keeping::kept_pushed))]
+#[tactic(auto, using(crate::proofs::Keeping::keeping))]
 pub fn look_at_call(
     warnings: &mut Vec<Warning>,
     alloc: Global,
@@ -65,7 +65,7 @@ fn suspicion_of_call(machine: &Machine, name: &[Cell]) -> Option<Suspicion> {
 
 // Looks at the first argument of which a function takes no notice: one that isn't null and that was
 // written in the same text as the call.
-#[tactic(auto, using(crate::proofs::Keeping::kept_same, crate::proofs::Keeping::kept_more, crate::proofs::Keeping::kept_pushed))]
+#[tactic(auto, using(crate::proofs::Keeping::keeping))]
 fn look_at_ignored(
     warnings: &mut Vec<Warning>,
     alloc: Global,
@@ -87,7 +87,7 @@ fn look_at_ignored(
 }
 
 // Looks at what the call around it makes of a call that ends the run or reads.
-#[tactic(auto, using(crate::proofs::Keeping::kept_same, crate::proofs::Keeping::kept_more, crate::proofs::Keeping::kept_pushed))]
+#[tactic(auto, using(crate::proofs::Keeping::keeping))]
 fn look_at_nesting(
     warnings: &mut Vec<Warning>,
     alloc: Global,
@@ -133,7 +133,7 @@ fn commas_in(cells: &[Cell]) -> u32 {
 }
 
 // Looks at the form that a call names.
-#[tactic(auto, using(crate::proofs::Keeping::kept_same, crate::proofs::Keeping::kept_more, crate::proofs::Keeping::kept_pushed))]
+#[tactic(auto, using(crate::proofs::Keeping::keeping))]
 fn look_at_form(
     warnings: &mut Vec<Warning>,
     alloc: Global,
@@ -189,7 +189,7 @@ fn is_passed(arguments: &[Cell]) -> bool {
 }
 
 // Looks at the form whose body a call takes apart or segments.
-#[tactic(auto, using(crate::proofs::Keeping::kept_same, crate::proofs::Keeping::kept_more, crate::proofs::Keeping::kept_pushed))]
+#[tactic(auto, using(crate::proofs::Keeping::keeping))]
 fn look_at_body(
     warnings: &mut Vec<Warning>,
     alloc: Global,
@@ -225,7 +225,7 @@ fn look_at_body(
 }
 
 // Looks at the texts of a call of `ss`, whose form has these items.
-#[tactic(auto, using(crate::proofs::Keeping::kept_same, crate::proofs::Keeping::kept_more, crate::proofs::Keeping::kept_pushed))]
+#[tactic(auto, using(crate::proofs::Keeping::keeping))]
 fn look_at_texts(
     warnings: &mut Vec<Warning>,
     alloc: Global,
@@ -249,7 +249,7 @@ fn look_at_texts(
 }
 
 /// Adds a warning. An error is want of memory.
-#[tactic(auto, using(crate::proofs::Keeping::kept_same, crate::proofs::Keeping::kept_more, crate::proofs::Keeping::kept_pushed))]
+#[tactic(auto, using(crate::proofs::Keeping::keeping))]
 pub fn warn(
     warnings: &mut Vec<Warning>,
     alloc: Global,

@@ -69,7 +69,7 @@ pub struct Watch {
     neutral: usize,
 }
 
-#[tactic(auto, using(crate::proofs::Keeping::kept_same, crate::proofs::Keeping::kept_more, crate::proofs::Keeping::kept_pushed))]
+#[tactic(auto, using(crate::proofs::Keeping::keeping))]
 impl Watch {
     /// Before the first step.
     pub fn new(alloc: Global) -> Watch

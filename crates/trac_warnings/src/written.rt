@@ -14,7 +14,7 @@ use trac_space::Cell;
 const FEW_LINES: usize = 3;
 
 /// Adds what is suspicious in how a script is written. An error is want of memory.
-#[tactic(auto, using(crate::proofs::Keeping::kept_same, crate::proofs::Keeping::kept_more, crate::proofs::Keeping::kept_pushed))]
+#[tactic(auto, using(crate::proofs::Keeping::keeping))]
 pub fn look_at_script(
     warnings: &mut Vec<Warning>,
     alloc: Global,
@@ -51,7 +51,7 @@ fn other_meta(input: &[u8]) -> Option<(usize, u8)> {
 }
 
 // Looks for numbers at the heads of lines.
-#[tactic(auto, using(crate::proofs::Keeping::kept_same, crate::proofs::Keeping::kept_more, crate::proofs::Keeping::kept_pushed))]
+#[tactic(auto, using(crate::proofs::Keeping::keeping))]
 fn look_at_lines(warnings: &mut Vec<Warning>, alloc: Global, input: &[u8]) -> Result<(), AllocError>
     ensures { Kept warnings.old.items warnings.new.items }
 {
@@ -85,7 +85,7 @@ fn is_numbered(line: &[u8]) -> bool {
 }
 
 // Looks for what is nearly a call.
-#[tactic(auto, using(crate::proofs::Keeping::kept_same, crate::proofs::Keeping::kept_more, crate::proofs::Keeping::kept_pushed))]
+#[tactic(auto, using(crate::proofs::Keeping::keeping))]
 fn look_at_spelling(
     warnings: &mut Vec<Warning>,
     alloc: Global,
@@ -129,7 +129,7 @@ fn names_function(bytes: &[u8]) -> bool
 }
 
 // Adds a warning of a place of the input.
-#[tactic(auto, using(crate::proofs::Keeping::kept_same, crate::proofs::Keeping::kept_more, crate::proofs::Keeping::kept_pushed))]
+#[tactic(auto, using(crate::proofs::Keeping::keeping))]
 fn warn_at(
     warnings: &mut Vec<Warning>,
     alloc: Global,
