@@ -17,7 +17,6 @@ BUILT = 'needs a proved program, which ./trac_trace and ./trac_terminal build fi
 # The commands that are shown and not run, and why.
 NOT_RUN = {
     'make install PREFIX=/usr/local': 'writes outside of a temporary folder; test_install.py installs elsewhere',
-    'make check': LONG, 'make check-machines': LONG, './test': LONG,
     '/usr/bin/python3 -m pytest -q checks/test_python*.py': LONG,
     'checks/fuzz/run 28800 build/fuzz': 'takes a night',
     'jupyter nbconvert --execute --inplace --ExecutePreprocessor.record_timing=False examples/lesson.ipynb':
@@ -31,8 +30,7 @@ NOT_RUN = {
     './trac_trace --steps 5000 < script.trac': BUILT,
     './trac_trace --warn < examples/broken/05-comma-in-text.trac': BUILT,
     './trac_trace --check examples/broken/*.trac': BUILT,
-    **dict.fromkeys(('make prove', 'make programs', 'make check-proved', 'make edits CRATES=trac_core', 'make generate',
-                     'make dist'), KIT),
+    'make edits CRATES=trac_core': KIT,
 }
 # What the reader is told to have: scripts of theirs, and a program that is installed.
 GIVEN = {'script.trac': "#(ps,hello)'", 'yours.trac': "#(ds,A,(#(ps,(To NAME, and long may they live!\n))))#(ss,A,NAME)"

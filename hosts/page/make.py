@@ -46,7 +46,7 @@ def examples():
 def lesson():
     """The scripts of docs/LESSON.md: each with its sentence and what it prints."""
     for name, says, script, output in re.findall(
-            r'^## (\d+\. [^\n]*)\n\n([^`]*?)\n```trac\n(.*?)\n```\n```output\n(.*?)\n```$',
+            r'^## (\d+\. [^\n]*)\n+([^`]*?)\n```trac\n(.*?)\n```\n```output\n(.*?)\n```$',
             read('docs', 'LESSON.md'), re.MULTILINE | re.DOTALL):
         yield {'name': name, 'says': says.replace('\n', ' '), 'script': script, 'output': output}
 
