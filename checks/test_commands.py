@@ -18,7 +18,6 @@ BUILT = 'needs a proved program, which ./trac_trace and ./trac_terminal build fi
 NOT_RUN = {
     'make install PREFIX=/usr/local': 'writes outside of a temporary folder; test_install.py installs elsewhere',
     '/usr/bin/python3 -m pytest -q checks/test_python*.py': LONG,
-    'checks/fuzz/run 28800 build/fuzz': 'takes a night',
     'jupyter nbconvert --execute --inplace --ExecutePreprocessor.record_timing=False examples/lesson.ipynb':
         'needs the kernel installed; test_python_kernel.py runs the notebook',
     'cc -ffreestanding -nostdlib -Ihosts/c program.c hosts/c/trac_engine.c -lgcc':
