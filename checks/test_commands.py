@@ -45,36 +45,45 @@ class Block:
 
     def __init__(self, text):
         self.commands = []
-        for line in text.rstrip('\n').replace('\\\n', '').split('\n'):
+        for line in text.rstrip('\n').split('\n'):
             if line.startswith('$ ') or not text.startswith('$ '):
                 self.commands.append([line.removeprefix('$ '), None])
             else:
                 self.commands[-1][1] = (self.commands[-1][1] or '') + line + '\n'
 
 
+def of_fence(text, fence):
+    """The commands in a fence, or the file of this name that the reader is to write; else None."""
+    kind, inner = fence.groups()
+    named = NAMED.search(text[:fence.start()])
+    if kind != 'sh':
+        return (named[1], inner) if named and kind in ('c', 'python') else None
+    block = Block(inner)
+    shown = re.match(r'\n+```output\n(.*?)^```$', text[fence.end():], re.MULTILINE | re.DOTALL)
+    if shown:
+        block.commands[-1][1] = shown[1]
+    return block
+
+
+def of_indented(indented):
+    """The commands in indented lines, which are a script where they begin with a call."""
+    inner = re.sub('^    ', '', indented[1], flags=re.MULTILINE)
+    return None if inner.startswith('#(') else Block(inner)
+
+
+def of_table(table):
+    """The commands of a table, each in the code of its row."""
+    rows = table[1].splitlines()
+    return Block('\n'.join(re.fullmatch(r'\|.*\| (?:in [^`]*, )?`([^`]*)` \|', row)[1] for row in rows))
+
+
 def of_markdown(text):
     """The commands of a page, and the files that it has the reader write, in their order."""
-    found, plain = [], text
-    for fence in FENCE.finditer(text):
-        kind, inner = fence.groups()
-        plain = plain.replace(fence[0], '')
-        named = NAMED.search(text[:fence.start()])
-        if kind == 'sh':
-            block = Block(inner)
-            shown = re.match(r'\n\n```output\n(.*?)^```$', text[fence.end():], re.MULTILINE | re.DOTALL)
-            if shown:
-                block.commands[-1][1] = shown[1]
-            found.append((fence.start(), block))
-        elif named and kind in ('c', 'python'):
-            found.append((fence.start(), (named[1], inner)))
-    for indented in INDENTED.finditer(plain):
-        inner = re.sub('^    ', '', indented[1], flags=re.MULTILINE)
-        if not inner.startswith('#('):
-            found.append((text.index(indented[1]), Block(inner)))
-    for table in TABLE.finditer(text):
-        rows = [re.fullmatch(r'\|.*\| (?:in [^`]*, )?`([^`]*)` \|', row)[1] for row in table[1].splitlines()]
-        found.append((table.start(), Block('\n'.join(rows))))
-    return [each for _, each in sorted(found, key=lambda pair: pair[0])]
+    plain = FENCE.sub(lambda fence: re.sub('[^\n]', '-', fence[0]), text)
+    found = [(fence.start(), of_fence(text, fence)) for fence in FENCE.finditer(text)]
+    found += [(indented.start(), of_indented(indented)) for indented in INDENTED.finditer(plain)]
+    found += [(table.start(), of_table(table)) for table in TABLE.finditer(text)]
+    return [each for _, each in sorted(found, key=lambda pair: pair[0]) if each]
 
 
 def of_man_page(text):
@@ -83,11 +92,12 @@ def of_man_page(text):
 
 
 def pages():
-    """Each document that shows commands, and what it shows."""
+    """What the documents show, each with the page that shows it."""
     for path in sorted(documents() + glob.glob(os.path.join(TOP, 'docs', '*.1'))):
         with open(path, encoding='utf-8') as page:
             text = page.read()
-        yield os.path.relpath(path, TOP), of_markdown(text) if path.endswith('.md') else of_man_page(text)
+        for each in of_markdown(text) if path.endswith('.md') else of_man_page(text):
+            yield os.path.relpath(path, TOP), each
 
 
 def copied(to):
@@ -125,22 +135,25 @@ class Commands(unittest.TestCase):
         if shown is None or not done.stderr:
             self.assertEqual(done.returncode, 0, told)
 
+    def follow(self, each, place):
+        """Does what a page shows: writes a file, or runs commands."""
+        if isinstance(each, tuple):
+            put(place, *each)
+            return
+        for command, printed in each.commands:
+            if is_run(command):
+                with self.subTest(command=command):
+                    self.do(command, printed, place)
+
     def test_each_command_of_each_page(self):
         with TemporaryDirectory() as place:
             copied(place)
-            for name, shown in pages():
-                for each in shown:
-                    if isinstance(each, tuple):
-                        put(place, *each)
-                        continue
-                    for command, printed in each.commands:
-                        with self.subTest(page=name, command=command):
-                            if is_run(command):
-                                self.do(command, printed, place)
+            for name, each in pages():
+                with self.subTest(page=name):
+                    self.follow(each, place)
 
     def test_what_is_not_run_is_shown(self):
-        shown = {command for _, found in pages() for each in found if isinstance(each, Block)
-                 for command, _ in each.commands}
+        shown = {command for _, each in pages() if isinstance(each, Block) for command, _ in each.commands}
         self.assertLessEqual(set(NOT_RUN), shown)
 
     def test_a_command_that_ends_otherwise_fails(self):
