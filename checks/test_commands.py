@@ -12,24 +12,21 @@ from test_documents import documents
 from trac import IN_C, TOP
 
 KIT = 'needs the Rattle kit'
-LONG = 'takes minutes'
-BUILT = 'needs a proved program, which ./trac_trace and ./trac_terminal build first'
-# The commands that are shown and not run, and why.
+SESSION = 'a session at a terminal, which the checks of that program have'
+TRACE = 'the tracer is proved before it is built; proved/test_man_page.py, test_warnings.py and test_manual_traces.py run it'
+# The programs that are shown and not run here, and why.
+NO_PROGRAMS = {'rt': KIT, 'trac_trace': TRACE, './trac_trace': TRACE, 'trac_terminal': SESSION, './trac_terminal': SESSION}
+# The other commands that are shown and not run, and why.
 NOT_RUN = {
     'make install PREFIX=/usr/local': 'writes outside of a temporary folder; test_install.py installs elsewhere',
-    '/usr/bin/python3 -m pytest -q checks/test_python*.py': LONG,
+    'make edits CRATES=trac_core': KIT,
+    'LENGTH=7 /usr/bin/python3 -m pytest checks/proved/test_engines.py -k short': KIT,
+    '/usr/bin/python3 -m pytest -q checks/test_python*.py': 'takes minutes',
     'jupyter nbconvert --execute --inplace --ExecutePreprocessor.record_timing=False examples/lesson.ipynb':
         'needs the kernel installed; test_python_kernel.py runs the notebook',
     'cc -ffreestanding -nostdlib -Ihosts/c program.c hosts/c/trac_engine.c -lgcc':
         "program.c is the reader's; machines/test_cortex_m.py links such a program",
-    'LENGTH=7 /usr/bin/python3 -m pytest checks/proved/test_engines.py -k short': KIT,
     'pip install .': 'installs; test_python.py builds the package from a copy',
-    'trac_terminal forms.trac': 'a session at a terminal; proved/test_terminal.py has such sessions',
-    'printf "#(ps,hello)\'" | trac_trace --steps 3': BUILT + '; proved/test_man_page.py runs it',
-    './trac_trace --steps 5000 < script.trac': BUILT,
-    './trac_trace --warn < examples/broken/05-comma-in-text.trac': BUILT,
-    './trac_trace --check examples/broken/*.trac': BUILT,
-    'make edits CRATES=trac_core': KIT,
 }
 # What the reader is told to have: scripts of theirs, and a program that is installed.
 GIVEN = {'script.trac': "#(ps,hello)'", 'yours.trac': "#(ds,A,(#(ps,(To NAME, and long may they live!\n))))#(ss,A,NAME)"
@@ -121,7 +118,8 @@ def put(to, name, text):
 
 
 def is_run(command):
-    return command not in NOT_RUN and not command.startswith('rt ') and '&& rt ' not in command
+    programs = set(re.findall(r'(?:^|[|&]\s*)([^\s|&]+)', command))
+    return command not in NOT_RUN and not programs & set(NO_PROGRAMS)
 
 
 class Commands(unittest.TestCase):
