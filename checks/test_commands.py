@@ -98,7 +98,7 @@ def pages():
 
 
 def copied(to):
-    """A copy of the repository with the program in C built, where a reader begins."""
+    """A copy of the repository with the program in C built and current, where a reader begins."""
     listed = subprocess.run(['git', 'ls-files', '-z'], cwd=TOP, capture_output=True, text=True, check=True).stdout
     for name in filter(None, listed.split('\0')):
         if os.path.lexists(os.path.join(TOP, name)):
@@ -108,7 +108,7 @@ def copied(to):
     shutil.copy2(IN_C, os.path.join(to, 'build', 'trac'))
     os.makedirs(os.path.join(to, 'bin'))
     os.symlink('../build/trac', os.path.join(to, 'bin', 'trac'))
-    for name, text in GIVEN.items():
+    for name, text in {**GIVEN, 'build/same': ''}.items():
         put(to, name, text)
 
 
