@@ -17,35 +17,34 @@ CRATES != ls further-edits
 RT = $(PYTHON) checks/progress.py
 PYTEST = $(PYTHON) -m pytest -q -n auto --dist loadfile
 
-all: build/trac
+TERMINAL = hosts/c/terminal.c hosts/c/calls.c hosts/c/saving.c hosts/c/texts.c hosts/c/typing.c
+# Lines are edited by libedit, where it is there.
+EDITING = -DWITH_LIBEDIT -ledit
+
+all: build/trac build/trac_terminal
 
 help:
 	@sed -n 's/^## //p' Makefile
 
-## make            the program in C, build/trac: any C compiler, some seconds
-build/trac: hosts/c/trac.c hosts/c/trac_engine.c hosts/c/trac.h
-	mkdir -p build
-	$(CC) -std=c11 $(CFLAGS) -o $@ hosts/c/trac.c hosts/c/trac_engine.c
+## make            the programs in C, build/trac and build/trac_terminal: any C compiler, some seconds
+build/trac: hosts/c/trac.c hosts/c/words.h build/libtrac.a
+	$(CC) -std=c11 $(CFLAGS) -o $@ hosts/c/trac.c build/libtrac.a
+
+build/trac_terminal: $(TERMINAL) hosts/c/terminal.h hosts/c/words.h build/libtrac.a
+	$(CC) -std=c11 $(CFLAGS) -o $@ $(TERMINAL) build/libtrac.a $(EDITING) 2>/dev/null || \
+	    $(CC) -std=c11 $(CFLAGS) -o $@ $(TERMINAL) build/libtrac.a
 
 ## make prove      the proved program, crates/trac_cli/out/trac_cli: proves all that it stands on
 prove: crates/trac_cli/out/trac_cli
 
-crates/trac_cli/out/trac_cli: $(SOURCES)
-	@$(RT) trac_cli rt run
+crates/trac_cli/out/trac_cli crates/trac_trace/out/trac_trace: $(SOURCES)
+	@$(RT) $(@F) rt run
 	touch $@
 
-crates/trac_trace/out/trac_trace: $(SOURCES)
-	@$(RT) trac_trace rt run
-	touch $@
+programs: prove crates/trac_trace/out/trac_trace
 
-crates/trac_terminal/out/trac_terminal: $(SOURCES)
-	@$(RT) trac_terminal rt run
-	touch $@
-
-programs: prove crates/trac_trace/out/trac_trace crates/trac_terminal/out/trac_terminal
-
-## make check      all that needs no kit, over the program in C
-check: check-tools build/trac
+## make check      all that needs no kit, over the programs in C
+check: check-tools all build/libtrac.so.0
 	$(PYTEST) checks --ignore checks/proved --ignore checks/machines
 
 ## make check-machines  the engine in C on a Cortex-M3, aarch64, arm and s390x, each emulated
@@ -81,11 +80,11 @@ generate:
 	hosts/c/generate
 
 ## make dist       what is handed out, in dist/: programs, libraries, the page, the manual
-dist: programs build/trac build/libtrac.so.0 dist/libtrac.a dist/trac.h dist/trac.html dist/npm/package.json \
+dist: programs all build/libtrac.so.0 dist/libtrac.a dist/trac.h dist/trac.html dist/npm/package.json \
     dist/trac_t64-$(VERSION).tar.gz dist/trac.pdf
-	for program in trac_trace trac_terminal; do cp -p crates/$$program/out/$$program dist || exit; done
+	cp -p crates/trac_trace/out/trac_trace build/trac_terminal dist
 	cp -p crates/trac_cli/out/trac_cli dist/trac
-	cp docs/*.[0-9] hosts/c/trac.c hosts/c/trac_engine.c dist
+	cp docs/*.[0-9] hosts/c/trac.c hosts/c/words.h hosts/c/trac_engine.c dist
 	@stage=$$(mktemp -d) && trap 'rm -rf "$$stage"' EXIT && hosts/system/stage "$$stage/all" /usr/local lib && \
 	    rm -rf dist/doc && cp -R "$$stage/all/share/doc/trac-t64" dist/doc
 	sed 's/@VERSION@/$(VERSION)/' hosts/system/README.in >dist/README
@@ -149,7 +148,7 @@ build/libtrac.so.0: build/libtrac.a
 	$(CC) -shared -Wl,-soname,libtrac.so.0 -o $@ build/trac_engine.o
 
 ## make install    puts what is built below PREFIX (~/.local); make uninstall takes it away again
-install: build/trac build/libtrac.so.0
+install: all build/libtrac.so.0
 	@stage=$$(mktemp -d) && trap 'rm -rf "$$stage"' EXIT && chmod 755 "$$stage" && \
 	    hosts/system/stage "$$stage/all" "$(PREFIX)" "$(LIBDIR)" && \
 	    hosts/system/install "$$stage/all" "$(DESTDIR)$(PREFIX)"
@@ -158,7 +157,7 @@ uninstall:
 	@hosts/system/install --undo "$(DESTDIR)$(PREFIX)"
 
 ## make package    Debian packages of it, in dist/
-package: build/trac build/libtrac.so.0
+package: all build/libtrac.so.0
 	@stage=$$(mktemp -d) && trap 'rm -rf "$$stage"' EXIT && \
 	    lib=lib/$$(dpkg-architecture -qDEB_HOST_MULTIARCH 2>/dev/null || $(CC) -print-multiarch) && \
 	    hosts/system/stage "$$stage/all" /usr "$$lib" && hosts/system/package "$$stage/all" "$$lib"

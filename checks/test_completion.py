@@ -8,10 +8,10 @@ import tempfile
 import time
 import unittest
 
-from trac import PROGRAM, TOP
+from trac import PROGRAM, TERMINAL, TOP
 
 FOLDER = os.path.join(TOP, 'hosts', 'completion')
-PROGRAMS = ['trac', 'trac_trace', 'trac_terminal']
+SESSION = ['--batch', '--cells', '--help', '--quiet', '--save', '--steps', '--version']
 BASH = """source {folder}/trac.bash
 COMP_WORDS=("$@") COMP_CWORD=$(($# - 1))
 _trac "$1" "${{@: -1}}" "${{@: -2:1}}"
@@ -39,12 +39,12 @@ class Completion(unittest.TestCase):
         room = tempfile.TemporaryDirectory()
         self.addCleanup(room.cleanup)
         self.room = room.name
-        os.symlink(PROGRAM, os.path.join(self.room, 'trac'))
-        for program in PROGRAMS[1:]:
-            path = os.path.join(self.room, program)
-            with open(path, 'w', encoding='utf-8') as file:
-                file.write(STAND_IN)
-            os.chmod(path, 0o755)
+        for program, path in (('trac', PROGRAM), ('trac_terminal', TERMINAL)):
+            os.symlink(path, os.path.join(self.room, program))
+        stand_in = os.path.join(self.room, 'trac_trace')
+        with open(stand_in, 'w', encoding='utf-8') as file:
+            file.write(STAND_IN)
+        os.chmod(stand_in, 0o755)
         with open(os.path.join(self.room, 'forms.trac'), 'w', encoding='utf-8'):
             pass
         self.env = {**os.environ, 'PATH': self.room + ':/usr/bin:/bin', 'HOME': self.room, 'LC_ALL': 'C.UTF-8'}
@@ -88,7 +88,7 @@ class Completion(unittest.TestCase):
         shown = subprocess.run([PROGRAM, '--help'], capture_output=True, text=True, check=True).stdout
         options = sorted(re.findall(r'^ +(?:-\w, )?(--\w+)', shown, re.MULTILINE))
         self.assertGreaterEqual(len(options), 4)
-        for program, wanted in (('trac', options), ('trac_trace', OPTIONS), ('trac_terminal', OPTIONS)):
+        for program, wanted in (('trac', options), ('trac_trace', OPTIONS), ('trac_terminal', SESSION)):
             for complete in (self.in_bash, self.in_fish):
                 with self.subTest(program=program, shell=complete.__name__):
                     self.assertEqual(complete(f'{program} --'), wanted)
@@ -105,7 +105,7 @@ class Completion(unittest.TestCase):
 
     def test_zsh(self):
         for line, rest in (('trac --re', 'port'), ('trac --ce', 'lls'), ('trac_trace --fr', 'om'),
-                           ('trac_terminal --no', '-banner'), ('trac_terminal fo', 'rms.trac'), ('trac --nosuch', '')):
+                           ('trac_terminal --qu', 'iet'), ('trac_terminal fo', 'rms.trac'), ('trac --nosuch', '')):
             with self.subTest(line=line):
                 self.assertEqual(self.in_zsh(line), line + rest)
 

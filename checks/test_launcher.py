@@ -86,9 +86,13 @@ class Launcher(unittest.TestCase):
             file.write('\n')
         self.date(name, 5)
 
+    def environment(self, path=None, **more):
+        """Where no compiler is named, and the stand-in for one is found first."""
+        kept = {name: value for name, value in os.environ.items() if name != 'CC'}
+        return {**kept, 'PATH': path or self.tools + ':' + os.environ['PATH'], **more}
+
     def start(self, name='trac', path=None, **more):
-        environment = {name: value for name, value in os.environ.items() if name != 'CC'}
-        environment.update({'PATH': path or self.tools + ':' + os.environ['PATH'], **more.pop('env', {})})
+        environment = self.environment(path, **more.pop('env', {}))
         return subprocess.Popen([os.path.join(self.top, name), '--cells', '18'], text=True,
                                 stdin=subprocess.DEVNULL, stdout=subprocess.PIPE, stderr=subprocess.PIPE,
                                 env=environment, **more)
@@ -113,7 +117,7 @@ class Launcher(unittest.TestCase):
 
     def test_what_the_program_in_c_is_made_of(self):
         self.ran()
-        for at, name in enumerate(('trac.c', 'trac.h', 'trac_engine.c'), 2):
+        for at, name in enumerate(('trac.c', 'words.h', 'trac.h', 'trac_engine.c'), 2):
             self.date(os.path.join('hosts', 'c', name), 5 * at)
             self.assertEqual(self.ran(), ('C: --cells 18\n', '', 3))
             self.assertEqual(self.compiled(), at)
@@ -143,7 +147,7 @@ class Launcher(unittest.TestCase):
         reading, writing = pty.openpty()
         started = subprocess.Popen([os.path.join(self.top, 'trac')],
                                    stdin=subprocess.DEVNULL, stdout=subprocess.DEVNULL,
-                                   stderr=writing, env={**os.environ, 'PATH': self.tools + ':' + os.environ['PATH']})
+                                   stderr=writing, env=self.environment())
         self.assertEqual(started.wait(timeout=60), 3)
         os.close(writing)
         self.assertEqual(os.read(reading, 1000).decode(),
@@ -180,7 +184,7 @@ class Launcher(unittest.TestCase):
         os.symlink(os.path.join(self.top, 'trac'), os.path.join(self.folder, 'far'))
         os.symlink('far', os.path.join(self.folder, 'near'))
         done = subprocess.run(['near'], executable=os.path.join(self.folder, 'near'), capture_output=True, text=True,
-                              env={**os.environ, 'PATH': self.tools + ':' + os.environ['PATH']}, check=False)
+                              env=self.environment(), check=False)
         self.assertEqual((done.stdout, done.returncode), ('C: \n', 3))
 
     def test_two_at_once(self):
@@ -197,25 +201,35 @@ class Launcher(unittest.TestCase):
         self.addCleanup(subprocess.run, ['chmod', '-R', 'u+w', self.top], check=True)
         self.assertEqual(self.ran(**AS_NOBODY), ('C: --cells 18\n', '', 3))
 
-    def test_the_other_programs(self):
-        for name in ('trac_trace', 'trac_terminal'):
-            program = os.path.join('crates', name, 'out', name)
-            with self.subTest(program=name):
-                path = os.path.join(self.folder, f'without {name}')
-                os.mkdir(path)
-                for tool in ('sh', 'dirname', 'readlink', 'find'):
-                    os.symlink(shutil.which(tool), os.path.join(path, tool))
-                self.assertEqual(self.ran(name, path=path), (
-                    '', f'{name}: it is not built yet, and its proof needs the Rattle kit, whose rt is not here\n', 70))
-                self.tool('rt', '#!/bin/sh\n')
-                self.tool('make', '#!/bin/sh\necho "make $*" >&2\nexit 1\n')
-                output, lines, status = self.ran(name)
-                self.assertEqual((output, status), ('', 70))
-                self.assertEqual(lines.splitlines()[1:], [
-                    f'make -s -C {self.top} {program}', f'{name}: it could not be built'])
-                self.assertIn('20 minutes', lines)
-                self.put(program, 'echo "other: $*"')
-                self.assertEqual(self.ran(name), ('other: --cells 18\n', '', 0))
+    def test_the_program_that_shows_steps(self):
+        program = os.path.join('crates', 'trac_trace', 'out', 'trac_trace')
+        path = os.path.join(self.folder, 'without rt')
+        os.mkdir(path)
+        for tool in ('sh', 'dirname', 'readlink', 'find'):
+            os.symlink(shutil.which(tool), os.path.join(path, tool))
+        self.assertEqual(self.ran('trac_trace', path=path), (
+            '', 'trac_trace: it is not built yet, and its proof needs the Rattle kit, whose rt is not here\n', 70))
+        self.tool('rt', '#!/bin/sh\n')
+        self.tool('make', '#!/bin/sh\necho "make $*" >&2\nexit 1\n')
+        output, lines, status = self.ran('trac_trace')
+        self.assertEqual((output, status), ('', 70))
+        self.assertEqual(lines.splitlines()[1:], [
+            f'make -s -C {self.top} {program}', 'trac_trace: it could not be built'])
+        self.assertIn('20 minutes', lines)
+        self.put(program, 'echo "other: $*"')
+        self.assertEqual(self.ran('trac_trace'), ('other: --cells 18\n', '', 0))
+
+    def test_the_terminal(self):
+        program = os.path.join('build', 'trac_terminal')
+        self.tool('make', '#!/bin/sh\necho "make $*" >&2\nexit 1\n')
+        self.assertEqual(self.ran('trac_terminal'), (
+            '', f'make -s -C {self.top} {program}\ntrac_terminal: it could not be built\n', 70))
+        self.tool('make', f"""#!/bin/sh
+mkdir -p '{self.top}/build'
+printf '#!/bin/sh\\necho "terminal: $*"; exit 3\\n' >'{self.top}/{program}'
+chmod +x '{self.top}/{program}'
+""")
+        self.assertEqual(self.ran('trac_terminal'), ('terminal: --cells 18\n', '', 3))
 
 
 class Clone(unittest.TestCase):

@@ -5,7 +5,8 @@ import subprocess
 import tempfile
 import unittest
 
-from trac import TOP, make
+from test_terminal import has_libedit
+from trac import TERMINAL, TOP, make
 
 NAMES = ('trac-t64', 'libtrac0', 'libtrac-dev')
 
@@ -36,6 +37,11 @@ class Package(unittest.TestCase):
             done = subprocess.run([os.path.join(room, 'usr/bin/trac')], cwd='/', input=b"#(ps,hello)'",
                                   capture_output=True, check=True)
             self.assertEqual(done.stdout, b'hello')
+            done = subprocess.run([os.path.join(room, 'usr/bin/trac_terminal')], cwd='/', input=b"#(ps,hello)'",
+                                  capture_output=True, check=True)
+            self.assertEqual(done.stdout, b'hello\n')
+            self.assertEqual(first_line('dpkg-deb', '-f', self.files['trac-t64'], 'Depends'),
+                             'libc6, libedit2' if has_libedit(TERMINAL) else 'libc6')
             place = first_line('gcc', '-print-multiarch')
             library = os.path.join(room, 'usr/lib', place)
             program = os.path.join(room, 'embedding')

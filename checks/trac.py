@@ -16,7 +16,7 @@ PROVED = os.path.join(TOP, 'crates', 'trac_cli', 'out', 'trac_cli')
 IN_C = os.path.join(TOP, 'build', 'trac')
 PROGRAM = os.path.abspath(os.environ.get('TRAC') or IN_C)
 TRACER = os.path.join(TOP, 'crates', 'trac_trace', 'out', 'trac_trace')
-TERMINAL = os.path.join(TOP, 'crates', 'trac_terminal', 'out', 'trac_terminal')
+TERMINAL = os.path.join(TOP, 'build', 'trac_terminal')
 
 
 def crates_of(crate):

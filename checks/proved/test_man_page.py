@@ -5,7 +5,7 @@ import shutil
 import subprocess
 import unittest
 
-from trac import PROGRAM, TERMINAL, TOP, TRACER, run
+from trac import PROGRAM, TOP, TRACER, run
 
 PAGE = os.path.join(TOP, 'docs', 'trac.1')
 WIDE = {'MANWIDTH': '500', 'MANPAGER': 'cat', 'LC_ALL': 'C.UTF-8'}
@@ -53,8 +53,7 @@ LINES = {
 
 class Ranges(unittest.TestCase):
     def test_they_are_those_of_the_help(self):
-        for program, page in ((PROGRAM, 'trac.1'), (TRACER, 'trac_trace.1'),
-                              (TERMINAL, 'trac_terminal.1')):
+        for program, page in ((PROGRAM, 'trac.1'), (TRACER, 'trac_trace.1')):
             with self.subTest(page=page):
                 told = subprocess.run([program, '--help'], capture_output=True, check=True)
                 text, _, _ = formatted(os.path.join(TOP, 'docs', page))
@@ -65,16 +64,6 @@ class Ranges(unittest.TestCase):
                     self.assertGreaterEqual(len(shown), least)
                     text = ' '.join(text.split())
                     self.assertEqual(re.findall(in_page + r'.*?The default is (\d+)', text), shown)
-
-
-class TerminalPage(unittest.TestCase):
-    def test_it_formats_without_a_warning_and_has_the_options_of_the_help(self):
-        text, warnings, status = formatted(os.path.join(TOP, 'docs', 'trac_terminal.1'))
-        self.assertEqual((warnings, status), ('', 0))
-        done = subprocess.run([TERMINAL, '--help'], capture_output=True, check=True)
-        options = re.findall(r'--\w+', section(text, 'OPTIONS'))
-        for option in re.findall(r'--\w+', done.stdout.decode()):
-            self.assertIn(option, options)
 
 
 class TracePage(unittest.TestCase):

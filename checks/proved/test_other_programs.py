@@ -1,21 +1,18 @@
-"""What trac_trace and trac_terminal have in common with trac: their help, where it can't be written,
-and calls of the system that are interrupted."""
+"""What trac_trace has in common with trac: its help, where that can't be written, and calls of the system
+that are interrupted."""
 import os
 import subprocess
 import unittest
 
 from test_interruptions import HELLO, interrupt, shown_though_interrupted
 from test_program import are_not_written
-from trac import TERMINAL, TOP, TRACER
+from trac import TOP, TRACER
 
 
 class Words(unittest.TestCase):
     def test_a_usage_that_shows_where_the_script_is(self):
-        for program, usage in ((TRACER, 'trac_trace [OPTIONS] < SCRIPT'),
-                               (TERMINAL, 'trac_terminal [OPTIONS] [FILE ..]')):
-            with self.subTest(program=program):
-                told = subprocess.run([program, '--help'], capture_output=True, check=True)
-                self.assertIn(f'\nUsage: {usage}\n', told.stdout.decode())
+        told = subprocess.run([TRACER, '--help'], capture_output=True, check=True)
+        self.assertIn('\nUsage: trac_trace [OPTIONS] < SCRIPT\n', told.stdout.decode())
         done = subprocess.run([TRACER, 'file.trac'], input=b'', capture_output=True)
         self.assertIn('\nUsage: trac_trace [OPTIONS] < SCRIPT\n', done.stderr.decode())
 

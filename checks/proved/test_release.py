@@ -24,7 +24,7 @@ class Release(unittest.TestCase):
     def test_its_files(self):
         files = set(os.listdir(DIST))
         self.assertLessEqual({'README', 'trac', 'trac_trace', 'trac_terminal', 'trac.h', 'libtrac.a', 'trac_engine.c',
-                              'trac.c', 'trac.html', 'npm', 'doc', 'trac.3', 'trac.7', 'trac.pdf'}, files)
+                              'trac.c', 'words.h', 'trac.html', 'npm', 'doc', 'trac.3', 'trac.7', 'trac.pdf'}, files)
         for page in (name for name in files if name.endswith('.1')):
             self.assertIn(page[:-2], files)
         for part in ('docs/LANGUAGE.md', 'docs/EXERCISES.md', 'examples/hanoi.trac'):

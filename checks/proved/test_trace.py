@@ -129,7 +129,7 @@ class Lines(unittest.TestCase):
 
     def test_words_that_are_refused(self):
         for words in ['--cells 0', '--steps 0', '--cells 16777217', '--steps 1000000000001',
-                      '--from 0', '--last 1000001', 'extra']:
+                      '--from 0', '--last 1000001', '--columns 16777217', 'extra']:
             with self.subTest(words=words):
                 self.assertEqual(trace(b'', *words.split()), ([], 2))
 
@@ -226,6 +226,41 @@ class Views(unittest.TestCase):
         lines, status = trace(grows, '--steps', '20000', '--cells', '1000000')
         self.assertEqual(status, 3)
         self.assertLess(max(map(len, lines)), 800)
+
+    def test_the_last_of_what_a_view_shows(self):
+        script = b"#(ds,A,x)#(ps,1)#(ds,B,y)#(ps,2)#(ds,C,z)#(ps,3)#(zz)'"
+        calls = [line[6:] for line in trace(script, '--calls', '--last', '3')[0] if '(' in line]
+        self.assertEqual([line.strip() for line in calls],
+                         ['#(zz) [no function]', '#(ps<,>)', '#(rs)'])
+        for words, wanted in [(['--last', '2'], 'BC'), (['--last', '9'], 'ABC'), (['--last', '1'], 'C'),
+                              (['--last', '2', '--to', '40'], 'B')]:
+            with self.subTest(words=words):
+                lines = trace(script, '--forms', *words)[0]
+                self.assertEqual(lines[0], '  step  form')
+                self.assertEqual([line[13] for line in lines if re.match(r' +\d+  form', line)], list(wanted))
+
+    def test_a_parenthesis_without_a_match(self):
+        told = '        drops: {} characters, since a left parenthesis has no match'
+        for words in [[], ['--calls']]:
+            self.assertIn(told.format(5), trace(b"#(ps,a)((bc'", *words)[0])
+            self.assertIn(told.format(3), trace(b"(('", *words)[0])
+            self.assertIn(told.format(4), trace(b"#(ds,A,((x'", *words)[0])
+        self.assertNotIn('drops', '\n'.join(trace(b"()(a)#(ps,((b)))'")[0]))
+        self.assertNotIn('drops', '\n'.join(trace(b"#(ps,a)((bc'", '--forms')[0]))
+
+    def test_lines_that_are_folded(self):
+        script = "#(ps,(\u00e4\u00f6\u00fc 0123456789 0123456789 0123456789 0123456789 0123456789))'".encode()
+        for words in [[], ['--calls'], ['--forms'], ['--calls', '--width', '0']]:
+            whole = trace(script, *words)[0]
+            for columns in (20, 40, 80):
+                wanted = []
+                for line in whole:
+                    wanted.append(line[:columns])
+                    rest = line[columns:]
+                    while rest:
+                        wanted.append(' ' * 10 + rest[:columns - 10])
+                        rest = rest[columns - 10:]
+                self.assertEqual(trace(script, *words, '--columns', str(columns))[0], wanted)
 
     def test_calls_in_many_others(self):
         lines, _ = trace(b'#(b,' * 25 + b'x' + b')' * 25 + b"'", '--calls')

@@ -3,18 +3,9 @@
  * where a step asks for it: so each print is one write, made before the next step. */
 #define _POSIX_C_SOURCE 200809L
 #include "trac.h"
+#include "words.h"
 
-#include <errno.h>
-#include <inttypes.h>
 #include <signal.h>
-#include <stdarg.h>
-#include <stdio.h>
-#include <stdlib.h>
-#include <string.h>
-#include <unistd.h>
-
-/* The exit statuses. What the engine calls halted and input ended are both 0. */
-enum { DONE, WORKSPACE, USAGE, STEPS, INPUT_FAILED, OUTPUT_FAILED, NO_MEMORY };
 
 /* The bytes of a read, and of a print that needs no memory more; the room beside a print, to measure it once. */
 enum { CHUNK = 8192, MORE = 16 };
@@ -28,170 +19,13 @@ static const char HELP[] =
     "      --report     Print the steps and the peak\n"
     "  -h, --help       Print help\n";
 
-/* Writes all bytes. An interrupted call is made again. Gives 0 where a write failed. */
-static int write_all(int device, const void *from, size_t length) {
-    const uint8_t *next = (const uint8_t *)from;
-    while (length) {
-        const ssize_t count = write(device, next, length);
-        if (count < 0 && errno == EINTR)
-            continue;
-        if (count <= 0)
-            return 0;
-        next += count;
-        length -= (size_t)count;
-    }
-    return 1;
-}
-
-/* Says a line of at most 199 characters, and gives the status. */
-static int say_line(int status, const char *format, ...) {
-    char line[200];
-    va_list values;
-    va_start(values, format);
-    (void)vsnprintf(line, sizeof line, format, values);
-    va_end(values);
-    (void)write_all(STDERR_FILENO, line, strlen(line));
-    return status;
-}
-
-/* ---- The words. */
-
-/* A number that wasn't given is 0. An option whose value is the next word waits until what follows is known. */
-typedef struct {
-    uint64_t cells, steps;
-    int reports;
-    const char *option, *value;
-} settings;
-
-#define HINT "\n\nFor more information, try '--help'.\n"
-#define USAGE_AND_HINT "\n\nUsage: trac [OPTIONS] < SCRIPT" HINT
-
-/* Says a text, what it is about, and the rest of it. */
-static int refuse(const char *text, const char *about, const char *rest) {
-    const char *const texts[] = {"error: ", text, about, rest};
-    for (size_t i = 0; i < sizeof texts / sizeof *texts; i++)
-        (void)write_all(STDERR_FILENO, texts[i], strlen(texts[i]));
-    return USAGE;
-}
-
-static int refuse_word(const char *word) { return refuse("unexpected argument '", word, "' found" USAGE_AND_HINT); }
-
-/* The length of the character of UTF-8 that begins there; 0 where none does. */
-static size_t length_of_character(const uint8_t *c) {
-    const size_t length = c[0] < 0x80 ? 1 : c[0] < 0xE0 ? 2 : c[0] < 0xF0 ? 3 : 4;
-    const uint8_t least = c[0] == 0xE0 ? 0xA0 : c[0] == 0xF0 ? 0x90 : 0x80;
-    const uint8_t most = c[0] == 0xED ? 0x9F : c[0] == 0xF4 ? 0x8F : 0xBF;
-    if (length > 1 && (c[0] < 0xC2 || c[0] > 0xF4 || c[1] < least || c[1] > most))
-        return 0;
-    for (size_t i = 2; i < length; i++)
-        if ((c[i] & 0xC0) != 0x80)
-            return 0;
-    return length;
-}
-
-static int is_utf8(const char *word) {
-    size_t length = 1;
-    for (; length && *word; word += length)
-        length = length_of_character((const uint8_t *)word);
-    return length != 0;
-}
-
-static int is_option(const char *word) {
-    return !strcmp(word, "--cells") || !strcmp(word, "--steps") || !strcmp(word, "--report") || !strcmp(word, "--help");
-}
-
-/* What is wrong with the cells, read as a number of 64 bits with a sign, or with the steps, read as one without; a null
- * pointer, and the number, where nothing is. */
-static const char *fault_of_number(const char *word, int is_cells, uint64_t *number) {
-    static char range[80];
-    const int is_negative = is_cells && *word == '-';
-    const uint64_t limit = is_cells ? (uint64_t)INT64_MAX + (uint64_t)is_negative : UINT64_MAX;
-    const uint64_t most = is_cells ? TRAC_MOST_CELLS : UINT64_C(1000000000000);
-    const char *digit = word + (is_negative || *word == '+');
-    uint64_t value = 0;
-    if (!*digit)
-        return *word ? "invalid digit found in string" : "cannot parse integer from empty string";
-    for (; *digit; digit++) {
-        const uint64_t next = (uint64_t)(uint8_t)*digit - '0';
-        if (next > 9)
-            return "invalid digit found in string";
-        if (value > (limit - next) / 10)
-            return is_negative ? "number too small to fit in target type" : "number too large to fit in target type";
-        value = value * 10 + next;
-    }
-    *number = is_negative || value > most ? 0 : value;
-    (void)snprintf(range, sizeof range, "%s%" PRIu64 " is not in 1..=%" PRIu64, is_negative && value ? "-" : "", value,
-                   most);
-    return *number ? NULL : range;
-}
-
-/* Takes the option that waits. Gives -1, or the status with which the program ends, as the functions below. */
-static int take_waiting(settings *to) {
-    const char *const option = to->option;
-    if (!option)
-        return -1;
-    const int is_cells = !strcmp(option, "--cells");
-    uint64_t *const number = is_cells ? &to->cells : &to->steps;
-    to->option = NULL;
-    if (!to->value)
-        return refuse("a value is required for '", option, " <N>' but none was supplied" HINT);
-    if (*number)
-        return refuse("the argument '", option, " <N>' cannot be used multiple times" USAGE_AND_HINT);
-    const char *const fault = fault_of_number(to->value, is_cells, number);
-    if (!fault)
-        return -1;
-    (void)refuse("invalid value '", to->value, "' for '");
-    return say_line(USAGE, "%s <N>': %s" HINT, option, fault);
-}
-
-/* Takes an option of the program, and what stands behind its equals sign. */
-static int take_option(settings *to, const char *option, const char *value) {
-    const int is_help = !strcmp(option, "--help"), is_report = !strcmp(option, "--report");
-    if ((is_help || is_report) && value) {
-        (void)refuse("unexpected value '", value, "' for '");
-        return say_line(USAGE, "%s' found; no more were expected" USAGE_AND_HINT, option);
-    }
-    const int status = take_waiting(to);
-    if (status >= 0)
-        return status;
-    if (is_help)
-        return write_all(STDOUT_FILENO, HELP, sizeof HELP - 1) ? DONE : OUTPUT_FAILED;
-    if (is_report && to->reports)
-        return refuse("the argument '", option, "' cannot be used multiple times" USAGE_AND_HINT);
-    to->reports |= is_report;
-    to->option = is_report ? NULL : option;
-    to->value = value;
-    return value ? take_waiting(to) : -1;
-}
-
-/* Takes a word. Of one that begins with two dashes an unknown part in front of an equals sign is named, and of one
- * that begins with one dash its first letter. */
-static int take_word(settings *to, char *word, const char *next) {
-    char *const end = word + strcspn(word, "=");
-    const char *const value = *end ? end + 1 : NULL;
-    if (!strcmp(word, "--"))
-        return next ? refuse_word(next) : -1;
-    if (!strncmp(word, "-h", 2))
-        return take_option(to, "--help", NULL);
-    if (word[0] != '-' || !word[1]) {
-        if (!to->option || to->value)
-            return refuse_word(word);
-        to->value = word;
-        return -1;
-    }
-    *(word[1] == '-' ? end : word + 1 + length_of_character((const uint8_t *)word + 1)) = 0;
-    return is_option(word) ? take_option(to, word, value) : refuse_word(word);
-}
-
-static int take_words(settings *to, char **words) {
-    int status = -1;
-    for (char **word = words; *word; word++)
-        if (!is_utf8(*word))
-            return refuse("the command line isn't UTF-8\n", "", "");
-    for (; *words && status < 0; words++)
-        status = take_word(to, *words, words[1]);
-    return status < 0 ? take_waiting(to) : status;
-}
+/* The options, and their places. */
+enum { CELLS, ALLOWANCE, REPORT };
+static option options[] = {{"--cells", 0, TAKES_SIGNED, "<N>", TRAC_MOST_CELLS, NULL, 0, NULL},
+                           {"--steps", 0, TAKES_UNSIGNED, "<N>", UINT64_C(1000000000000), NULL, 0, NULL},
+                           {"--report", 0, TAKES_NOTHING, NULL, 0, NULL, 0, NULL},
+                           {"--help", 'h', TAKES_NOTHING, NULL, 0, HELP, 0, NULL},
+                           {NULL, 0, TAKES_NOTHING, NULL, 0, NULL, 0, NULL}};
 
 /* ---- The devices. */
 
@@ -204,10 +38,7 @@ typedef struct {
 
 /* Reads once. Gives 0 where that failed. */
 static int read_more(source *from) {
-    ssize_t count;
-    do
-        count = read(STDIN_FILENO, from->bytes + from->length, CHUNK);
-    while (count < 0 && errno == EINTR);
+    const ssize_t count = read_once(STDIN_FILENO, from->bytes + from->length, CHUNK);
     from->ended = count == 0;
     from->length += count > 0 ? (size_t)count : 0;
     return count >= 0;
@@ -278,15 +109,15 @@ static trac_report run(trac_machine *machine, size_t cells, source *from, sink *
 }
 
 /* Says how the run ended, and gives the status. A step that is named is the one that wasn't done. */
-static int ended(const settings *with, const trac_report *report) {
-    const uint64_t cells = with->cells, step = report->steps + 1;
-    if (with->reports && report->fate != TRAC_REFUSED)
+static int ended(const trac_report *report) {
+    const uint64_t cells = options[CELLS].number, step = report->steps + 1;
+    if (options[REPORT].number && report->fate != TRAC_REFUSED)
         say_line(DONE, "trac: %" PRIu64 " steps, peak %" PRIu32 " cells\n", report->steps, report->peak);
     switch (report->fate) {
     case TRAC_WORKSPACE:
         return say_line(WORKSPACE, "trac: workspace of %" PRIu64 " cells full at step %" PRIu64 "\n", cells, step);
     case TRAC_STEPS:
-        return say_line(STEPS, "trac: allowance of %" PRIu64 " steps used up\n", with->steps);
+        return say_line(STEPS, "trac: allowance of %" PRIu64 " steps used up\n", options[ALLOWANCE].number);
     case TRAC_INPUT_FAILED:
         return say_line(INPUT_FAILED, "trac: input failed at step %" PRIu64 "\n", step);
     case TRAC_OUTPUT_FAILED:
@@ -300,20 +131,20 @@ static int ended(const settings *with, const trac_report *report) {
 
 int main(int count, char **words) {
     static trac_machine machine;
-    settings with = {0, 0, 0, NULL, NULL};
+    command given = {"trac [OPTIONS] < SCRIPT", options, 0, NULL, 0, NULL, NULL};
     trac_report report = {TRAC_REFUSED, 0, 0, 0, 0, 0};
     (void)signal(SIGPIPE, SIG_IGN);
-    const int status = count ? take_words(&with, words + 1) : -1;
+    const int status = count ? take_words(&given, words + 1) : -1;
     if (status >= 0)
         return status;
-    with.cells = with.cells ? with.cells : 65536;
-    with.steps = with.steps ? with.steps : 1000000;
-    const size_t cells = (size_t)with.cells, longest = cells + 1;
+    options[CELLS].number = options[CELLS].number ? options[CELLS].number : 65536;
+    options[ALLOWANCE].number = options[ALLOWANCE].number ? options[ALLOWANCE].number : 1000000;
+    const size_t cells = (size_t)options[CELLS].number, longest = cells + 1;
     sink to = {(uint8_t *)malloc(CHUNK), CHUNK};
     trac_cell *const block = (trac_cell *)malloc(cells * sizeof(trac_cell) + longest + CHUNK);
-    if (block && to.bytes && trac_open(&machine, block, cells, with.steps) == 0) {
+    if (block && to.bytes && trac_open(&machine, block, cells, options[ALLOWANCE].number) == 0) {
         source from = {(uint8_t *)(block + cells), 0, 0, 0};
         report = run(&machine, cells, &from, &to);
     }
-    return ended(&with, &report);
+    return ended(&report);
 }

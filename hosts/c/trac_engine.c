@@ -4,7 +4,7 @@
  * and what compilers make of it (memcpy, memset) alone.
  *
  * Crates: trac_language trac_space trac_values trac_store trac_forms trac_devices trac_functions trac_laws trac_core trac_c
- * Sources: 857dc03833a0d358b128f286f773000035b1a77cb17b81f30d830802393f6944
+ * Sources: 599cdf447349dda6723c6d52e9a218f68014dcb8a4b7e7f5e714298a2a79ff4c
  * Kit: rattle-kit-13f logic dac8208d650f15bf
  * Tools: wasm-opt version 108, wabt 1.0.32
  */
@@ -18,12 +18,6 @@ typedef uint32_t u32;
 typedef uint64_t u64;
 typedef int32_t i32;
 typedef int64_t i64;
-
-/* What a call of the engine has beside its arguments: a stack of its own, from the lowest address on, and where
- * what is used of it begins. */
-struct engine {
-    u64 stack, stack_pointer;
-};
 
 /* What proved code never reaches. */
 #if defined(__GNUC__) && !defined(__TINYC__)
@@ -91,9 +85,9 @@ static inline u64 clz64(u64 x) {
     return x >> 32 ? clz32((u32)(x >> 32)) : 32 + clz32((u32)x);
 }
 
-enum { DEEPEST_STACK = 912 };
+enum { DEEPEST_STACK = 928 };
 
-static const u8 tables[3040] = {
+static const u8 tables[3008] = {
     0, 1, 2, 3, 4, 5, 6, 7, 8, 9, 10, 11, 12, 13, 14, 15, 16, 17, 18, 19, 20, 21, 22, 23,
     24, 25, 26, 27, 28, 29, 30, 31, 32, 33, 34, 35, 36, 37, 38, 39, 40, 41, 42, 43, 44, 45, 46, 47,
     48, 49, 50, 51, 52, 53, 54, 55, 56, 57, 58, 59, 60, 61, 62, 63, 64, 97, 98, 99, 100, 101, 102, 103,
@@ -219,102 +213,101 @@ static const u8 tables[3040] = {
     54, 52, 54, 53, 54, 54, 54, 55, 54, 56, 54, 57, 55, 48, 55, 49, 55, 50, 55, 51, 55, 52, 55, 53,
     55, 54, 55, 55, 55, 56, 55, 57, 56, 48, 56, 49, 56, 50, 56, 51, 56, 52, 56, 53, 56, 54, 56, 55,
     56, 56, 56, 57, 57, 48, 57, 49, 57, 50, 57, 51, 57, 52, 57, 53, 57, 54, 57, 55, 57, 56, 57, 57,
-    1, 2, 0, 0, 0, 0, 0, 0, 0, 0, 0, 0, 0, 0, 0, 0, 0, 0, 0, 0, 0, 0, 0, 0,
-    0, 0, 0, 0, 0, 0, 0, 0, 0, 0, 0, 0, 0, 0, 0, 0,
+    0, 0, 0, 0, 0, 0, 0, 0,
 };
 
-static void multi3(struct engine *e, u64 l0, u64 l1, u64 l2, u64 l3, u64 l4);
-static void ashlti3(struct engine *e, u64 l0, u64 l1, u64 l2, u32 l3);
-static void lshrti3(struct engine *e, u64 l0, u64 l1, u64 l2, u32 l3);
-static u32 core_machine_Machine_awaits(struct engine *e, u64 l0);
-static void functions_arguments_Arguments_next(struct engine *e, u64 l0, u64 l1, u64 l2);
-static void functions_function_function_of(struct engine *e, u64 l0, u64 l1, u64 l2);
-static u32 store_arguments_before_far_comma(struct engine *e, u64 l0, u64 l1);
-static void core_scan_pass(struct engine *e, u64 l0, u64 l1, u64 l2, u64 l3, u64 l4);
-static u32 space_space_Space_find_way(struct engine *e, u64 l0, u64 l1);
-static void devices_slice_source_SliceSourceSource_take_held(struct engine *e, u64 l0, u32 l1, u64 l2);
-static u32 space_space_Space_push_in_way(struct engine *e, u64 l0, u64 l1);
-static void forms_work_Work_find_among_more(struct engine *e, u64 l0, u64 l1, u32 l2, u32 l3);
-static void forms_work_Work_find_among_few(struct engine *e, u64 l0, u64 l1, u32 l2, u32 l3);
-static void forms_work_Work_stored(struct engine *e, u64 l0, u64 l1, u32 l2);
-static u32 core_display_show_form(struct engine *e, u64 l0, u64 l1);
-static void functions_comparing_equal(struct engine *e, u64 l0, u64 l1, u64 l2);
-static void functions_comparing_greater(struct engine *e, u64 l0, u64 l1, u64 l2);
-static void functions_arithmetic_arithmetic(struct engine *e, u64 l0, u64 l1, u32 l2, u64 l3);
-static void functions_bit_strings_union(struct engine *e, u64 l0, u64 l1, u64 l2);
-static void functions_bit_strings_intersection(struct engine *e, u64 l0, u64 l1, u64 l2);
-static void functions_bit_strings_give_bits(struct engine *e, u64 l0, u64 l1, u32 l2, u32 l3, u64 l4);
-static void functions_bit_strings_shift(struct engine *e, u64 l0, u64 l1, u64 l2);
-static void functions_bit_strings_rotate(struct engine *e, u64 l0, u64 l1, u64 l2);
-static void functions_form_parts_call_segment(struct engine *e, u64 l0, u64 l1, u64 l2);
-static void functions_form_parts_call_character(struct engine *e, u64 l0, u64 l1, u64 l2);
-static void functions_form_parts_call_number(struct engine *e, u64 l0, u64 l1, u64 l2);
-static void functions_form_parts_initial_part(struct engine *e, u64 l0, u64 l1, u64 l2);
-static void functions_form_parts_call_restore(struct engine *e, u64 l0, u64 l1, u64 l2);
-static void functions_form_calls_define_string(struct engine *e, u64 l0, u64 l1, u64 l2);
-static void functions_form_calls_segment_string(struct engine *e, u64 l0, u64 l1, u64 l2);
-static void functions_form_calls_delete_definition(struct engine *e, u64 l0, u64 l1, u64 l2);
-static void functions_form_calls_delete_all(struct engine *e, u64 l0, u64 l1);
-static void functions_form_calls_list_names(struct engine *e, u64 l0, u64 l1, u64 l2);
-static void store_fill_load_items_in_way(struct engine *e, u64 l0, u64 l1, u32 l2, u32 l3);
-static void core_slice_edits_slice_T_copy_from_slice(struct engine *e, u64 l0, u64 l1, u64 l2);
-static void space_copies_copy_long(struct engine *e, u64 l0, u64 l1, u64 l2, u64 l3);
-static u32 forms_work_Work_fill_other(struct engine *e, u64 l0, u32 l1, u32 l2, u32 l3);
-static u32 store_fill_fill_items(struct engine *e, u64 l0, u32 l1, u32 l2, u32 l3, u32 l4);
-static void core_delivery_deliver(struct engine *e, u64 l0, u32 l1, u32 l2);
-static void space_copies_copy_more(struct engine *e, u64 l0, u64 l1, u64 l2, u64 l3);
-static void space_copies_copy_parts(struct engine *e, u64 l0, u64 l1, u64 l2);
-static void space_space_Space_move_active(struct engine *e, u64 l0, u32 l1);
-static u64 c_filling_put_characters(struct engine *e, u64 l0, u64 l1, u64 l2, u64 l3, u64 l4);
-static void store_index_index_worthwhile(struct engine *e, u64 l0, u32 l1, u64 l2);
-static void store_store_find_some(struct engine *e, u64 l0, u64 l1, u32 l2, u32 l3, u32 l4, u64 l5, u64 l6);
-static void store_store_find_round(struct engine *e, u64 l0, u64 l1, u32 l2, u32 l3, u32 l4, u64 l5, u64 l6);
-static u32 store_index_index_fitting(struct engine *e, u64 l0, u32 l1);
-static void store_index_index_from(struct engine *e, u64 l0, u32 l1, u32 l2, u32 l3);
-static u32 store_store_place_of(struct engine *e, u64 l0, u32 l1, u32 l2, u32 l3);
-static u32 core_display_show_items(struct engine *e, u64 l0, u32 l1, u32 l2, u64 l3);
-static void itoa_Buffer_format(struct engine *e, u64 l0, u64 l1, u32 l2);
-static u32 forms_work_Work_load_other_part(struct engine *e, u64 l0, u32 l1, u32 l2);
-static u32 functions_arguments_put_part(struct engine *e, u64 l0, u32 l1, u32 l2);
-static u32 values_number_long_greater(struct engine *e, u64 l0, u64 l1, u64 l2, u64 l3);
-static void values_number_long_tail(struct engine *e, u64 l0, u64 l1, u64 l2);
-static u32 forms_work_Work_pointer(struct engine *e, u64 l0, u32 l1);
-static u32 forms_work_Work_body_len(struct engine *e, u64 l0, u32 l1);
-static void forms_work_Work_body(struct engine *e, u64 l0, u64 l1, u32 l2);
-static void functions_form_parts_take_part(struct engine *e, u64 l0, u64 l1, u32 l2, u32 l3, u32 l4, u32 l5);
-static void forms_work_Work_set_pointer(struct engine *e, u64 l0, u32 l1, u32 l2);
-static u32 forms_work_Work_copy_body(struct engine *e, u64 l0, u32 l1, u32 l2, u32 l3);
-static u32 space_space_Space_copy_store(struct engine *e, u64 l0, u32 l1, u32 l2);
-static void store_borders_lay_borders(struct engine *e, u64 l0, u32 l1, u32 l2);
-static void space_space_Space_write_part(struct engine *e, u64 l0, u32 l1, u32 l2, u32 l3);
-static void store_define_take_out(struct engine *e, u64 l0, u32 l1, u32 l2, u32 l3);
-static void space_space_Space_remove_store(struct engine *e, u64 l0, u32 l1, u32 l2);
-static u32 forms_work_Work_fill_body(struct engine *e, u64 l0, u32 l1, u32 l2, u32 l3);
-static void space_filling_fill_each(struct engine *e, u64 l0, u64 l1, u64 l2, u64 l3, u64 l4, u64 l5, u64 l6);
-static void forms_work_Work_form(struct engine *e, u64 l0, u64 l1, u32 l2);
-static u32 core_machine_printing_call_len(struct engine *e, u64 l0, u32 l1);
-static u32 core_display_show_items2(struct engine *e, u64 l0, u32 l1, u32 l2, u64 l3);
-static u64 engine_active(struct engine *e, u64 l0, u64 l1, u64 l2);
-static void engine_again(struct engine *e, u64 l0, u64 l1);
-static u32 engine_awaits(struct engine *e, u64 l0);
-static u64 engine_form_count(struct engine *e, u64 l0);
-static u64 engine_machine_size(struct engine *e);
-static u32 engine_meta(struct engine *e, u64 l0);
-static u64 engine_neutral(struct engine *e, u64 l0, u64 l1, u64 l2);
-static u32 engine_open(struct engine *e, u64 l0, u64 l1, u64 l2, u64 l3);
-static u64 engine_part(struct engine *e, u64 l0, u32 l1);
-static u32 engine_rule(struct engine *e, u64 l0);
-static void engine_run(struct engine *e, u64 l0, u64 l1, u64 l2, u64 l3, u64 l4, u64 l5, u64 l6, u64 l7);
-static u64 engine_form_codes(struct engine *e, u64 l0, u64 l1, u64 l2, u64 l3);
-static u64 engine_form_name(struct engine *e, u64 l0, u64 l1, u64 l2, u64 l3);
-static u64 engine_form_pointer(struct engine *e, u64 l0, u64 l1);
-static u64 engine_form_text(struct engine *e, u64 l0, u64 l1, u64 l2, u64 l3);
-static void engine_turn(struct engine *e, u64 l0, u64 l1, u64 l2, u64 l3, u64 l4, u64 l5, u32 l6, u64 l7);
+static void multi3(u64 stack, u64 l0, u64 l1, u64 l2, u64 l3, u64 l4);
+static void ashlti3(u64 stack, u64 l0, u64 l1, u64 l2, u32 l3);
+static void lshrti3(u64 stack, u64 l0, u64 l1, u64 l2, u32 l3);
+static void core_machine_Machine_next_function(u64 stack, u64 l0, u64 l1);
+static void functions_arguments_Arguments_next(u64 stack, u64 l0, u64 l1, u64 l2);
+static void functions_function_function_of(u64 stack, u64 l0, u64 l1, u64 l2);
+static u32 store_arguments_before_far_comma(u64 stack, u64 l0, u64 l1);
+static void core_scan_pass(u64 stack, u64 l0, u64 l1, u64 l2, u64 l3, u64 l4);
+static u32 space_space_Space_find_way(u64 stack, u64 l0, u64 l1);
+static void devices_slice_source_SliceSourceSource_take_held(u64 stack, u64 l0, u32 l1, u64 l2);
+static u32 space_space_Space_push_in_way(u64 stack, u64 l0, u64 l1);
+static void forms_work_Work_find_among_more(u64 stack, u64 l0, u64 l1, u32 l2, u32 l3);
+static void forms_work_Work_find_among_few(u64 stack, u64 l0, u64 l1, u32 l2, u32 l3);
+static void forms_work_Work_stored(u64 stack, u64 l0, u64 l1, u32 l2);
+static u32 core_display_show_form(u64 stack, u64 l0, u64 l1);
+static void functions_comparing_equal(u64 stack, u64 l0, u64 l1, u64 l2);
+static void functions_comparing_greater(u64 stack, u64 l0, u64 l1, u64 l2);
+static void functions_arithmetic_arithmetic(u64 stack, u64 l0, u64 l1, u32 l2, u64 l3);
+static void functions_bit_strings_union(u64 stack, u64 l0, u64 l1, u64 l2);
+static void functions_bit_strings_intersection(u64 stack, u64 l0, u64 l1, u64 l2);
+static void functions_bit_strings_give_bits(u64 stack, u64 l0, u64 l1, u32 l2, u32 l3, u64 l4);
+static void functions_bit_strings_shift(u64 stack, u64 l0, u64 l1, u64 l2);
+static void functions_bit_strings_rotate(u64 stack, u64 l0, u64 l1, u64 l2);
+static void functions_form_parts_call_segment(u64 stack, u64 l0, u64 l1, u64 l2);
+static void functions_form_parts_call_character(u64 stack, u64 l0, u64 l1, u64 l2);
+static void functions_form_parts_call_number(u64 stack, u64 l0, u64 l1, u64 l2);
+static void functions_form_parts_initial_part(u64 stack, u64 l0, u64 l1, u64 l2);
+static void functions_form_parts_call_restore(u64 stack, u64 l0, u64 l1, u64 l2);
+static void functions_form_calls_define_string(u64 stack, u64 l0, u64 l1, u64 l2);
+static void functions_form_calls_segment_string(u64 stack, u64 l0, u64 l1, u64 l2);
+static void functions_form_calls_delete_definition(u64 stack, u64 l0, u64 l1, u64 l2);
+static void functions_form_calls_delete_all(u64 stack, u64 l0, u64 l1);
+static void functions_form_calls_list_names(u64 stack, u64 l0, u64 l1, u64 l2);
+static void store_fill_load_items_in_way(u64 stack, u64 l0, u64 l1, u32 l2, u32 l3);
+static void core_slice_edits_slice_T_copy_from_slice(u64 stack, u64 l0, u64 l1, u64 l2);
+static void space_copies_copy_long(u64 stack, u64 l0, u64 l1, u64 l2, u64 l3);
+static u32 forms_work_Work_fill_other(u64 stack, u64 l0, u32 l1, u32 l2, u32 l3);
+static u32 store_fill_fill_items(u64 stack, u64 l0, u32 l1, u32 l2, u32 l3, u32 l4);
+static void core_delivery_deliver(u64 stack, u64 l0, u32 l1, u32 l2);
+static void space_copies_copy_more(u64 stack, u64 l0, u64 l1, u64 l2, u64 l3);
+static void space_copies_copy_parts(u64 stack, u64 l0, u64 l1, u64 l2);
+static void space_space_Space_move_active(u64 stack, u64 l0, u32 l1);
+static u64 c_filling_put_characters(u64 stack, u64 l0, u64 l1, u64 l2, u64 l3, u64 l4);
+static void store_index_index_worthwhile(u64 stack, u64 l0, u32 l1, u64 l2);
+static void store_store_find_some(u64 stack, u64 l0, u64 l1, u32 l2, u32 l3, u32 l4, u64 l5, u64 l6);
+static void store_store_find_round(u64 stack, u64 l0, u64 l1, u32 l2, u32 l3, u32 l4, u64 l5, u64 l6);
+static u32 store_index_index_fitting(u64 stack, u64 l0, u32 l1);
+static void store_index_index_from(u64 stack, u64 l0, u32 l1, u32 l2, u32 l3);
+static u32 store_store_place_of(u64 stack, u64 l0, u32 l1, u32 l2, u32 l3);
+static u32 core_display_show_items(u64 stack, u64 l0, u32 l1, u32 l2, u64 l3);
+static void itoa_Buffer_format(u64 stack, u64 l0, u64 l1, u32 l2);
+static u32 forms_work_Work_load_other_part(u64 stack, u64 l0, u32 l1, u32 l2);
+static u32 functions_arguments_put_part(u64 stack, u64 l0, u32 l1, u32 l2);
+static u32 values_number_long_greater(u64 stack, u64 l0, u64 l1, u64 l2, u64 l3);
+static void values_number_long_tail(u64 stack, u64 l0, u64 l1, u64 l2);
+static u32 forms_work_Work_pointer(u64 stack, u64 l0, u32 l1);
+static u32 forms_work_Work_body_len(u64 stack, u64 l0, u32 l1);
+static void forms_work_Work_body(u64 stack, u64 l0, u64 l1, u32 l2);
+static void functions_form_parts_take_part(u64 stack, u64 l0, u64 l1, u32 l2, u32 l3, u32 l4, u32 l5);
+static void forms_work_Work_set_pointer(u64 stack, u64 l0, u32 l1, u32 l2);
+static u32 forms_work_Work_copy_body(u64 stack, u64 l0, u32 l1, u32 l2, u32 l3);
+static u32 space_space_Space_copy_store(u64 stack, u64 l0, u32 l1, u32 l2);
+static void store_borders_lay_borders(u64 stack, u64 l0, u32 l1, u32 l2);
+static void space_space_Space_write_part(u64 stack, u64 l0, u32 l1, u32 l2, u32 l3);
+static void store_define_take_out(u64 stack, u64 l0, u32 l1, u32 l2, u32 l3);
+static void space_space_Space_remove_store(u64 stack, u64 l0, u32 l1, u32 l2);
+static u32 forms_work_Work_fill_body(u64 stack, u64 l0, u32 l1, u32 l2, u32 l3);
+static void space_filling_fill_each(u64 stack, u64 l0, u64 l1, u64 l2, u64 l3, u64 l4, u64 l5, u64 l6);
+static void forms_work_Work_form(u64 stack, u64 l0, u64 l1, u32 l2);
+static u32 core_machine_printing_call_len(u64 stack, u64 l0, u32 l1);
+static u32 core_display_show_items2(u64 stack, u64 l0, u32 l1, u32 l2, u64 l3);
+static u64 engine_active(u64 stack, u64 l0, u64 l1, u64 l2);
+static void engine_again(u64 stack, u64 l0, u64 l1);
+static u32 engine_awaits(u64 stack, u64 l0);
+static u64 engine_form_count(u64 stack, u64 l0);
+static u64 engine_machine_size(u64 stack);
+static u32 engine_meta(u64 stack, u64 l0);
+static u64 engine_neutral(u64 stack, u64 l0, u64 l1, u64 l2);
+static u32 engine_open(u64 stack, u64 l0, u64 l1, u64 l2, u64 l3);
+static u64 engine_part(u64 stack, u64 l0, u32 l1);
+static u32 engine_rule(u64 stack, u64 l0);
+static void engine_run(u64 stack, u64 l0, u64 l1, u64 l2, u64 l3, u64 l4, u64 l5, u64 l6, u64 l7);
+static u64 engine_form_codes(u64 stack, u64 l0, u64 l1, u64 l2, u64 l3);
+static u64 engine_form_name(u64 stack, u64 l0, u64 l1, u64 l2, u64 l3);
+static u64 engine_form_pointer(u64 stack, u64 l0, u64 l1);
+static u64 engine_form_text(u64 stack, u64 l0, u64 l1, u64 l2, u64 l3);
+static void engine_turn(u64 stack, u64 l0, u64 l1, u64 l2, u64 l3, u64 l4, u64 l5, u32 l6, u64 l7);
 
-static void multi3(struct engine *e, u64 l0, u64 l1, u64 l2, u64 l3, u64 l4) {
+static void multi3(u64 stack, u64 l0, u64 l1, u64 l2, u64 l3, u64 l4) {
     u64 l5 = 0;
     u64 l6 = 0;
-    (void)e;
+    (void)stack;
     l5 = l3 >> 32;
     l6 = l1 >> 32;
     const u64 t1 = ((l5 * l6) + (l2 * l3)) + (l1 * l4);
@@ -327,9 +320,9 @@ static void multi3(struct engine *e, u64 l0, u64 l1, u64 l2, u64 l3, u64 l4) {
     store64(l0, (l2 & 4294967295ull) | (l1 << 32));
 }
 
-static void ashlti3(struct engine *e, u64 l0, u64 l1, u64 l2, u32 l3) {
+static void ashlti3(u64 stack, u64 l0, u64 l1, u64 l2, u32 l3) {
     u64 l4 = 0;
-    (void)e;
+    (void)stack;
     u64 v1;
     {
         if (l3 & 64u) {
@@ -346,9 +339,9 @@ static void ashlti3(struct engine *e, u64 l0, u64 l1, u64 l2, u32 l3) {
     store64(l0, l1);
 }
 
-static void lshrti3(struct engine *e, u64 l0, u64 l1, u64 l2, u32 l3) {
+static void lshrti3(u64 stack, u64 l0, u64 l1, u64 l2, u32 l3) {
     u64 l4 = 0;
-    (void)e;
+    (void)stack;
     const u64 t1 = l0;
     u64 v2;
     {
@@ -365,67 +358,76 @@ static void lshrti3(struct engine *e, u64 l0, u64 l1, u64 l2, u32 l3) {
     store64(l0, l1);
 }
 
-static u32 core_machine_Machine_awaits(struct engine *e, u64 l0) {
-    u64 l1 = 0;
+static void core_machine_Machine_next_function(u64 stack, u64 l0, u64 l1) {
     u64 l2 = 0;
-    u32 l3 = 0;
+    u64 l3 = 0;
     u32 l4 = 0;
     u32 l5 = 0;
     u32 l6 = 0;
-    l1 = e->stack_pointer - 32ull;
-    e->stack_pointer = l1;
-    if ((i64)(l1 - e->stack) >= (i64)16ull) {
+    u32 l7 = 0;
+    u32 l8 = 0;
+    l2 = stack - 32ull;
+    stack = l2;
+    u32 v1;
+    {
         {
-            const u32 t3 = load8(l0 + 84ull);
-            if (t3 == 1u) goto L2;
-            const u64 t4 = load64(l0 + 72ull);
-            const u64 t5 = load64(l0 + 64ull);
-            if (t4 >= t5) goto L2;
-            const u32 t6 = load32(l0 + 24ull);
-            l3 = t6;
-            if (l3 == 0) goto L2;
-            const u64 t7 = load64(l0);
-            l2 = t7;
-            const u32 t8 = load32(l0 + 28ull);
-            const u32 t9 = load8((l2 + ((u64)(t8 - l3) << 3)) + 1ull);
-            if (t9 != 41u) goto L2;
-            const u32 t10 = load32(l0 + 32ull);
-            l3 = t10;
-            if (l3 == 0) goto L2;
-            store32(l1 + 24u, 0u);
-            store32(l1 + 12u, l3);
-            const u32 t11 = load32(l0 + 20ull);
-            l3 = t11;
-            store32(l1 + 20u, l3);
-            store32(l1 + 16u, l3);
-            functions_arguments_Arguments_next(e, l1, l1 + 12ull, l0);
-            const u32 t12 = load32(l0 + 16ull);
-            l3 = t12;
-            const u32 t13 = load32(l1 + 4u);
-            l5 = t13;
-            const u32 t14 = load32(l1);
-            l6 = t14;
-            store8(l1 + 30u, (u8)0u);
-            store16(l1 + 28u, (u16)0u);
-            l0 = (u64)(l3 + l6);
-            if (((u64)(l3 + l5) - l0) != 2ull) goto L2;
-            l0 = l2 + (l0 << 3);
-            functions_function_function_of(e, l1 + 28ull, l0, l0 + 8ull);
-            const u32 t15 = load8(l1 + 28u);
-            if (t15 != 1u) goto L2;
-            const u64 t16 = load8(l1 + 29u);
-            const u32 t17 = load8(t16 + TABLES + 3000u);
-            l4 = t17;
+            {
+                const u32 t4 = load8(l1 + 84ull);
+                if (t4 == 1u) goto L2;
+                const u64 t5 = load64(l1 + 72ull);
+                const u64 t6 = load64(l1 + 64ull);
+                if (t5 >= t6) goto L2;
+                const u32 t7 = load32(l1 + 24ull);
+                l4 = t7;
+                if (l4 == 0) goto L2;
+                const u64 t8 = load64(l1);
+                l3 = t8;
+                const u32 t9 = load32(l1 + 28ull);
+                const u32 t10 = load8((l3 + ((u64)(t9 - l4) << 3)) + 1ull);
+                if (t10 != 41u) goto L2;
+                const u32 t11 = load32(l1 + 32ull);
+                l4 = t11;
+                if (l4 == 0) { v1 = 0u; goto L1; }
+                store32(l2 + 24u, 0u);
+                store32(l2 + 12u, l4);
+                const u32 t12 = load32(l1 + 20ull);
+                l4 = t12;
+                store32(l2 + 20u, l4);
+                store32(l2 + 16u, l4);
+                functions_arguments_Arguments_next(stack, l2, l2 + 12ull, l1);
+                const u32 t13 = load32(l1 + 16ull);
+                l4 = t13;
+                const u32 t14 = load32(l2 + 4u);
+                l7 = t14;
+                const u32 t15 = load32(l2);
+                l8 = t15;
+                store8(l2 + 30u, (u8)0u);
+                store16(l2 + 28u, (u16)0u);
+                l1 = (u64)(l4 + l8);
+                if (((u64)(l4 + l7) - l1) != 2ull) { v1 = 0u; goto L1; }
+                l1 = l3 + (l1 << 3);
+                functions_function_function_of(stack, l2 + 28ull, l1, l1 + 8ull);
+                const u32 t16 = load8(l2 + 30u);
+                l5 = t16;
+                const u32 t17 = load8(l2 + 28u);
+                l6 = t17;
+                const u32 t18 = load8(l2 + 29u);
+                v1 = t18; goto L1;
+            }
+            trap();
         }
         L2:;
-        e->stack_pointer = l1 + 32ull;
-        return l4;
+        v1 = 0u;
     }
-    trap();
-    return 0;
+    L1:;
+    l4 = v1;
+    store8(l0, (u8)l6);
+    store8(l0 + 2ull, (u8)l5);
+    store8(l0 + 1ull, (u8)l4);
+    stack = l2 + 32ull;
 }
 
-static void functions_arguments_Arguments_next(struct engine *e, u64 l0, u64 l1, u64 l2) {
+static void functions_arguments_Arguments_next(u64 stack, u64 l0, u64 l1, u64 l2) {
     u64 l3 = 0;
     u64 l4 = 0;
     u32 l5 = 0;
@@ -436,8 +438,8 @@ static void functions_arguments_Arguments_next(struct engine *e, u64 l0, u64 l1,
             u32 v3;
             {
                 {
-                    l4 = e->stack_pointer;
-                    if ((i64)(l4 - e->stack) >= (i64)16ull) {
+                    l4 = stack;
+                    {
                         const u32 t6 = load32(l1 + 4ull);
                         l5 = t6;
                         const u32 t7 = load32(l1);
@@ -484,7 +486,7 @@ static void functions_arguments_Arguments_next(struct engine *e, u64 l0, u64 l1,
                         if (t21 == 2u) { v3 = 2u; goto L3; }
                         const u32 t22 = load8(l2 + 24u);
                         if (t22 == 2u) { v3 = 3u; goto L3; }
-                        const u32 t23 = store_arguments_before_far_comma(e, l2, l3);
+                        const u32 t23 = store_arguments_before_far_comma(stack, l2, l3);
                         v3 = t23; goto L3;
                     }
                     trap();
@@ -501,16 +503,17 @@ static void functions_arguments_Arguments_next(struct engine *e, u64 l0, u64 l1,
     L1:;
     store32(l0 + 4u, l5);
     store32(l0, l6);
-    e->stack_pointer = l4;
+    stack = l4;
 }
 
-static void functions_function_function_of(struct engine *e, u64 l0, u64 l1, u64 l2) {
+static void functions_function_function_of(u64 stack, u64 l0, u64 l1, u64 l2) {
     u32 l3 = 0;
     u32 l4 = 0;
     u32 l5 = 0;
     u32 l6 = 0;
     u64 l7 = 0;
-    if ((i64)(e->stack_pointer - e->stack) >= (i64)16ull) {
+    (void)stack;
+    {
         const u32 t2 = load8(l1);
         u64 v3;
         if (t2) {
@@ -756,14 +759,15 @@ static void functions_function_function_of(struct engine *e, u64 l0, u64 l1, u64
     trap();
 }
 
-static u32 store_arguments_before_far_comma(struct engine *e, u64 l0, u64 l1) {
+static u32 store_arguments_before_far_comma(u64 stack, u64 l0, u64 l1) {
     u64 l2 = 0;
     u64 l3 = 0;
     u64 l4 = 0;
     u64 l5 = 0;
     u64 l6 = 0;
     u32 l7 = 0;
-    if ((i64)(e->stack_pointer - e->stack) >= (i64)16ull) {
+    (void)stack;
+    {
         l3 = 18446744073709551612ull;
         l5 = 4ull;
         {
@@ -838,7 +842,7 @@ static u32 store_arguments_before_far_comma(struct engine *e, u64 l0, u64 l1) {
     return 0;
 }
 
-static void core_scan_pass(struct engine *e, u64 l0, u64 l1, u64 l2, u64 l3, u64 l4) {
+static void core_scan_pass(u64 stack, u64 l0, u64 l1, u64 l2, u64 l3, u64 l4) {
     u32 l5 = 0;
     u32 l6 = 0;
     u32 l7 = 0;
@@ -868,14 +872,14 @@ static void core_scan_pass(struct engine *e, u64 l0, u64 l1, u64 l2, u64 l3, u64
                         {
                             {
                                 {
-                                    l19 = e->stack_pointer;
-                                    if ((i64)(l19 - e->stack) >= (i64)16ull) {
+                                    l19 = stack;
+                                    {
                                         const u32 t10 = load32(l1 + 24ull);
                                         l6 = t10;
                                         if (l6 == 0) {
                                             store64(l0, 1ull);
                                             store64(l0 + 8ull, 0ull);
-                                            e->stack_pointer = l19;
+                                            stack = l19;
                                             return;
                                         }
                                         {
@@ -904,8 +908,8 @@ static void core_scan_pass(struct engine *e, u64 l0, u64 l1, u64 l2, u64 l3, u64
                                                             l16 = 0ull;
                                                             l6 = 0u;
                                                             {
-                                                                l18 = e->stack_pointer;
-                                                                if ((i64)(l18 - e->stack) >= (i64)16ull) {
+                                                                l18 = stack;
+                                                                {
                                                                     const u32 t23 = load32(l1 + 16ull);
                                                                     l10 = t23;
                                                                     const u32 t24 = load32(l1 + 20ull);
@@ -1177,7 +1181,7 @@ static void core_scan_pass(struct engine *e, u64 l0, u64 l1, u64 l2, u64 l3, u64
                                                                                 store32(l4 + 4ull, t93);
                                                                                 goto L90;
                                                                             }
-                                                                            space_copies_copy_more(e, l17, l16, l2, l4);
+                                                                            space_copies_copy_more(stack, l17, l16, l2, l4);
                                                                         }
                                                                         L90:;
                                                                         l4 = l1 + 20ull;
@@ -1187,7 +1191,7 @@ static void core_scan_pass(struct engine *e, u64 l0, u64 l1, u64 l2, u64 l3, u64
                                                                     }
                                                                     L28:;
                                                                     store32(l1 + 24ull, l9);
-                                                                    e->stack_pointer = l18;
+                                                                    stack = l18;
                                                                     goto L21;
                                                                 }
                                                                 trap();
@@ -1195,7 +1199,7 @@ static void core_scan_pass(struct engine *e, u64 l0, u64 l1, u64 l2, u64 l3, u64
                                                             L21:;
                                                             store64(l0 + 8ull, 1ull);
                                                             store64(l0, 0ull);
-                                                            e->stack_pointer = l19;
+                                                            stack = l19;
                                                             return;
                                                         }
                                                         L16:;
@@ -1216,7 +1220,7 @@ static void core_scan_pass(struct engine *e, u64 l0, u64 l1, u64 l2, u64 l3, u64
                                                         l5 = l5 != 0u;
                                                         store32(l0 + 4ull, l5);
                                                         store32(l0, l5);
-                                                        e->stack_pointer = l19;
+                                                        stack = l19;
                                                         return;
                                                     }
                                                     L15:;
@@ -1460,8 +1464,8 @@ static void core_scan_pass(struct engine *e, u64 l0, u64 l1, u64 l2, u64 l3, u64
                                                 u64 v156;
                                                 {
                                                     l5 = 0u;
-                                                    l22 = e->stack_pointer;
-                                                    if ((i64)(l22 - e->stack) >= (i64)16ull) {
+                                                    l22 = stack;
+                                                    {
                                                         const u32 t158 = load32(l1 + 28ull);
                                                         l9 = t158;
                                                         const u32 t159 = load32(l1 + 24ull);
@@ -1494,7 +1498,7 @@ static void core_scan_pass(struct engine *e, u64 l0, u64 l1, u64 l2, u64 l3, u64
                                                             {
                                                                 l16 = l18;
                                                                 l2 = l20;
-                                                                if ((i64)(e->stack_pointer - e->stack) >= (i64)16ull) {
+                                                                {
                                                                     {
                                                                         l18 = l16 - l2;
                                                                         if (l18 < 8ull) goto L167;
@@ -1567,14 +1571,14 @@ static void core_scan_pass(struct engine *e, u64 l0, u64 l1, u64 l2, u64 l3, u64
                                                                 store32(l2 + 4ull, t195);
                                                                 goto L192;
                                                             }
-                                                            space_copies_copy_more(e, l17, l16, l15, l2);
+                                                            space_copies_copy_more(stack, l17, l16, l15, l2);
                                                         }
                                                         L192:;
                                                         store32(l1 + 24ull, l6);
                                                         l1 = l1 + 20ull;
                                                         const u32 t196 = load32(l1);
                                                         store32(l1, t196 + l5);
-                                                        e->stack_pointer = l22;
+                                                        stack = l22;
                                                         v156 = (u64)l5; goto L156;
                                                     }
                                                     trap();
@@ -1682,7 +1686,7 @@ static void core_scan_pass(struct engine *e, u64 l0, u64 l1, u64 l2, u64 l3, u64
                         store32(l1 + 24ull, l6 - l7);
                         store64(l0 + 8ull, (u64)l7);
                         store64(l0, 0ull);
-                        e->stack_pointer = l19;
+                        stack = l19;
                         return;
                     }
                     L5:;
@@ -1746,13 +1750,13 @@ static void core_scan_pass(struct engine *e, u64 l0, u64 l1, u64 l2, u64 l3, u64
                 store32(l4, l5);
                 store64(l0 + 8ull, l2);
                 store64(l0, 0ull);
-                e->stack_pointer = l19;
+                stack = l19;
                 return;
             }
             L3:;
             store64(l0, 0ull);
             store64(l0 + 8ull, l4);
-            e->stack_pointer = l19;
+            stack = l19;
             return;
         }
         L2:;
@@ -1805,30 +1809,30 @@ static void core_scan_pass(struct engine *e, u64 l0, u64 l1, u64 l2, u64 l3, u64
     l2 = v1;
     store64(l0, 0ull);
     store64(l0 + 8ull, l2);
-    e->stack_pointer = l19;
+    stack = l19;
 }
 
-static u32 space_space_Space_find_way(struct engine *e, u64 l0, u64 l1) {
+static u32 space_space_Space_find_way(u64 stack, u64 l0, u64 l1) {
     u64 l2 = 0;
     u32 l3 = 0;
-    l2 = e->stack_pointer;
-    if ((i64)(l2 - e->stack) >= (i64)16ull) {
+    l2 = stack;
+    {
         const u32 t2 = load32(l0 + 8ull);
         const u32 t3 = load32(l0 + 24ull);
         const u32 t4 = load32(l0 + 16ull);
         const u32 t5 = load32(l0 + 20ull);
         l3 = l1 <= (u64)((t2 - (t3 + (t4 + t5))));
         if (l3) {
-            space_space_Space_move_active(e, l0, 0u);
+            space_space_Space_move_active(stack, l0, 0u);
         }
-        e->stack_pointer = l2;
+        stack = l2;
         return l3;
     }
     trap();
     return 0;
 }
 
-static void devices_slice_source_SliceSourceSource_take_held(struct engine *e, u64 l0, u32 l1, u64 l2) {
+static void devices_slice_source_SliceSourceSource_take_held(u64 stack, u64 l0, u32 l1, u64 l2) {
     u64 l3 = 0;
     u64 l4 = 0;
     u64 l5 = 0;
@@ -1844,8 +1848,8 @@ static void devices_slice_source_SliceSourceSource_take_held(struct engine *e, u
     u32 l15 = 0;
     u32 l16 = 0;
     u32 l17 = 0;
-    l12 = e->stack_pointer;
-    if ((i64)(l12 - e->stack) >= (i64)16ull) {
+    l12 = stack;
+    {
         const u64 t2 = load64(l0);
         l8 = t2;
         {
@@ -1980,7 +1984,7 @@ static void devices_slice_source_SliceSourceSource_take_held(struct engine *e, u
         l15 = (u32)l9;
         const u32 t47 = load32(l2 + 28ull);
         if (l15 > (t47 - l17)) {
-            space_space_Space_move_active(e, l2, 0u);
+            space_space_Space_move_active(stack, l2, 0u);
             const u32 t49 = load32(l2 + 20ull);
             const u32 t50 = load32(l2 + 16ull);
             l16 = t49 + t50;
@@ -2069,13 +2073,13 @@ static void devices_slice_source_SliceSourceSource_take_held(struct engine *e, u
         store64(l0 + 8u, t69 - l9);
         const u64 t70 = load64(l0);
         store64(l0, t70 + l9);
-        e->stack_pointer = l12;
+        stack = l12;
         return;
     }
     trap();
 }
 
-static u32 space_space_Space_push_in_way(struct engine *e, u64 l0, u64 l1) {
+static u32 space_space_Space_push_in_way(u64 stack, u64 l0, u64 l1) {
     u32 l2 = 0;
     u32 l3 = 0;
     u32 l4 = 0;
@@ -2086,15 +2090,15 @@ static u32 space_space_Space_push_in_way(struct engine *e, u64 l0, u64 l1) {
     u64 l9 = 0;
     u64 l10 = 0;
     u64 l11 = 0;
-    l9 = e->stack_pointer;
-    if ((i64)(l9 - e->stack) >= (i64)16ull) {
+    l9 = stack;
+    {
         const u32 t2 = load32(l1 + 4ull);
         l3 = t2;
         const u32 t3 = load8(l1 + 1ull);
         l6 = t3;
         const u32 t4 = load8(l1);
         l2 = t4;
-        const u32 t5 = space_space_Space_find_way(e, l0, 1ull);
+        const u32 t5 = space_space_Space_find_way(stack, l0, 1ull);
         l7 = t5;
         if (l7) {
             l10 = l0 + 32ull;
@@ -2123,14 +2127,14 @@ static u32 space_space_Space_push_in_way(struct engine *e, u64 l0, u64 l1) {
             store32(l11, l2);
             store32(l10, (l8 == 1u) ? l2 : l4);
         }
-        e->stack_pointer = l9;
+        stack = l9;
         return l7;
     }
     trap();
     return 0;
 }
 
-static void forms_work_Work_find_among_more(struct engine *e, u64 l0, u64 l1, u32 l2, u32 l3) {
+static void forms_work_Work_find_among_more(u64 stack, u64 l0, u64 l1, u32 l2, u32 l3) {
     u64 l4 = 0;
     u64 l5 = 0;
     u64 l6 = 0;
@@ -2154,8 +2158,8 @@ static void forms_work_Work_find_among_more(struct engine *e, u64 l0, u64 l1, u3
     u32 l24 = 0;
     u32 l25 = 0;
     u32 l26 = 0;
-    l4 = e->stack_pointer - 48ull;
-    e->stack_pointer = l4;
+    l4 = stack - 48ull;
+    stack = l4;
     {
         {
             {
@@ -2163,7 +2167,6 @@ static void forms_work_Work_find_among_more(struct engine *e, u64 l0, u64 l1, u3
                     {
                         {
                             l10 = l4;
-                            if ((i64)(l10 - e->stack) < (i64)16ull) goto L6;
                             l11 = l1 + 52ull;
                             {
                                 const u32 t8 = load32(l1 + 40ull);
@@ -2171,7 +2174,7 @@ static void forms_work_Work_find_among_more(struct engine *e, u64 l0, u64 l1, u3
                                 if (l23 < 12u) goto L7;
                                 const u32 t9 = load32(l11);
                                 if (l23 >= (t9 >> 3)) goto L7;
-                                store_index_index_worthwhile(e, l1, l23, l11);
+                                store_index_index_worthwhile(stack, l1, l23, l11);
                                 const u32 t10 = load32(l1 + 40ull);
                                 l23 = t10;
                             }
@@ -2340,7 +2343,7 @@ static void forms_work_Work_find_among_more(struct engine *e, u64 l0, u64 l1, u3
                                     store32(l11, (l2 < l23) ? 4294967295u : l2);
                                     goto L1;
                                 }
-                                store_store_find_some(e, l10 + 16ull, l6, l25, l26, l23, l14, l7);
+                                store_store_find_some(stack, l10 + 16ull, l6, l25, l26, l23, l14, l7);
                                 const u32 t51 = load8(l10 + 16u);
                                 if (t51 == 1u) {
                                     const u64 t53 = load64(l10 + 20u);
@@ -2357,7 +2360,7 @@ static void forms_work_Work_find_among_more(struct engine *e, u64 l0, u64 l1, u3
                                     l3 = 1u;
                                     goto L1;
                                 }
-                                store_store_find_some(e, l10 + 32ull, l6, 0u, 0u, l25, l14, l7);
+                                store_store_find_some(stack, l10 + 32ull, l6, 0u, 0u, l25, l14, l7);
                                 const u32 t56 = load32(l10 + 36u);
                                 const u32 t57 = load8(l10 + 32u);
                                 l3 = t57;
@@ -2450,7 +2453,7 @@ static void forms_work_Work_find_among_more(struct engine *e, u64 l0, u64 l1, u3
                                 }
                                 goto L3;
                             }
-                            store_store_find_round(e, l10, l6, l25, l26, l23, l14, l7);
+                            store_store_find_round(stack, l10, l6, l25, l26, l23, l14, l7);
                             const u32 t81 = load8(l10);
                             l3 = t81;
                             goto L2;
@@ -2622,10 +2625,10 @@ static void forms_work_Work_find_among_more(struct engine *e, u64 l0, u64 l1, u3
     }
     store32(t119 + 4u, v120);
     store8(l0, (u8)l3);
-    e->stack_pointer = l10 + 48ull;
+    stack = l10 + 48ull;
 }
 
-static void forms_work_Work_find_among_few(struct engine *e, u64 l0, u64 l1, u32 l2, u32 l3) {
+static void forms_work_Work_find_among_few(u64 stack, u64 l0, u64 l1, u32 l2, u32 l3) {
     u64 l4 = 0;
     u64 l5 = 0;
     u64 l6 = 0;
@@ -2637,10 +2640,11 @@ static void forms_work_Work_find_among_few(struct engine *e, u64 l0, u64 l1, u32
     u64 l12 = 0;
     u32 l13 = 0;
     u32 l14 = 0;
+    (void)stack;
     u32 v1;
     {
         {
-            if ((i64)(e->stack_pointer - e->stack) >= (i64)16ull) {
+            {
                 const u64 t4 = load64(l1);
                 l5 = t4;
                 const u32 t5 = load32(l1 + 40ull);
@@ -2734,7 +2738,7 @@ static void forms_work_Work_find_among_few(struct engine *e, u64 l0, u64 l1, u32
     store8(l0, (u8)l3);
 }
 
-static void forms_work_Work_stored(struct engine *e, u64 l0, u64 l1, u32 l2) {
+static void forms_work_Work_stored(u64 stack, u64 l0, u64 l1, u32 l2) {
     u32 l3 = 0;
     u32 l4 = 0;
     u32 l5 = 0;
@@ -2743,7 +2747,8 @@ static void forms_work_Work_stored(struct engine *e, u64 l0, u64 l1, u32 l2) {
     u32 l8 = 0;
     u64 l9 = 0;
     u64 l10 = 0;
-    if ((i64)(e->stack_pointer - e->stack) >= (i64)16ull) {
+    (void)stack;
+    {
         const u32 t2 = load32(l1 + 48ull);
         l3 = t2;
         {
@@ -2846,17 +2851,17 @@ static void forms_work_Work_stored(struct engine *e, u64 l0, u64 l1, u32 l2) {
     trap();
 }
 
-static u32 core_display_show_form(struct engine *e, u64 l0, u64 l1) {
+static u32 core_display_show_form(u64 stack, u64 l0, u64 l1) {
     u64 l2 = 0;
     u64 l3 = 0;
     u64 l4 = 0;
     u64 l5 = 0;
     u32 l6 = 0;
-    l4 = e->stack_pointer;
-    if ((i64)(l4 - e->stack) >= (i64)16ull) {
+    l4 = stack;
+    {
         const u32 t2 = load32(l0 + 32ull);
         l6 = t2;
-        const u32 t3 = core_display_show_items(e, l0, 0u, l6, l1);
+        const u32 t3 = core_display_show_items(stack, l0, 0u, l6, l1);
         if ((t3 & 255u) == 0) {
             {
                 l3 = l1 + 16ull;
@@ -2885,9 +2890,9 @@ static u32 core_display_show_form(struct engine *e, u64 l0, u64 l1) {
                 const u64 t15 = load64(l3);
                 store64(l3, t15 + 1ull);
                 const u32 t16 = load32(l0 + 24ull);
-                const u32 t17 = core_display_show_items(e, l0, l6, t16, l1);
+                const u32 t17 = core_display_show_items(stack, l0, l6, t16, l1);
                 l6 = t17;
-                e->stack_pointer = l4;
+                stack = l4;
                 return l6 & 255u;
             }
             L5:;
@@ -2895,14 +2900,14 @@ static u32 core_display_show_form(struct engine *e, u64 l0, u64 l1) {
             const u64 t18 = load64(l1);
             store64(l1, t18 + 1ull);
         }
-        e->stack_pointer = l4;
+        stack = l4;
         return 1u;
     }
     trap();
     return 0;
 }
 
-static void functions_comparing_equal(struct engine *e, u64 l0, u64 l1, u64 l2) {
+static void functions_comparing_equal(u64 stack, u64 l0, u64 l1, u64 l2) {
     u64 l3 = 0;
     u64 l4 = 0;
     u64 l5 = 0;
@@ -2917,34 +2922,34 @@ static void functions_comparing_equal(struct engine *e, u64 l0, u64 l1, u64 l2) 
     u32 l14 = 0;
     u32 l15 = 0;
     u32 l16 = 0;
-    l3 = e->stack_pointer - 48ull;
-    e->stack_pointer = l3;
+    l3 = stack - 48ull;
+    stack = l3;
     u64 v1;
     {
         {
-            if ((i64)(l3 - e->stack) >= (i64)16ull) {
+            {
                 const u64 t4 = load64(l2 + 8u);
                 store64(l3 + 40u, t4);
                 const u64 t5 = load64(l2);
                 store64(l3 + 32u, t5);
                 const u32 t6 = load8(l3 + 44u);
                 l9 = t6;
-                functions_arguments_Arguments_next(e, l3 + 24ull, l3 + 32ull, l1);
+                functions_arguments_Arguments_next(stack, l3 + 24ull, l3 + 32ull, l1);
                 const u32 t7 = load32(l3 + 28u);
                 l10 = t7;
                 const u32 t8 = load32(l3 + 24u);
                 l11 = t8;
-                functions_arguments_Arguments_next(e, l3 + 16ull, l3 + 32ull, l1);
+                functions_arguments_Arguments_next(stack, l3 + 16ull, l3 + 32ull, l1);
                 const u32 t9 = load32(l3 + 20u);
                 l7 = t9;
                 const u32 t10 = load32(l3 + 16u);
                 l12 = t10;
-                functions_arguments_Arguments_next(e, l3 + 8ull, l3 + 32ull, l1);
+                functions_arguments_Arguments_next(stack, l3 + 8ull, l3 + 32ull, l1);
                 const u32 t11 = load32(l3 + 12u);
                 l13 = t11;
                 const u32 t12 = load32(l3 + 8u);
                 l14 = t12;
-                functions_arguments_Arguments_next(e, l3, l3 + 32ull, l1);
+                functions_arguments_Arguments_next(stack, l3, l3 + 32ull, l1);
                 const u64 t13 = load64(l1);
                 l5 = t13;
                 const u32 t14 = load32(l3 + 4u);
@@ -3004,15 +3009,15 @@ static void functions_comparing_equal(struct engine *e, u64 l0, u64 l1, u64 l2) 
                     l6 = (u64)l7;
                     {
                         if (l7 >= 4u) {
-                            core_slice_edits_slice_T_copy_from_slice(e, l5 + (l4 << 3), l5 + (l2 << 3), 4ull);
+                            core_slice_edits_slice_T_copy_from_slice(stack, l5 + (l4 << 3), l5 + (l2 << 3), 4ull);
                             l6 = l6 - 4ull;
-                            core_slice_edits_slice_T_copy_from_slice(e, l5 + ((l6 + l4) << 3), l5 + ((l2 + l6) << 3), 4ull);
+                            core_slice_edits_slice_T_copy_from_slice(stack, l5 + ((l6 + l4) << 3), l5 + ((l2 + l6) << 3), 4ull);
                             goto L28;
                         }
                         if (l7 >= 2u) {
-                            core_slice_edits_slice_T_copy_from_slice(e, l5 + (l4 << 3), l5 + (l2 << 3), 2ull);
+                            core_slice_edits_slice_T_copy_from_slice(stack, l5 + (l4 << 3), l5 + (l2 << 3), 2ull);
                             l6 = l6 - 2ull;
-                            core_slice_edits_slice_T_copy_from_slice(e, l5 + ((l6 + l4) << 3), l5 + ((l2 + l6) << 3), 2ull);
+                            core_slice_edits_slice_T_copy_from_slice(stack, l5 + ((l6 + l4) << 3), l5 + ((l2 + l6) << 3), 2ull);
                             goto L28;
                         }
                         if (l7 != 1u) goto L28;
@@ -3029,14 +3034,14 @@ static void functions_comparing_equal(struct engine *e, u64 l0, u64 l1, u64 l2) 
                 }
                 L24:;
                 l9 = 0u;
-                const u32 t33 = forms_work_Work_load_other_part(e, l1, l10, l11);
+                const u32 t33 = forms_work_Work_load_other_part(stack, l1, l10, l11);
                 if (t33 == 0) { v21 = 0u; goto L21; }
             }
             L23:;
             l9 = 2u;
             v21 = l7; goto L21;
         }
-        const u32 t34 = functions_arguments_put_part(e, l1, l10, l11);
+        const u32 t34 = functions_arguments_put_part(stack, l1, l10, l11);
         l9 = t34;
         v21 = 0u;
     }
@@ -3045,10 +3050,10 @@ static void functions_comparing_equal(struct engine *e, u64 l0, u64 l1, u64 l2) 
     store8(l0, (u8)l9);
     store32(l0 + 4ull, l8);
     store8(l0 + 1ull, (u8)0u);
-    e->stack_pointer = l3 + 48ull;
+    stack = l3 + 48ull;
 }
 
-static void functions_comparing_greater(struct engine *e, u64 l0, u64 l1, u64 l2) {
+static void functions_comparing_greater(u64 stack, u64 l0, u64 l1, u64 l2) {
     u64 l3 = 0;
     u64 l4 = 0;
     u64 l5 = 0;
@@ -3070,36 +3075,36 @@ static void functions_comparing_greater(struct engine *e, u64 l0, u64 l1, u64 l2
     u32 l21 = 0;
     u32 l22 = 0;
     u32 l23 = 0;
-    l3 = e->stack_pointer - 48ull;
-    e->stack_pointer = l3;
+    l3 = stack - 48ull;
+    stack = l3;
     u64 v1;
     {
         {
             {
                 {
-                    if ((i64)(l3 - e->stack) >= (i64)16ull) {
+                    {
                         const u64 t6 = load64(l2 + 8u);
                         store64(l3 + 40u, t6);
                         const u64 t7 = load64(l2);
                         store64(l3 + 32u, t7);
                         const u32 t8 = load8(l3 + 44u);
                         l18 = t8;
-                        functions_arguments_Arguments_next(e, l3 + 24ull, l3 + 32ull, l1);
+                        functions_arguments_Arguments_next(stack, l3 + 24ull, l3 + 32ull, l1);
                         const u32 t9 = load32(l3 + 28u);
                         l16 = t9;
                         const u32 t10 = load32(l3 + 24u);
                         l19 = t10;
-                        functions_arguments_Arguments_next(e, l3 + 16ull, l3 + 32ull, l1);
+                        functions_arguments_Arguments_next(stack, l3 + 16ull, l3 + 32ull, l1);
                         const u32 t11 = load32(l3 + 20u);
                         l17 = t11;
                         const u32 t12 = load32(l3 + 16u);
                         l21 = t12;
-                        functions_arguments_Arguments_next(e, l3 + 8ull, l3 + 32ull, l1);
+                        functions_arguments_Arguments_next(stack, l3 + 8ull, l3 + 32ull, l1);
                         const u32 t13 = load32(l3 + 12u);
                         l22 = t13;
                         const u32 t14 = load32(l3 + 8u);
                         l23 = t14;
-                        functions_arguments_Arguments_next(e, l3, l3 + 32ull, l1);
+                        functions_arguments_Arguments_next(stack, l3, l3 + 32ull, l1);
                         const u32 t15 = load32(l1 + 16ull);
                         l20 = t15;
                         l14 = (u64)(l17 + l20);
@@ -3127,7 +3132,7 @@ static void functions_comparing_greater(struct engine *e, u64 l0, u64 l1, u64 l2
                                 if (((t23 - 48u) & 255u) > 9u) goto L19;
                             }
                             L20:;
-                            const u32 t24 = values_number_long_greater(e, l12, l9, l11, l8);
+                            const u32 t24 = values_number_long_greater(stack, l12, l9, l11, l8);
                             if (t24 == 0) goto L3;
                             goto L2;
                         }
@@ -3215,7 +3220,7 @@ static void functions_comparing_greater(struct engine *e, u64 l0, u64 l1, u64 l2
                     trap();
                 }
                 L4:;
-                const u32 t41 = values_number_long_greater(e, l12, l9, l11, l8);
+                const u32 t41 = values_number_long_greater(stack, l12, l9, l11, l8);
                 if (t41) goto L2;
             }
             L3:;
@@ -3247,15 +3252,15 @@ static void functions_comparing_greater(struct engine *e, u64 l0, u64 l1, u64 l2
                     l5 = (u64)l17;
                     {
                         if (l17 >= 4u) {
-                            core_slice_edits_slice_T_copy_from_slice(e, l6 + (l4 << 3), l6 + (l2 << 3), 4ull);
+                            core_slice_edits_slice_T_copy_from_slice(stack, l6 + (l4 << 3), l6 + (l2 << 3), 4ull);
                             l5 = l5 - 4ull;
-                            core_slice_edits_slice_T_copy_from_slice(e, l6 + ((l5 + l4) << 3), l6 + ((l2 + l5) << 3), 4ull);
+                            core_slice_edits_slice_T_copy_from_slice(stack, l6 + ((l5 + l4) << 3), l6 + ((l2 + l5) << 3), 4ull);
                             goto L49;
                         }
                         if (l17 >= 2u) {
-                            core_slice_edits_slice_T_copy_from_slice(e, l6 + (l4 << 3), l6 + (l2 << 3), 2ull);
+                            core_slice_edits_slice_T_copy_from_slice(stack, l6 + (l4 << 3), l6 + (l2 << 3), 2ull);
                             l5 = l5 - 2ull;
-                            core_slice_edits_slice_T_copy_from_slice(e, l6 + ((l5 + l4) << 3), l6 + ((l2 + l5) << 3), 2ull);
+                            core_slice_edits_slice_T_copy_from_slice(stack, l6 + ((l5 + l4) << 3), l6 + ((l2 + l5) << 3), 2ull);
                             goto L49;
                         }
                         if (l17 != 1u) goto L49;
@@ -3272,14 +3277,14 @@ static void functions_comparing_greater(struct engine *e, u64 l0, u64 l1, u64 l2
                 }
                 L45:;
                 l18 = 0u;
-                const u32 t54 = forms_work_Work_load_other_part(e, l1, l16, l19);
+                const u32 t54 = forms_work_Work_load_other_part(stack, l1, l16, l19);
                 if (t54 == 0) { v42 = 0u; goto L42; }
             }
             L44:;
             l18 = 2u;
             v42 = l17; goto L42;
         }
-        const u32 t55 = functions_arguments_put_part(e, l1, l16, l19);
+        const u32 t55 = functions_arguments_put_part(stack, l1, l16, l19);
         l18 = t55;
         v42 = 0u;
     }
@@ -3288,10 +3293,10 @@ static void functions_comparing_greater(struct engine *e, u64 l0, u64 l1, u64 l2
     store8(l0, (u8)l18);
     store32(l0 + 4ull, l20);
     store8(l0 + 1ull, (u8)0u);
-    e->stack_pointer = l3 + 48ull;
+    stack = l3 + 48ull;
 }
 
-static void functions_arithmetic_arithmetic(struct engine *e, u64 l0, u64 l1, u32 l2, u64 l3) {
+static void functions_arithmetic_arithmetic(u64 stack, u64 l0, u64 l1, u32 l2, u64 l3) {
     u64 l4 = 0;
     u64 l5 = 0;
     u64 l6 = 0;
@@ -3318,8 +3323,8 @@ static void functions_arithmetic_arithmetic(struct engine *e, u64 l0, u64 l1, u3
     u32 l27 = 0;
     u32 l28 = 0;
     u32 l29 = 0;
-    l6 = e->stack_pointer - 256ull;
-    e->stack_pointer = l6;
+    l6 = stack - 256ull;
+    stack = l6;
     u32 v1;
     {
         {
@@ -3328,19 +3333,19 @@ static void functions_arithmetic_arithmetic(struct engine *e, u64 l0, u64 l1, u3
                     {
                         {
                             {
-                                if ((i64)(l6 - e->stack) >= (i64)16ull) {
+                                {
                                     const u64 t9 = load64(l3 + 8u);
                                     store64(l6 + 200u, t9);
                                     const u64 t10 = load64(l3);
                                     store64(l6 + 192u, t10);
                                     const u32 t11 = load8(l6 + 204u);
                                     l29 = t11;
-                                    functions_arguments_Arguments_next(e, l6 + 184ull, l6 + 192ull, l1);
+                                    functions_arguments_Arguments_next(stack, l6 + 184ull, l6 + 192ull, l1);
                                     const u32 t12 = load32(l6 + 188u);
                                     l21 = t12;
                                     const u32 t13 = load32(l6 + 184u);
                                     l26 = t13;
-                                    functions_arguments_Arguments_next(e, l6 + 176ull, l6 + 192ull, l1);
+                                    functions_arguments_Arguments_next(stack, l6 + 176ull, l6 + 192ull, l1);
                                     const u32 t14 = load32(l1 + 16ull);
                                     l23 = t14;
                                     const u64 t15 = load64(l1);
@@ -3406,7 +3411,7 @@ static void functions_arithmetic_arithmetic(struct engine *e, u64 l0, u64 l1, u3
                                             v18 = (u32)l8; goto L18;
                                         }
                                         L19:;
-                                        values_number_long_tail(e, l6 + 208ull, l11, l8);
+                                        values_number_long_tail(stack, l6 + 208ull, l11, l8);
                                         const u32 t29 = load8(l6 + 224u);
                                         l25 = t29 == 1u;
                                         const u64 t30 = load64(l6 + 248u);
@@ -3472,7 +3477,7 @@ static void functions_arithmetic_arithmetic(struct engine *e, u64 l0, u64 l1, u3
                                             goto L33;
                                         }
                                         L34:;
-                                        values_number_long_tail(e, l6 + 208ull, l15, l9);
+                                        values_number_long_tail(stack, l6 + 208ull, l15, l9);
                                         const u32 t43 = load8(l6 + 224u);
                                         l21 = t43 == 1u;
                                         const u64 t44 = load64(l6 + 248u);
@@ -3498,13 +3503,13 @@ static void functions_arithmetic_arithmetic(struct engine *e, u64 l0, u64 l1, u3
                                                 l5 = l21 ? (0ull - l4) : l4;
                                                 l22 = (i64)l10 < (i64)0ull;
                                                 l8 = l22 ? (0ull - l7) : l7;
-                                                multi3(e, l6 + 96ull, l5, 0ull, l8, 0ull);
+                                                multi3(stack, l6 + 96ull, l5, 0ull, l8, 0ull);
                                                 l9 = l21 ? (0ull - (l3 + (u64)(l4 != 0ull))) : l3;
-                                                multi3(e, l6 + 128ull, l9, 0ull, l8, 0ull);
+                                                multi3(stack, l6 + 128ull, l9, 0ull, l8, 0ull);
                                                 l8 = l22 ? (0ull - (l10 + (u64)(l7 != 0ull))) : l10;
-                                                multi3(e, l6 + 80ull, l5, 0ull, l8, 0ull);
-                                                multi3(e, l6 + 112ull, l9, 0ull, l8, 0ull);
-                                                multi3(e, l6 + 64ull, l4, l3, l7, l10);
+                                                multi3(stack, l6 + 80ull, l5, 0ull, l8, 0ull);
+                                                multi3(stack, l6 + 112ull, l9, 0ull, l8, 0ull);
+                                                multi3(stack, l6 + 64ull, l4, l3, l7, l10);
                                                 const u64 t50 = load64(l6 + 96u);
                                                 l3 = (l3 ^ l10) >> 63;
                                                 l4 = l3 + 9223372036854775807ull;
@@ -3577,7 +3582,7 @@ static void functions_arithmetic_arithmetic(struct engine *e, u64 l0, u64 l1, u3
                                                 l16 = (u64)((i64)(l3 ^ l10) >> 63);
                                                 if (l21) goto L5;
                                                 if (((l5 ^ 127ull) | l9) == 0) goto L5;
-                                                ashlti3(e, l6 + 160ull, l7, l8, 127u - (u32)l5);
+                                                ashlti3(stack, l6 + 160ull, l7, l8, 127u - (u32)l5);
                                                 const u64 t69 = load64(l6 + 168u);
                                                 l4 = t69;
                                                 const u64 t70 = load64(l6 + 160u);
@@ -3585,7 +3590,7 @@ static void functions_arithmetic_arithmetic(struct engine *e, u64 l0, u64 l1, u3
                                                 l5 = l5 + 1ull;
                                                 l9 = l9 + (u64)(l5 == 0);
                                                 if ((l5 | l9) == 0) goto L7;
-                                                lshrti3(e, l6 + 144ull, l7, l8, (u32)l5);
+                                                lshrti3(stack, l6 + 144ull, l7, l8, (u32)l5);
                                                 l20 = l18 - 1ull;
                                                 l13 = l17 - (u64)(l18 == 0);
                                                 const u64 t71 = load64(l6 + 152u);
@@ -3728,7 +3733,7 @@ static void functions_arithmetic_arithmetic(struct engine *e, u64 l0, u64 l1, u3
                             {
                                 if (l21) goto L92;
                                 if (((l5 ^ 127ull) | l7) == 0) goto L92;
-                                ashlti3(e, l6 + 48ull, l19, l16, 127u - (u32)l5);
+                                ashlti3(stack, l6 + 48ull, l19, l16, 127u - (u32)l5);
                                 const u64 t93 = load64(l6 + 56u);
                                 l4 = t93;
                                 const u64 t94 = load64(l6 + 48u);
@@ -3737,7 +3742,7 @@ static void functions_arithmetic_arithmetic(struct engine *e, u64 l0, u64 l1, u3
                                     l5 = l5 + 1ull;
                                     l11 = l7 + (u64)(l5 == 0);
                                     if (((l5 | l11) == 0) == 0) {
-                                        lshrti3(e, l6 + 32ull, l19, l16, (u32)l5);
+                                        lshrti3(stack, l6 + 32ull, l19, l16, (u32)l5);
                                         l18 = 9ull;
                                         l20 = 0ull;
                                         const u64 t97 = load64(l6 + 40u);
@@ -3772,7 +3777,7 @@ static void functions_arithmetic_arithmetic(struct engine *e, u64 l0, u64 l1, u3
                                 l3 = l9 | (l3 << 1);
                             }
                             L92:;
-                            multi3(e, l6 + 16ull, l3, l6, 10ull, 0ull);
+                            multi3(stack, l6 + 16ull, l3, l6, 10ull, 0ull);
                             const u64 t100 = load64(l6 + 16u);
                             store8((l6 + 208ull) + l13, (u8)(((u32)(l19 - t100) | 48u)));
                             if (l16 > 9ull) goto L91;
@@ -3846,7 +3851,7 @@ static void functions_arithmetic_arithmetic(struct engine *e, u64 l0, u64 l1, u3
                 const u32 t116 = load32(l3);
                 l24 = t116;
                 if (l23 > (l24 - l21)) {
-                    space_space_Space_move_active(e, l1, 0u);
+                    space_space_Space_move_active(stack, l1, 0u);
                     const u32 t118 = load32(l3);
                     l24 = t118;
                     const u64 t119 = load64(l1);
@@ -3947,15 +3952,15 @@ static void functions_arithmetic_arithmetic(struct engine *e, u64 l0, u64 l1, u3
                     l3 = t141;
                     {
                         if (l27 >= 4u) {
-                            core_slice_edits_slice_T_copy_from_slice(e, l3 + (l4 << 3), l3 + (l5 << 3), 4ull);
+                            core_slice_edits_slice_T_copy_from_slice(stack, l3 + (l4 << 3), l3 + (l5 << 3), 4ull);
                             l7 = l7 - 4ull;
-                            core_slice_edits_slice_T_copy_from_slice(e, l3 + ((l7 + l4) << 3), l3 + ((l5 + l7) << 3), 4ull);
+                            core_slice_edits_slice_T_copy_from_slice(stack, l3 + ((l7 + l4) << 3), l3 + ((l5 + l7) << 3), 4ull);
                             goto L142;
                         }
                         if (l27 >= 2u) {
-                            core_slice_edits_slice_T_copy_from_slice(e, l3 + (l4 << 3), l3 + (l5 << 3), 2ull);
+                            core_slice_edits_slice_T_copy_from_slice(stack, l3 + (l4 << 3), l3 + (l5 << 3), 2ull);
                             l7 = l7 - 2ull;
-                            core_slice_edits_slice_T_copy_from_slice(e, l3 + ((l7 + l4) << 3), l3 + ((l5 + l7) << 3), 2ull);
+                            core_slice_edits_slice_T_copy_from_slice(stack, l3 + ((l7 + l4) << 3), l3 + ((l5 + l7) << 3), 2ull);
                             goto L142;
                         }
                         if (l27 != 1u) goto L142;
@@ -3971,11 +3976,11 @@ static void functions_arithmetic_arithmetic(struct engine *e, u64 l0, u64 l1, u3
                     v1 = l28; goto L1;
                 }
                 L137:;
-                (void)forms_work_Work_load_other_part(e, l1, l26, l22);
+                (void)forms_work_Work_load_other_part(stack, l1, l26, l22);
                 v1 = l28; goto L1;
             }
             if (l22 > l26) {
-                (void)functions_arguments_put_part(e, l1, l26, l22);
+                (void)functions_arguments_put_part(stack, l1, l26, l22);
                 const u32 t150 = load32(l1 + 20ull);
                 const u32 t151 = load32(l1 + 16ull);
                 l25 = t150 + t151;
@@ -3985,7 +3990,7 @@ static void functions_arithmetic_arithmetic(struct engine *e, u64 l0, u64 l1, u3
             {
                 const u32 t154 = load32(l1 + 28ull);
                 if ((u64)(t154 - l21) < l11) {
-                    const u32 t156 = space_space_Space_find_way(e, l1, l11);
+                    const u32 t156 = space_space_Space_find_way(stack, l1, l11);
                     if (t156 == 0) goto L153;
                     const u32 t157 = load32(l1 + 20ull);
                     const u32 t158 = load32(l1 + 16ull);
@@ -4075,7 +4080,7 @@ static void functions_arithmetic_arithmetic(struct engine *e, u64 l0, u64 l1, u3
             v1 = 0u; goto L1;
         }
         L2:;
-        functions_arguments_Arguments_next(e, l6 + 8ull, l6 + 192ull, l1);
+        functions_arguments_Arguments_next(stack, l6 + 8ull, l6 + 192ull, l1);
         {
             {
                 const u32 t179 = load32(l6 + 12u);
@@ -4096,15 +4101,15 @@ static void functions_arithmetic_arithmetic(struct engine *e, u64 l0, u64 l1, u3
                 l4 = (u64)l21;
                 {
                     if (l21 >= 4u) {
-                        core_slice_edits_slice_T_copy_from_slice(e, l12 + (l5 << 3), l12 + (l3 << 3), 4ull);
+                        core_slice_edits_slice_T_copy_from_slice(stack, l12 + (l5 << 3), l12 + (l3 << 3), 4ull);
                         l4 = l4 - 4ull;
-                        core_slice_edits_slice_T_copy_from_slice(e, l12 + ((l4 + l5) << 3), l12 + ((l3 + l4) << 3), 4ull);
+                        core_slice_edits_slice_T_copy_from_slice(stack, l12 + ((l4 + l5) << 3), l12 + ((l3 + l4) << 3), 4ull);
                         goto L184;
                     }
                     if (l21 >= 2u) {
-                        core_slice_edits_slice_T_copy_from_slice(e, l12 + (l5 << 3), l12 + (l3 << 3), 2ull);
+                        core_slice_edits_slice_T_copy_from_slice(stack, l12 + (l5 << 3), l12 + (l3 << 3), 2ull);
                         l4 = l4 - 2ull;
-                        core_slice_edits_slice_T_copy_from_slice(e, l12 + ((l4 + l5) << 3), l12 + ((l3 + l4) << 3), 2ull);
+                        core_slice_edits_slice_T_copy_from_slice(stack, l12 + ((l4 + l5) << 3), l12 + ((l3 + l4) << 3), 2ull);
                         goto L184;
                     }
                     if (l21 != 1u) goto L184;
@@ -4121,7 +4126,7 @@ static void functions_arithmetic_arithmetic(struct engine *e, u64 l0, u64 l1, u3
             }
             L178:;
             l24 = 0u;
-            const u32 t189 = forms_work_Work_load_other_part(e, l1, l26, l25);
+            const u32 t189 = forms_work_Work_load_other_part(stack, l1, l26, l25);
             if (t189 == 0) { v1 = 0u; goto L1; }
         }
         L177:;
@@ -4133,10 +4138,10 @@ static void functions_arithmetic_arithmetic(struct engine *e, u64 l0, u64 l1, u3
     store8(l0, (u8)l24);
     store32(l0 + 4ull, l22);
     store8(l0 + 1ull, (u8)0u);
-    e->stack_pointer = l6 + 256ull;
+    stack = l6 + 256ull;
 }
 
-static void functions_bit_strings_union(struct engine *e, u64 l0, u64 l1, u64 l2) {
+static void functions_bit_strings_union(u64 stack, u64 l0, u64 l1, u64 l2) {
     u64 l3 = 0;
     u64 l4 = 0;
     u64 l5 = 0;
@@ -4148,21 +4153,21 @@ static void functions_bit_strings_union(struct engine *e, u64 l0, u64 l1, u64 l2
     u32 l11 = 0;
     u32 l12 = 0;
     u32 l13 = 0;
-    l4 = e->stack_pointer - 64ull;
-    e->stack_pointer = l4;
+    l4 = stack - 64ull;
+    stack = l4;
     l3 = l4;
-    if ((i64)(l3 - e->stack) >= (i64)16ull) {
+    {
         store64(l3 + 56u, 0ull);
         const u64 t2 = load64(l2);
         store64(l3 + 40u, t2);
         const u64 t3 = load64(l2 + 8u);
         store64(l3 + 48u, t3);
-        functions_arguments_Arguments_next(e, l3 + 8ull, l3 + 40ull, l1);
+        functions_arguments_Arguments_next(stack, l3 + 8ull, l3 + 40ull, l1);
         const u32 t4 = load32(l3 + 8u);
         l12 = t4;
         const u32 t5 = load32(l3 + 12u);
         l9 = t5;
-        functions_arguments_Arguments_next(e, l3, l3 + 40ull, l1);
+        functions_arguments_Arguments_next(stack, l3, l3 + 40ull, l1);
         const u32 t6 = load32(l1 + 16ull);
         l7 = t6;
         l2 = (u64)(l7 + l9);
@@ -4216,18 +4221,18 @@ static void functions_bit_strings_union(struct engine *e, u64 l0, u64 l1, u64 l2
         store32(l3 + 28u, l9);
         store32(l3 + 24u, l11);
         store32(l3 + 20u, 0u);
-        functions_bit_strings_give_bits(e, l3 + 56ull, l1, l12, l11, l3 + 20ull);
+        functions_bit_strings_give_bits(stack, l3 + 56ull, l1, l12, l11, l3 + 20ull);
         const u32 t18 = load16(l3 + 56u);
         store16(l0, (u16)t18);
         const u32 t19 = load32(l3 + 60u);
         store32(l0 + 4ull, t19);
-        e->stack_pointer = l3 + 64ull;
+        stack = l3 + 64ull;
         return;
     }
     trap();
 }
 
-static void functions_bit_strings_intersection(struct engine *e, u64 l0, u64 l1, u64 l2) {
+static void functions_bit_strings_intersection(u64 stack, u64 l0, u64 l1, u64 l2) {
     u64 l3 = 0;
     u64 l4 = 0;
     u64 l5 = 0;
@@ -4239,21 +4244,21 @@ static void functions_bit_strings_intersection(struct engine *e, u64 l0, u64 l1,
     u32 l11 = 0;
     u32 l12 = 0;
     u32 l13 = 0;
-    l4 = e->stack_pointer - 64ull;
-    e->stack_pointer = l4;
+    l4 = stack - 64ull;
+    stack = l4;
     l3 = l4;
-    if ((i64)(l3 - e->stack) >= (i64)16ull) {
+    {
         store64(l3 + 56u, 0ull);
         const u64 t2 = load64(l2);
         store64(l3 + 40u, t2);
         const u64 t3 = load64(l2 + 8u);
         store64(l3 + 48u, t3);
-        functions_arguments_Arguments_next(e, l3 + 8ull, l3 + 40ull, l1);
+        functions_arguments_Arguments_next(stack, l3 + 8ull, l3 + 40ull, l1);
         const u32 t4 = load32(l3 + 8u);
         l12 = t4;
         const u32 t5 = load32(l3 + 12u);
         l9 = t5;
-        functions_arguments_Arguments_next(e, l3, l3 + 40ull, l1);
+        functions_arguments_Arguments_next(stack, l3, l3 + 40ull, l1);
         const u32 t6 = load32(l1 + 16ull);
         l7 = t6;
         l2 = (u64)(l7 + l9);
@@ -4307,18 +4312,18 @@ static void functions_bit_strings_intersection(struct engine *e, u64 l0, u64 l1,
         store32(l3 + 28u, l9);
         store32(l3 + 24u, l11);
         store32(l3 + 20u, 1u);
-        functions_bit_strings_give_bits(e, l3 + 56ull, l1, l12, l11, l3 + 20ull);
+        functions_bit_strings_give_bits(stack, l3 + 56ull, l1, l12, l11, l3 + 20ull);
         const u32 t18 = load16(l3 + 56u);
         store16(l0, (u16)t18);
         const u32 t19 = load32(l3 + 60u);
         store32(l0 + 4ull, t19);
-        e->stack_pointer = l3 + 64ull;
+        stack = l3 + 64ull;
         return;
     }
     trap();
 }
 
-static void functions_bit_strings_give_bits(struct engine *e, u64 l0, u64 l1, u32 l2, u32 l3, u64 l4) {
+static void functions_bit_strings_give_bits(u64 stack, u64 l0, u64 l1, u32 l2, u32 l3, u64 l4) {
     u64 l5 = 0;
     u64 l6 = 0;
     u64 l7 = 0;
@@ -4338,9 +4343,9 @@ static void functions_bit_strings_give_bits(struct engine *e, u64 l0, u64 l1, u3
     u32 l21 = 0;
     u32 l22 = 0;
     u32 l23 = 0;
-    l11 = e->stack_pointer - 32ull;
-    e->stack_pointer = l11;
-    if ((i64)(l11 - e->stack) >= (i64)16ull) {
+    l11 = stack - 32ull;
+    stack = l11;
+    {
         const u32 t2 = load32(l4 + 16ull);
         l22 = t2;
         const u32 t3 = load32(l4 + 12ull);
@@ -4396,7 +4401,7 @@ static void functions_bit_strings_give_bits(struct engine *e, u64 l0, u64 l1, u3
                 store32(l0 + 4ull, 0u);
                 goto L6;
             }
-            (void)functions_arguments_put_part(e, l1, l2, l3);
+            (void)functions_arguments_put_part(stack, l1, l2, l3);
             u32 v20;
             {
                 {
@@ -4558,7 +4563,7 @@ static void functions_bit_strings_give_bits(struct engine *e, u64 l0, u64 l1, u3
                                 l17 = 0u;
                                 l18 = 0u;
                                 {
-                                    if ((i64)(e->stack_pointer - e->stack) >= (i64)16ull) {
+                                    {
                                         l5 = (u64)l16;
                                         if (l5 < l8) {
                                             l6 = l5 * 3ull;
@@ -4692,7 +4697,7 @@ static void functions_bit_strings_give_bits(struct engine *e, u64 l0, u64 l1, u3
                             l16 = 0u;
                             l17 = 0u;
                             {
-                                if ((i64)(e->stack_pointer - e->stack) >= (i64)16ull) {
+                                {
                                     l7 = (u64)l2;
                                     if (l7 < l6) {
                                         u32 v92;
@@ -4816,7 +4821,7 @@ static void functions_bit_strings_give_bits(struct engine *e, u64 l0, u64 l1, u3
                         l3 = l17 + l3;
                         const u32 t120 = load32(l1 + 24ull);
                         if (t118 == (l3 + t120)) {
-                            (void)space_space_Space_push_in_way(e, l1, l11 + 24ull);
+                            (void)space_space_Space_push_in_way(stack, l1, l11 + 24ull);
                             goto L28;
                         }
                         l7 = l1 + 32ull;
@@ -4841,13 +4846,13 @@ static void functions_bit_strings_give_bits(struct engine *e, u64 l0, u64 l1, u3
             store32(l0 + 4ull, 0u);
         }
         L6:;
-        e->stack_pointer = l11 + 32ull;
+        stack = l11 + 32ull;
         return;
     }
     trap();
 }
 
-static void functions_bit_strings_shift(struct engine *e, u64 l0, u64 l1, u64 l2) {
+static void functions_bit_strings_shift(u64 stack, u64 l0, u64 l1, u64 l2) {
     u64 l3 = 0;
     u64 l4 = 0;
     u64 l5 = 0;
@@ -4862,21 +4867,21 @@ static void functions_bit_strings_shift(struct engine *e, u64 l0, u64 l1, u64 l2
     u32 l14 = 0;
     u32 l15 = 0;
     u32 l16 = 0;
-    l4 = e->stack_pointer - 64ull;
-    e->stack_pointer = l4;
+    l4 = stack - 64ull;
+    stack = l4;
     l3 = l4;
-    if ((i64)(l3 - e->stack) >= (i64)16ull) {
+    {
         store64(l3 + 56u, 0ull);
         const u64 t2 = load64(l2);
         store64(l3 + 40u, t2);
         const u64 t3 = load64(l2 + 8u);
         store64(l3 + 48u, t3);
-        functions_arguments_Arguments_next(e, l3 + 8ull, l3 + 40ull, l1);
+        functions_arguments_Arguments_next(stack, l3 + 8ull, l3 + 40ull, l1);
         const u32 t4 = load32(l3 + 12u);
         l10 = t4;
         const u32 t5 = load32(l3 + 8u);
         l9 = t5;
-        functions_arguments_Arguments_next(e, l3, l3 + 40ull, l1);
+        functions_arguments_Arguments_next(stack, l3, l3 + 40ull, l1);
         const u32 t6 = load32(l1 + 16ull);
         l12 = t6;
         l2 = (u64)(l10 + l12);
@@ -5003,18 +5008,18 @@ static void functions_bit_strings_shift(struct engine *e, u64 l0, u64 l1, u64 l2
         store32(l3 + 36u, l13);
         store32(l3 + 32u, l10);
         store32(l3 + 28u, l9);
-        functions_bit_strings_give_bits(e, l3 + 56ull, l1, l15, l10, l3 + 20ull);
+        functions_bit_strings_give_bits(stack, l3 + 56ull, l1, l15, l10, l3 + 20ull);
         const u32 t35 = load16(l3 + 56u);
         store16(l0, (u16)t35);
         const u32 t36 = load32(l3 + 60u);
         store32(l0 + 4ull, t36);
-        e->stack_pointer = l3 + 64ull;
+        stack = l3 + 64ull;
         return;
     }
     trap();
 }
 
-static void functions_bit_strings_rotate(struct engine *e, u64 l0, u64 l1, u64 l2) {
+static void functions_bit_strings_rotate(u64 stack, u64 l0, u64 l1, u64 l2) {
     u64 l3 = 0;
     u64 l4 = 0;
     u64 l5 = 0;
@@ -5029,22 +5034,22 @@ static void functions_bit_strings_rotate(struct engine *e, u64 l0, u64 l1, u64 l
     u32 l14 = 0;
     u32 l15 = 0;
     u32 l16 = 0;
-    l4 = e->stack_pointer - 64ull;
-    e->stack_pointer = l4;
+    l4 = stack - 64ull;
+    stack = l4;
     l3 = l4;
-    if ((i64)(l3 - e->stack) >= (i64)16ull) {
+    {
         store32(l3 + 36u, 0u);
         store64(l3 + 56u, 0ull);
         const u64 t2 = load64(l2);
         store64(l3 + 40u, t2);
         const u64 t3 = load64(l2 + 8u);
         store64(l3 + 48u, t3);
-        functions_arguments_Arguments_next(e, l3 + 8ull, l3 + 40ull, l1);
+        functions_arguments_Arguments_next(stack, l3 + 8ull, l3 + 40ull, l1);
         const u32 t4 = load32(l3 + 12u);
         l14 = t4;
         const u32 t5 = load32(l3 + 8u);
         l15 = t5;
-        functions_arguments_Arguments_next(e, l3, l3 + 40ull, l1);
+        functions_arguments_Arguments_next(stack, l3, l3 + 40ull, l1);
         const u32 t6 = load32(l1 + 16ull);
         l10 = t6;
         const u32 t7 = load32(l3);
@@ -5128,18 +5133,18 @@ static void functions_bit_strings_rotate(struct engine *e, u64 l0, u64 l1, u64 l
         store32(l3 + 28u, l12);
         store32(l3 + 24u, l8);
         store32(l3 + 20u, 4u);
-        functions_bit_strings_give_bits(e, l3 + 56ull, l1, l16, l12, l3 + 20ull);
+        functions_bit_strings_give_bits(stack, l3 + 56ull, l1, l16, l12, l3 + 20ull);
         const u32 t26 = load16(l3 + 56u);
         store16(l0, (u16)t26);
         const u32 t27 = load32(l3 + 60u);
         store32(l0 + 4ull, t27);
-        e->stack_pointer = l3 + 64ull;
+        stack = l3 + 64ull;
         return;
     }
     trap();
 }
 
-static void functions_form_parts_call_segment(struct engine *e, u64 l0, u64 l1, u64 l2) {
+static void functions_form_parts_call_segment(u64 stack, u64 l0, u64 l1, u64 l2) {
     u64 l3 = 0;
     u64 l4 = 0;
     u64 l5 = 0;
@@ -5155,23 +5160,23 @@ static void functions_form_parts_call_segment(struct engine *e, u64 l0, u64 l1, 
     u32 l15 = 0;
     u32 l16 = 0;
     u32 l17 = 0;
-    l4 = e->stack_pointer - 80ull;
-    e->stack_pointer = l4;
+    l4 = stack - 80ull;
+    stack = l4;
     u32 v1;
     {
         {
             {
-                if ((i64)(l4 - e->stack) >= (i64)16ull) {
+                {
                     const u64 t5 = load64(l2 + 8u);
                     store64(l4 + 64u, t5);
                     const u64 t6 = load64(l2);
                     store64(l4 + 56u, t6);
-                    functions_arguments_Arguments_next(e, l4 + 48ull, l4 + 56ull, l1);
+                    functions_arguments_Arguments_next(stack, l4 + 48ull, l4 + 56ull, l1);
                     const u32 t7 = load32(l4 + 52u);
                     l14 = t7;
                     const u32 t8 = load32(l4 + 48u);
                     l12 = t8;
-                    functions_arguments_Arguments_next(e, l4 + 40ull, l4 + 56ull, l1);
+                    functions_arguments_Arguments_next(stack, l4 + 40ull, l4 + 56ull, l1);
                     const u32 t9 = load32(l4 + 44u);
                     l17 = t9;
                     const u32 t10 = load32(l4 + 40u);
@@ -5181,7 +5186,7 @@ static void functions_form_parts_call_segment(struct engine *e, u64 l0, u64 l1, 
                         const u32 t12 = load32(l1 + 40ull);
                         l13 = t12;
                         if (l13 >= 8u) {
-                            forms_work_Work_find_among_more(e, l4 + 24ull, l1, l12, l14);
+                            forms_work_Work_find_among_more(stack, l4 + 24ull, l1, l12, l14);
                             const u32 t14 = load8(l4 + 24u);
                             l13 = t14;
                             const u32 t15 = load32(l4 + 28u);
@@ -5213,7 +5218,7 @@ static void functions_form_parts_call_segment(struct engine *e, u64 l0, u64 l1, 
                             }
                         }
                         L16:;
-                        forms_work_Work_find_among_few(e, l4 + 32ull, l1, l12, l14);
+                        forms_work_Work_find_among_few(stack, l4 + 32ull, l1, l12, l14);
                         const u32 t23 = load8(l4 + 32u);
                         l13 = t23;
                         const u32 t24 = load32(l4 + 36u);
@@ -5233,9 +5238,9 @@ static void functions_form_parts_call_segment(struct engine *e, u64 l0, u64 l1, 
         }
         L2:;
         store64(l4 + 72u, 0ull);
-        const u32 t25 = forms_work_Work_pointer(e, l1, l12);
+        const u32 t25 = forms_work_Work_pointer(stack, l1, l12);
         l13 = t25;
-        const u32 t26 = forms_work_Work_body_len(e, l1, l12);
+        const u32 t26 = forms_work_Work_body_len(stack, l1, l12);
         l15 = t26;
         if (l13 == l15) {
             {
@@ -5333,9 +5338,9 @@ static void functions_form_parts_call_segment(struct engine *e, u64 l0, u64 l1, 
                             goto L35;
                         }
                         if (l12 >= 2u) {
-                            core_slice_edits_slice_T_copy_from_slice(e, l2 + (l7 << 3), l2 + (l6 << 3), 2ull);
+                            core_slice_edits_slice_T_copy_from_slice(stack, l2 + (l7 << 3), l2 + (l6 << 3), 2ull);
                             l3 = l10 - 2ull;
-                            core_slice_edits_slice_T_copy_from_slice(e, l2 + ((l3 + l7) << 3), l2 + ((l3 + l6) << 3), 2ull);
+                            core_slice_edits_slice_T_copy_from_slice(stack, l2 + ((l3 + l7) << 3), l2 + ((l3 + l6) << 3), 2ull);
                             goto L35;
                         }
                         if (l12 != 1u) goto L35;
@@ -5353,7 +5358,7 @@ static void functions_form_parts_call_segment(struct engine *e, u64 l0, u64 l1, 
                 L29:;
                 l15 = 0u;
                 l14 = 0u;
-                const u32 t67 = forms_work_Work_load_other_part(e, l1, l16, l17);
+                const u32 t67 = forms_work_Work_load_other_part(stack, l1, l16, l17);
                 if (t67 == 0) { v1 = 0u; goto L1; }
             }
             L28:;
@@ -5361,7 +5366,7 @@ static void functions_form_parts_call_segment(struct engine *e, u64 l0, u64 l1, 
             l15 = 0u;
             v1 = l12; goto L1;
         }
-        forms_work_Work_body(e, l4 + 8ull, l1, l12);
+        forms_work_Work_body(stack, l4 + 8ull, l1, l12);
         {
             {
                 const u64 t70 = load64(l4 + 16u);
@@ -5383,11 +5388,11 @@ static void functions_form_parts_call_segment(struct engine *e, u64 l0, u64 l1, 
                         if ((l3 == 0) == 0) goto L74;
                     }
                 }
-                functions_form_parts_take_part(e, l4 + 72ull, l1, l12, l13, l15, l15);
+                functions_form_parts_take_part(stack, l4 + 72ull, l1, l12, l13, l15, l15);
                 goto L68;
             }
             L69:;
-            functions_form_parts_take_part(e, l4 + 72ull, l1, l12, l13, l14, l14 + 1u);
+            functions_form_parts_take_part(stack, l4 + 72ull, l1, l12, l13, l14, l14 + 1u);
         }
         L68:;
         const u32 t76 = load8(l4 + 73u);
@@ -5402,10 +5407,10 @@ static void functions_form_parts_call_segment(struct engine *e, u64 l0, u64 l1, 
     store8(l0, (u8)l14);
     store32(l0 + 4ull, l13);
     store8(l0 + 1ull, (u8)l15);
-    e->stack_pointer = l4 + 80ull;
+    stack = l4 + 80ull;
 }
 
-static void functions_form_parts_call_character(struct engine *e, u64 l0, u64 l1, u64 l2) {
+static void functions_form_parts_call_character(u64 stack, u64 l0, u64 l1, u64 l2) {
     u64 l3 = 0;
     u64 l4 = 0;
     u64 l5 = 0;
@@ -5421,22 +5426,22 @@ static void functions_form_parts_call_character(struct engine *e, u64 l0, u64 l1
     u32 l15 = 0;
     u32 l16 = 0;
     u32 l17 = 0;
-    l5 = e->stack_pointer - 64ull;
-    e->stack_pointer = l5;
+    l5 = stack - 64ull;
+    stack = l5;
     {
         {
             {
-                if ((i64)(l5 - e->stack) >= (i64)16ull) {
+                {
                     const u64 t5 = load64(l2 + 8u);
                     store64(l5 + 56u, t5);
                     const u64 t6 = load64(l2);
                     store64(l5 + 48u, t6);
-                    functions_arguments_Arguments_next(e, l5 + 40ull, l5 + 48ull, l1);
+                    functions_arguments_Arguments_next(stack, l5 + 40ull, l5 + 48ull, l1);
                     const u32 t7 = load32(l5 + 44u);
                     l12 = t7;
                     const u32 t8 = load32(l5 + 40u);
                     l14 = t8;
-                    functions_arguments_Arguments_next(e, l5 + 32ull, l5 + 48ull, l1);
+                    functions_arguments_Arguments_next(stack, l5 + 32ull, l5 + 48ull, l1);
                     const u32 t9 = load32(l5 + 36u);
                     l17 = t9;
                     const u32 t10 = load32(l5 + 32u);
@@ -5446,7 +5451,7 @@ static void functions_form_parts_call_character(struct engine *e, u64 l0, u64 l1
                         const u32 t12 = load32(l1 + 40ull);
                         l13 = t12;
                         if (l13 >= 8u) {
-                            forms_work_Work_find_among_more(e, l5 + 16ull, l1, l14, l12);
+                            forms_work_Work_find_among_more(stack, l5 + 16ull, l1, l14, l12);
                             const u32 t14 = load32(l5 + 20u);
                             l15 = t14;
                             const u32 t15 = load8(l5 + 16u);
@@ -5478,7 +5483,7 @@ static void functions_form_parts_call_character(struct engine *e, u64 l0, u64 l1
                             }
                         }
                         L16:;
-                        forms_work_Work_find_among_few(e, l5 + 24ull, l1, l14, l12);
+                        forms_work_Work_find_among_few(stack, l5 + 24ull, l1, l14, l12);
                         const u32 t23 = load32(l5 + 28u);
                         l15 = t23;
                         const u32 t24 = load8(l5 + 24u);
@@ -5497,9 +5502,9 @@ static void functions_form_parts_call_character(struct engine *e, u64 l0, u64 l1
             store64(l1 + 44ull, 0ull);
         }
         L2:;
-        const u32 t25 = forms_work_Work_pointer(e, l1, l15);
+        const u32 t25 = forms_work_Work_pointer(stack, l1, l15);
         l12 = t25;
-        forms_work_Work_body(e, l5, l1, l15);
+        forms_work_Work_body(stack, l5, l1, l15);
         {
             {
                 {
@@ -5534,18 +5539,18 @@ static void functions_form_parts_call_character(struct engine *e, u64 l0, u64 l1
                     }
                     l13 = 0u;
                     l14 = 0u;
-                    const u32 t40 = forms_work_Work_load_other_part(e, l1, l16, l17);
+                    const u32 t40 = forms_work_Work_load_other_part(stack, l1, l16, l17);
                     if (t40) goto L26;
                     goto L1;
                 }
                 L28:;
-                (void)forms_work_Work_body_len(e, l1, l15);
+                (void)forms_work_Work_body_len(stack, l1, l15);
                 l13 = 0u;
                 l14 = 0u;
                 l16 = l12 + 1u;
-                const u32 t42 = forms_work_Work_copy_body(e, l1, l15, l12, l16);
+                const u32 t42 = forms_work_Work_copy_body(stack, l1, l15, l12, l16);
                 if (t42 == 0) goto L1;
-                forms_work_Work_set_pointer(e, l1, l15, l16);
+                forms_work_Work_set_pointer(stack, l1, l15, l16);
                 l14 = 1u;
                 goto L1;
             }
@@ -5698,10 +5703,10 @@ static void functions_form_parts_call_character(struct engine *e, u64 l0, u64 l1
     store8(l0, (u8)l14);
     store32(l0 + 4ull, l13);
     store8(l0 + 1ull, (u8)0u);
-    e->stack_pointer = l5 + 64ull;
+    stack = l5 + 64ull;
 }
 
-static void functions_form_parts_call_number(struct engine *e, u64 l0, u64 l1, u64 l2) {
+static void functions_form_parts_call_number(u64 stack, u64 l0, u64 l1, u64 l2) {
     u32 l3 = 0;
     u32 l4 = 0;
     u32 l5 = 0;
@@ -5718,29 +5723,29 @@ static void functions_form_parts_call_number(struct engine *e, u64 l0, u64 l1, u
     u64 l16 = 0;
     u64 l17 = 0;
     u64 l18 = 0;
-    l14 = e->stack_pointer - 112ull;
-    e->stack_pointer = l14;
+    l14 = stack - 112ull;
+    stack = l14;
     u32 v1;
     {
         {
             {
                 l13 = l14;
-                if ((i64)(l13 - e->stack) >= (i64)16ull) {
+                {
                     const u64 t5 = load64(l2 + 8u);
                     store64(l13 + 88u, t5);
                     const u64 t6 = load64(l2);
                     store64(l13 + 80u, t6);
-                    functions_arguments_Arguments_next(e, l13 + 72ull, l13 + 80ull, l1);
+                    functions_arguments_Arguments_next(stack, l13 + 72ull, l13 + 80ull, l1);
                     const u32 t7 = load32(l13 + 76u);
                     l8 = t7;
                     const u32 t8 = load32(l13 + 72u);
                     l9 = t8;
-                    functions_arguments_Arguments_next(e, l13 + 64ull, l13 + 80ull, l1);
+                    functions_arguments_Arguments_next(stack, l13 + 64ull, l13 + 80ull, l1);
                     const u32 t9 = load32(l13 + 68u);
                     l4 = t9;
                     const u32 t10 = load32(l13 + 64u);
                     l3 = t10;
-                    functions_arguments_Arguments_next(e, l13 + 56ull, l13 + 80ull, l1);
+                    functions_arguments_Arguments_next(stack, l13 + 56ull, l13 + 80ull, l1);
                     const u32 t11 = load32(l1 + 16ull);
                     l7 = t11;
                     l2 = (u64)(l4 + l7);
@@ -5845,7 +5850,7 @@ static void functions_form_parts_call_number(struct engine *e, u64 l0, u64 l1, u
                         const u32 t37 = load32(l1 + 40ull);
                         l3 = t37;
                         if (l3 >= 8u) {
-                            forms_work_Work_find_among_more(e, l13 + 40ull, l1, l9, l8);
+                            forms_work_Work_find_among_more(stack, l13 + 40ull, l1, l9, l8);
                             const u32 t39 = load32(l13 + 44u);
                             l5 = t39;
                             const u32 t40 = load8(l13 + 40u);
@@ -5873,7 +5878,7 @@ static void functions_form_parts_call_number(struct engine *e, u64 l0, u64 l1, u
                             }
                         }
                         L41:;
-                        forms_work_Work_find_among_few(e, l13 + 48ull, l1, l9, l8);
+                        forms_work_Work_find_among_few(stack, l13 + 48ull, l1, l9, l8);
                         const u32 t46 = load32(l13 + 52u);
                         l5 = t46;
                         const u32 t47 = load8(l13 + 48u);
@@ -5895,9 +5900,9 @@ static void functions_form_parts_call_number(struct engine *e, u64 l0, u64 l1, u
         L2:;
         store64(l13 + 96u, 0ull);
         if (l4 == 0) {
-            const u32 t49 = forms_work_Work_pointer(e, l1, l5);
+            const u32 t49 = forms_work_Work_pointer(stack, l1, l5);
             l4 = t49;
-            functions_form_parts_take_part(e, l13 + 96ull, l1, l5, l4, l4, l4);
+            functions_form_parts_take_part(stack, l13 + 96ull, l1, l5, l4, l4, l4);
             const u32 t50 = load8(l13 + 97u);
             l7 = t50;
             const u32 t51 = load8(l13 + 96u);
@@ -5909,13 +5914,13 @@ static void functions_form_parts_call_number(struct engine *e, u64 l0, u64 l1, u
             if (l12) {
                 store64(l13 + 104u, 0ull);
                 l7 = 0u;
-                const u32 t55 = forms_work_Work_pointer(e, l1, l5);
+                const u32 t55 = forms_work_Work_pointer(stack, l1, l5);
                 l8 = t55;
                 l6 = l8;
                 l3 = l6;
                 L56:;
                 {
-                    forms_work_Work_body(e, l13 + 8ull, l1, l5);
+                    forms_work_Work_body(stack, l13 + 8ull, l1, l5);
                     l2 = (u64)l6;
                     const u64 t57 = load64(l13 + 8u);
                     l14 = t57;
@@ -5958,15 +5963,15 @@ static void functions_form_parts_call_number(struct engine *e, u64 l0, u64 l1, u
                             l2 = t69;
                             {
                                 if (l4 >= 4u) {
-                                    core_slice_edits_slice_T_copy_from_slice(e, l2 + (l15 << 3), l2 + (l14 << 3), 4ull);
+                                    core_slice_edits_slice_T_copy_from_slice(stack, l2 + (l15 << 3), l2 + (l14 << 3), 4ull);
                                     l16 = l16 - 4ull;
-                                    core_slice_edits_slice_T_copy_from_slice(e, l2 + ((l16 + l15) << 3), l2 + ((l14 + l16) << 3), 4ull);
+                                    core_slice_edits_slice_T_copy_from_slice(stack, l2 + ((l16 + l15) << 3), l2 + ((l14 + l16) << 3), 4ull);
                                     goto L70;
                                 }
                                 if (l4 >= 2u) {
-                                    core_slice_edits_slice_T_copy_from_slice(e, l2 + (l15 << 3), l2 + (l14 << 3), 2ull);
+                                    core_slice_edits_slice_T_copy_from_slice(stack, l2 + (l15 << 3), l2 + (l14 << 3), 2ull);
                                     l16 = l16 - 2ull;
-                                    core_slice_edits_slice_T_copy_from_slice(e, l2 + ((l16 + l15) << 3), l2 + ((l14 + l16) << 3), 2ull);
+                                    core_slice_edits_slice_T_copy_from_slice(stack, l2 + ((l16 + l15) << 3), l2 + ((l14 + l16) << 3), 2ull);
                                     goto L70;
                                 }
                                 if (l4 != 1u) goto L70;
@@ -5984,7 +5989,7 @@ static void functions_form_parts_call_number(struct engine *e, u64 l0, u64 l1, u
                         L64:;
                         l7 = 0u;
                         l3 = 0u;
-                        const u32 t75 = forms_work_Work_load_other_part(e, l1, l10, l11);
+                        const u32 t75 = forms_work_Work_load_other_part(stack, l1, l10, l11);
                         if (t75 == 0) { v1 = 0u; goto L1; }
                     }
                     L63:;
@@ -5992,19 +5997,19 @@ static void functions_form_parts_call_number(struct engine *e, u64 l0, u64 l1, u
                     l7 = 0u;
                     v1 = l4; goto L1;
                 }
-                functions_form_parts_take_part(e, l13 + 104ull, l1, l5, l3, l8, l3);
+                functions_form_parts_take_part(stack, l13 + 104ull, l1, l5, l3, l8, l3);
                 goto L53;
             }
             store64(l13 + 104u, 0ull);
-            const u32 t76 = forms_work_Work_pointer(e, l1, l5);
+            const u32 t76 = forms_work_Work_pointer(stack, l1, l5);
             l8 = t76;
-            (void)forms_work_Work_body_len(e, l1, l5);
+            (void)forms_work_Work_body_len(stack, l1, l5);
             l9 = 0u;
             l7 = l8;
             {
                 L79:;
                 {
-                    forms_work_Work_body(e, l13 + 24ull, l1, l5);
+                    forms_work_Work_body(stack, l13 + 24ull, l1, l5);
                     l6 = l7;
                     const u64 t80 = load64(l13 + 32u);
                     l2 = t80;
@@ -6054,15 +6059,15 @@ static void functions_form_parts_call_number(struct engine *e, u64 l0, u64 l1, u
                         l2 = t93;
                         {
                             if (l4 >= 4u) {
-                                core_slice_edits_slice_T_copy_from_slice(e, l2 + (l15 << 3), l2 + (l14 << 3), 4ull);
+                                core_slice_edits_slice_T_copy_from_slice(stack, l2 + (l15 << 3), l2 + (l14 << 3), 4ull);
                                 l16 = l16 - 4ull;
-                                core_slice_edits_slice_T_copy_from_slice(e, l2 + ((l16 + l15) << 3), l2 + ((l14 + l16) << 3), 4ull);
+                                core_slice_edits_slice_T_copy_from_slice(stack, l2 + ((l16 + l15) << 3), l2 + ((l14 + l16) << 3), 4ull);
                                 goto L94;
                             }
                             if (l4 >= 2u) {
-                                core_slice_edits_slice_T_copy_from_slice(e, l2 + (l15 << 3), l2 + (l14 << 3), 2ull);
+                                core_slice_edits_slice_T_copy_from_slice(stack, l2 + (l15 << 3), l2 + (l14 << 3), 2ull);
                                 l16 = l16 - 2ull;
-                                core_slice_edits_slice_T_copy_from_slice(e, l2 + ((l16 + l15) << 3), l2 + ((l14 + l16) << 3), 2ull);
+                                core_slice_edits_slice_T_copy_from_slice(stack, l2 + ((l16 + l15) << 3), l2 + ((l14 + l16) << 3), 2ull);
                                 goto L94;
                             }
                             if (l4 != 1u) goto L94;
@@ -6080,7 +6085,7 @@ static void functions_form_parts_call_number(struct engine *e, u64 l0, u64 l1, u
                     L88:;
                     l7 = 0u;
                     l3 = 0u;
-                    const u32 t99 = forms_work_Work_load_other_part(e, l1, l10, l11);
+                    const u32 t99 = forms_work_Work_load_other_part(stack, l1, l10, l11);
                     if (t99 == 0) { v1 = 0u; goto L1; }
                 }
                 L87:;
@@ -6088,7 +6093,7 @@ static void functions_form_parts_call_number(struct engine *e, u64 l0, u64 l1, u
                 l7 = 0u;
                 v1 = l4; goto L1;
             }
-            functions_form_parts_take_part(e, l13 + 104ull, l1, l5, l8, l6, l6);
+            functions_form_parts_take_part(stack, l13 + 104ull, l1, l5, l8, l6, l6);
         }
         L53:;
         const u32 t100 = load8(l13 + 105u);
@@ -6103,10 +6108,10 @@ static void functions_form_parts_call_number(struct engine *e, u64 l0, u64 l1, u
     store8(l0, (u8)l3);
     store32(l0 + 4ull, l6);
     store8(l0 + 1ull, (u8)l7);
-    e->stack_pointer = l13 + 112ull;
+    stack = l13 + 112ull;
 }
 
-static void functions_form_parts_initial_part(struct engine *e, u64 l0, u64 l1, u64 l2) {
+static void functions_form_parts_initial_part(u64 stack, u64 l0, u64 l1, u64 l2) {
     u32 l3 = 0;
     u32 l4 = 0;
     u32 l5 = 0;
@@ -6126,28 +6131,28 @@ static void functions_form_parts_initial_part(struct engine *e, u64 l0, u64 l1, 
     u64 l19 = 0;
     u64 l20 = 0;
     u64 l21 = 0;
-    l16 = e->stack_pointer - 80ull;
-    e->stack_pointer = l16;
+    l16 = stack - 80ull;
+    stack = l16;
     u32 v1;
     {
         {
             {
-                if ((i64)(l16 - e->stack) >= (i64)16ull) {
+                {
                     const u64 t5 = load64(l2 + 8u);
                     store64(l16 + 56u, t5);
                     const u64 t6 = load64(l2);
                     store64(l16 + 48u, t6);
-                    functions_arguments_Arguments_next(e, l16 + 40ull, l16 + 48ull, l1);
+                    functions_arguments_Arguments_next(stack, l16 + 40ull, l16 + 48ull, l1);
                     const u32 t7 = load32(l16 + 44u);
                     l3 = t7;
                     const u32 t8 = load32(l16 + 40u);
                     l5 = t8;
-                    functions_arguments_Arguments_next(e, l16 + 32ull, l16 + 48ull, l1);
+                    functions_arguments_Arguments_next(stack, l16 + 32ull, l16 + 48ull, l1);
                     const u32 t9 = load32(l16 + 36u);
                     l11 = t9;
                     const u32 t10 = load32(l16 + 32u);
                     l12 = t10;
-                    functions_arguments_Arguments_next(e, l16 + 24ull, l16 + 48ull, l1);
+                    functions_arguments_Arguments_next(stack, l16 + 24ull, l16 + 48ull, l1);
                     const u32 t11 = load32(l16 + 28u);
                     l14 = t11;
                     const u32 t12 = load32(l16 + 24u);
@@ -6157,7 +6162,7 @@ static void functions_form_parts_initial_part(struct engine *e, u64 l0, u64 l1, 
                         const u32 t14 = load32(l1 + 40ull);
                         l6 = t14;
                         if (l6 >= 8u) {
-                            forms_work_Work_find_among_more(e, l16 + 8ull, l1, l5, l3);
+                            forms_work_Work_find_among_more(stack, l16 + 8ull, l1, l5, l3);
                             const u32 t16 = load32(l16 + 12u);
                             l8 = t16;
                             const u32 t17 = load8(l16 + 8u);
@@ -6189,7 +6194,7 @@ static void functions_form_parts_initial_part(struct engine *e, u64 l0, u64 l1, 
                             }
                         }
                         L18:;
-                        forms_work_Work_find_among_few(e, l16 + 16ull, l1, l5, l3);
+                        forms_work_Work_find_among_few(stack, l16 + 16ull, l1, l5, l3);
                         const u32 t25 = load32(l16 + 20u);
                         l8 = t25;
                         const u32 t26 = load8(l16 + 16u);
@@ -6210,10 +6215,10 @@ static void functions_form_parts_initial_part(struct engine *e, u64 l0, u64 l1, 
         L2:;
         store64(l16 + 72u, 0ull);
         store64(l16 + 64u, 0ull);
-        const u32 t27 = forms_work_Work_pointer(e, l1, l8);
+        const u32 t27 = forms_work_Work_pointer(stack, l1, l8);
         l10 = t27;
         if (l11 == l12) {
-            functions_form_parts_take_part(e, l16 + 72ull, l1, l8, l10, l10, l10);
+            functions_form_parts_take_part(stack, l16 + 72ull, l1, l8, l10, l10, l10);
             const u32 t29 = load8(l16 + 73u);
             l6 = t29;
             const u32 t30 = load8(l16 + 72u);
@@ -6303,7 +6308,7 @@ static void functions_form_parts_initial_part(struct engine *e, u64 l0, u64 l1, 
         l4 = t60;
         const u32 t61 = load8(l2 + 8u);
         l7 = t61;
-        store_borders_lay_borders(e, l1, l12, l11);
+        store_borders_lay_borders(stack, l1, l12, l11);
         const u64 t62 = load64(l1);
         l2 = t62;
         l3 = (l3 + ((l6 == 4u) ? l5 : 0u)) + 3u;
@@ -6318,7 +6323,7 @@ static void functions_form_parts_initial_part(struct engine *e, u64 l0, u64 l1, 
         l18 = (u64)(l3 + l11) - l18;
         l7 = 0u;
         {
-            if ((i64)(e->stack_pointer - e->stack) >= (i64)16ull) {
+            {
                 const u64 t66 = l16;
                 u32 v67;
                 {
@@ -6450,7 +6455,7 @@ static void functions_form_parts_initial_part(struct engine *e, u64 l0, u64 l1, 
             if (l18 != 0ull) goto L91;
         }
         if (l15 == 1u) {
-            functions_form_parts_take_part(e, l16 + 64ull, l1, l8, l10, l9, (l11 - l12) + l9);
+            functions_form_parts_take_part(stack, l16 + 64ull, l1, l8, l10, l9, (l11 - l12) + l9);
             const u32 t99 = load8(l16 + 65u);
             l6 = t99;
             const u32 t100 = load8(l16 + 64u);
@@ -6478,15 +6483,15 @@ static void functions_form_parts_initial_part(struct engine *e, u64 l0, u64 l1, 
                 l2 = t108;
                 {
                     if (l4 >= 4u) {
-                        core_slice_edits_slice_T_copy_from_slice(e, l2 + (l17 << 3), l2 + (l18 << 3), 4ull);
+                        core_slice_edits_slice_T_copy_from_slice(stack, l2 + (l17 << 3), l2 + (l18 << 3), 4ull);
                         l19 = l19 - 4ull;
-                        core_slice_edits_slice_T_copy_from_slice(e, l2 + ((l19 + l17) << 3), l2 + ((l18 + l19) << 3), 4ull);
+                        core_slice_edits_slice_T_copy_from_slice(stack, l2 + ((l19 + l17) << 3), l2 + ((l18 + l19) << 3), 4ull);
                         goto L109;
                     }
                     if (l4 >= 2u) {
-                        core_slice_edits_slice_T_copy_from_slice(e, l2 + (l17 << 3), l2 + (l18 << 3), 2ull);
+                        core_slice_edits_slice_T_copy_from_slice(stack, l2 + (l17 << 3), l2 + (l18 << 3), 2ull);
                         l19 = l19 - 2ull;
-                        core_slice_edits_slice_T_copy_from_slice(e, l2 + ((l19 + l17) << 3), l2 + ((l18 + l19) << 3), 2ull);
+                        core_slice_edits_slice_T_copy_from_slice(stack, l2 + ((l19 + l17) << 3), l2 + ((l18 + l19) << 3), 2ull);
                         goto L109;
                     }
                     if (l4 != 1u) goto L109;
@@ -6504,7 +6509,7 @@ static void functions_form_parts_initial_part(struct engine *e, u64 l0, u64 l1, 
             L103:;
             l6 = 0u;
             l3 = 0u;
-            const u32 t114 = forms_work_Work_load_other_part(e, l1, l13, l14);
+            const u32 t114 = forms_work_Work_load_other_part(stack, l1, l13, l14);
             if (t114 == 0) { v1 = 0u; goto L1; }
         }
         L102:;
@@ -6517,10 +6522,10 @@ static void functions_form_parts_initial_part(struct engine *e, u64 l0, u64 l1, 
     store8(l0, (u8)l3);
     store32(l0 + 4ull, l5);
     store8(l0 + 1ull, (u8)l6);
-    e->stack_pointer = l16 + 80ull;
+    stack = l16 + 80ull;
 }
 
-static void functions_form_parts_call_restore(struct engine *e, u64 l0, u64 l1, u64 l2) {
+static void functions_form_parts_call_restore(u64 stack, u64 l0, u64 l1, u64 l2) {
     u64 l3 = 0;
     u64 l4 = 0;
     u64 l5 = 0;
@@ -6529,17 +6534,17 @@ static void functions_form_parts_call_restore(struct engine *e, u64 l0, u64 l1, 
     u32 l8 = 0;
     u32 l9 = 0;
     u32 l10 = 0;
-    l3 = e->stack_pointer - 48ull;
-    e->stack_pointer = l3;
+    l3 = stack - 48ull;
+    stack = l3;
     {
         {
             {
-                if ((i64)(l3 - e->stack) >= (i64)16ull) {
+                {
                     const u64 t5 = load64(l2 + 8u);
                     store64(l3 + 40u, t5);
                     const u64 t6 = load64(l2);
                     store64(l3 + 32u, t6);
-                    functions_arguments_Arguments_next(e, l3 + 24ull, l3 + 32ull, l1);
+                    functions_arguments_Arguments_next(stack, l3 + 24ull, l3 + 32ull, l1);
                     const u32 t7 = load32(l3 + 28u);
                     l8 = t7;
                     const u32 t8 = load32(l3 + 24u);
@@ -6549,7 +6554,7 @@ static void functions_form_parts_call_restore(struct engine *e, u64 l0, u64 l1, 
                         const u32 t10 = load32(l1 + 40ull);
                         l10 = t10;
                         if (l10 >= 8u) {
-                            forms_work_Work_find_among_more(e, l3 + 8ull, l1, l9, l8);
+                            forms_work_Work_find_among_more(stack, l3 + 8ull, l1, l9, l8);
                             const u32 t12 = load8(l3 + 8u);
                             l8 = t12;
                             const u32 t13 = load32(l3 + 12u);
@@ -6581,7 +6586,7 @@ static void functions_form_parts_call_restore(struct engine *e, u64 l0, u64 l1, 
                             }
                         }
                         L14:;
-                        forms_work_Work_find_among_few(e, l3 + 16ull, l1, l9, l8);
+                        forms_work_Work_find_among_few(stack, l3 + 16ull, l1, l9, l8);
                         const u32 t21 = load8(l3 + 16u);
                         l8 = t21;
                         const u32 t22 = load32(l3 + 20u);
@@ -6599,15 +6604,15 @@ static void functions_form_parts_call_restore(struct engine *e, u64 l0, u64 l1, 
             l9 = 0u;
         }
         L2:;
-        forms_work_Work_set_pointer(e, l1, l9, 0u);
+        forms_work_Work_set_pointer(stack, l1, l9, 0u);
     }
     L1:;
     store16(l0, (u16)1u);
     store32(l0 + 4ull, 0u);
-    e->stack_pointer = l3 + 48ull;
+    stack = l3 + 48ull;
 }
 
-static void functions_form_calls_define_string(struct engine *e, u64 l0, u64 l1, u64 l2) {
+static void functions_form_calls_define_string(u64 stack, u64 l0, u64 l1, u64 l2) {
     u64 l3 = 0;
     u64 l4 = 0;
     u64 l5 = 0;
@@ -6641,8 +6646,8 @@ static void functions_form_calls_define_string(struct engine *e, u64 l0, u64 l1,
     u32 l33 = 0;
     u32 l34 = 0;
     u32 l35 = 0;
-    l3 = e->stack_pointer - 80ull;
-    e->stack_pointer = l3;
+    l3 = stack - 80ull;
+    stack = l3;
     const u64 t1 = l0;
     u32 v2;
     {
@@ -6656,17 +6661,16 @@ static void functions_form_calls_define_string(struct engine *e, u64 l0, u64 l1,
                                 {
                                     {
                                         l8 = l3;
-                                        if ((i64)(l8 - e->stack) < (i64)16ull) goto L10;
                                         const u64 t11 = load64(l2 + 8u);
                                         store64(l8 + 24u, t11);
                                         const u64 t12 = load64(l2);
                                         store64(l8 + 16u, t12);
-                                        functions_arguments_Arguments_next(e, l8 + 8ull, l8 + 16ull, l1);
+                                        functions_arguments_Arguments_next(stack, l8 + 8ull, l8 + 16ull, l1);
                                         const u32 t13 = load32(l8 + 12u);
                                         l25 = t13;
                                         const u32 t14 = load32(l8 + 8u);
                                         l27 = t14;
-                                        functions_arguments_Arguments_next(e, l8, l8 + 16ull, l1);
+                                        functions_arguments_Arguments_next(stack, l8, l8 + 16ull, l1);
                                         l13 = l1 + 52ull;
                                         const u32 t15 = load32(l8 + 4u);
                                         l29 = t15;
@@ -6678,7 +6682,7 @@ static void functions_form_calls_define_string(struct engine *e, u64 l0, u64 l1,
                                             if (l23 < 12u) goto L17;
                                             const u32 t19 = load32(l13);
                                             if (l23 >= (t19 >> 3)) goto L17;
-                                            store_index_index_worthwhile(e, l1, l23, l13);
+                                            store_index_index_worthwhile(stack, l1, l23, l13);
                                             const u32 t20 = load32(l1 + 40ull);
                                             l23 = t20;
                                         }
@@ -6847,7 +6851,7 @@ static void functions_form_calls_define_string(struct engine *e, u64 l0, u64 l1,
                                                 store32(l13, (l21 > l24) ? 4294967295u : l24);
                                                 goto L4;
                                             }
-                                            store_store_find_some(e, l8 + 48ull, l4, l21, l22, l23, l11, l6);
+                                            store_store_find_some(stack, l8 + 48ull, l4, l21, l22, l23, l11, l6);
                                             const u32 t61 = load8(l8 + 48u);
                                             if (t61 == 1u) {
                                                 const u64 t63 = load64(l8 + 52u);
@@ -6864,7 +6868,7 @@ static void functions_form_calls_define_string(struct engine *e, u64 l0, u64 l1,
                                                 l22 = 1u;
                                                 goto L4;
                                             }
-                                            store_store_find_some(e, l8 + 64ull, l4, 0u, 0u, l21, l11, l6);
+                                            store_store_find_some(stack, l8 + 64ull, l4, 0u, 0u, l21, l11, l6);
                                             const u32 t66 = load32(l8 + 68u);
                                             const u32 t67 = load8(l8 + 64u);
                                             l22 = t67;
@@ -6963,7 +6967,7 @@ static void functions_form_calls_define_string(struct engine *e, u64 l0, u64 l1,
                                     }
                                     goto L6;
                                 }
-                                store_store_find_round(e, l8 + 32ull, l4, l21, l22, l23, l11, l6);
+                                store_store_find_round(stack, l8 + 32ull, l4, l21, l22, l23, l11, l6);
                                 const u32 t90 = load8(l8 + 32u);
                                 v5 = t90; goto L5;
                             }
@@ -7156,7 +7160,7 @@ static void functions_form_calls_define_string(struct engine *e, u64 l0, u64 l1,
             } else {
                 v135 = 0u;
             }
-            space_space_Space_write_part(e, t134, (v135 + l31) + 3u, l30, l29);
+            space_space_Space_write_part(stack, t134, (v135 + l31) + 3u, l30, l29);
             const u64 t138 = load64(l1);
             l3 = t138 + ((u64)l28 << 3);
             store16(l3, (u16)4u);
@@ -7179,7 +7183,7 @@ static void functions_form_calls_define_string(struct engine *e, u64 l0, u64 l1,
         l35 = l28 + t142;
         if (l22 > (t140 - l35)) { v2 = 0u; goto L2; }
         if (l32 == 0) {
-            store_define_take_out(e, l1, l33, l31, l23);
+            store_define_take_out(stack, l1, l33, l31, l23);
             const u32 t144 = load32(l1 + 16ull);
             l26 = t144;
             const u32 t145 = load32(l1 + 20ull);
@@ -7191,7 +7195,7 @@ static void functions_form_calls_define_string(struct engine *e, u64 l0, u64 l1,
         l24 = l26;
         const u32 t147 = load32(l1 + 28ull);
         if (l22 > (t147 - l35)) {
-            space_space_Space_move_active(e, l1, 0u);
+            space_space_Space_move_active(stack, l1, 0u);
             const u32 t149 = load32(l1 + 16ull);
             l24 = t149;
             const u32 t150 = load32(l1 + 20ull);
@@ -7326,7 +7330,7 @@ static void functions_form_calls_define_string(struct engine *e, u64 l0, u64 l1,
                 goto L152;
             }
             L153:;
-            space_copies_copy_long(e, l10, l14, l3, l11);
+            space_copies_copy_long(stack, l10, l14, l3, l11);
         }
         L152:;
         l2 = l1 + 16ull;
@@ -7345,8 +7349,8 @@ static void functions_form_calls_define_string(struct engine *e, u64 l0, u64 l1,
         store16(l2, (u16)4u);
         store32(l2 + 4ull, 0u);
         l21 = l24 + 3u;
-        space_space_Space_write_part(e, l1, l21, l27, l25);
-        space_space_Space_write_part(e, l1, l21 + l34, l30, l29);
+        space_space_Space_write_part(stack, l1, l21, l27, l25);
+        space_space_Space_write_part(stack, l1, l21 + l34, l30, l29);
         {
             const u64 t192 = load64(l1 + 8ull);
             l9 = t192;
@@ -7358,13 +7362,13 @@ static void functions_form_calls_define_string(struct engine *e, u64 l0, u64 l1,
                 if (l21 == l25) goto L191;
                 l24 = l23 + 1u;
                 {
-                    l2 = e->stack_pointer;
-                    if ((i64)(l2 - e->stack) >= (i64)16ull) {
-                        const u32 t197 = store_index_index_fitting(e, l1, l24);
+                    l2 = stack;
+                    {
+                        const u32 t197 = store_index_index_fitting(stack, l1, l24);
                         if (t197 == 0) {
-                            space_space_Space_move_active(e, l1, 0u);
+                            space_space_Space_move_active(stack, l1, 0u);
                         }
-                        e->stack_pointer = l2;
+                        stack = l2;
                         goto L195;
                     }
                     trap();
@@ -7460,7 +7464,7 @@ static void functions_form_calls_define_string(struct engine *e, u64 l0, u64 l1,
                 goto L191;
             }
             L212:;
-            space_space_Space_move_active(e, l1, 0u);
+            space_space_Space_move_active(stack, l1, 0u);
         }
         L191:;
         store32(l1 + 48ull, l26);
@@ -7473,10 +7477,10 @@ static void functions_form_calls_define_string(struct engine *e, u64 l0, u64 l1,
     store8(t1, (u8)v2);
     store32(l0 + 4ull, l24);
     store8(l0 + 1ull, (u8)0u);
-    e->stack_pointer = l8 + 80ull;
+    stack = l8 + 80ull;
 }
 
-static void functions_form_calls_segment_string(struct engine *e, u64 l0, u64 l1, u64 l2) {
+static void functions_form_calls_segment_string(u64 stack, u64 l0, u64 l1, u64 l2) {
     u64 l3 = 0;
     u64 l4 = 0;
     u64 l5 = 0;
@@ -7507,18 +7511,18 @@ static void functions_form_calls_segment_string(struct engine *e, u64 l0, u64 l1
     u32 l30 = 0;
     u32 l31 = 0;
     u32 l32 = 0;
-    l3 = e->stack_pointer - 48ull;
-    e->stack_pointer = l3;
+    l3 = stack - 48ull;
+    stack = l3;
     {
         {
             {
                 l7 = l3;
-                if ((i64)(l7 - e->stack) >= (i64)16ull) {
+                {
                     const u64 t5 = load64(l2 + 8u);
                     store64(l7 + 40u, t5);
                     const u64 t6 = load64(l2);
                     store64(l7 + 32u, t6);
-                    functions_arguments_Arguments_next(e, l7 + 24ull, l7 + 32ull, l1);
+                    functions_arguments_Arguments_next(stack, l7 + 24ull, l7 + 32ull, l1);
                     const u32 t7 = load32(l7 + 28u);
                     l15 = t7;
                     const u32 t8 = load32(l7 + 24u);
@@ -7528,7 +7532,7 @@ static void functions_form_calls_segment_string(struct engine *e, u64 l0, u64 l1
                         const u32 t10 = load32(l1 + 40ull);
                         l17 = t10;
                         if (l17 >= 8u) {
-                            forms_work_Work_find_among_more(e, l7 + 8ull, l1, l16, l15);
+                            forms_work_Work_find_among_more(stack, l7 + 8ull, l1, l16, l15);
                             const u32 t12 = load32(l7 + 12u);
                             l21 = t12;
                             const u32 t13 = load8(l7 + 8u);
@@ -7560,7 +7564,7 @@ static void functions_form_calls_segment_string(struct engine *e, u64 l0, u64 l1
                             }
                         }
                         L14:;
-                        forms_work_Work_find_among_few(e, l7 + 16ull, l1, l16, l15);
+                        forms_work_Work_find_among_few(stack, l7 + 16ull, l1, l16, l15);
                         const u32 t21 = load32(l7 + 20u);
                         l21 = t21;
                         const u32 t22 = load8(l7 + 16u);
@@ -7578,14 +7582,14 @@ static void functions_form_calls_segment_string(struct engine *e, u64 l0, u64 l1
             store64(l1 + 44ull, 0ull);
         }
         L2:;
-        forms_work_Work_set_pointer(e, l1, l21, 0u);
+        forms_work_Work_set_pointer(stack, l1, l21, 0u);
         const u32 t23 = load32(l7 + 36u);
         const u32 t24 = load32(l7 + 32u);
         if (t23 >= t24) {
             l30 = l21 + 1u;
             L26:;
             {
-                functions_arguments_Arguments_next(e, l7, l7 + 32ull, l1);
+                functions_arguments_Arguments_next(stack, l7, l7 + 32ull, l1);
                 const u32 t27 = load32(l1 + 48ull);
                 l18 = t27;
                 {
@@ -7689,7 +7693,7 @@ static void functions_form_calls_segment_string(struct engine *e, u64 l0, u64 l1
                 l26 = v58 + l28;
                 l22 = l26;
                 if (l25 != l27) {
-                    store_borders_lay_borders(e, l1, l25, l27);
+                    store_borders_lay_borders(stack, l1, l25, l27);
                     const u64 t63 = load64(l1);
                     l5 = t63;
                     {
@@ -7880,7 +7884,7 @@ static void functions_form_calls_segment_string(struct engine *e, u64 l0, u64 l1
                                     store32(l3 + 4ull, t113);
                                     goto L89;
                                 }
-                                space_copies_copy_long(e, l5, l8, l2, l11);
+                                space_copies_copy_long(stack, l5, l8, l2, l11);
                             }
                             L89:;
                             const u64 t114 = load64(l1);
@@ -7997,11 +8001,11 @@ static void functions_form_calls_segment_string(struct engine *e, u64 l0, u64 l1
                             store32(l3 + 4ull, t141);
                             goto L117;
                         }
-                        space_copies_copy_long(e, l5, l8, l13, l12);
+                        space_copies_copy_long(stack, l5, l8, l13, l12);
                     }
                     L117:;
                     l22 = (l26 - l23) + l24;
-                    space_space_Space_remove_store(e, l1, l22, l26);
+                    space_space_Space_remove_store(stack, l1, l22, l26);
                     const u32 t142 = load32(l1 + 16ull);
                     l15 = t142;
                     l2 = (u64)(l15 + l25);
@@ -8098,10 +8102,10 @@ static void functions_form_calls_segment_string(struct engine *e, u64 l0, u64 l1
         store32(l0 + 4ull, 0u);
     }
     L1:;
-    e->stack_pointer = l7 + 48ull;
+    stack = l7 + 48ull;
 }
 
-static void functions_form_calls_delete_definition(struct engine *e, u64 l0, u64 l1, u64 l2) {
+static void functions_form_calls_delete_definition(u64 stack, u64 l0, u64 l1, u64 l2) {
     u64 l3 = 0;
     u64 l4 = 0;
     u64 l5 = 0;
@@ -8137,13 +8141,12 @@ static void functions_form_calls_delete_definition(struct engine *e, u64 l0, u64
     u32 l35 = 0;
     u32 l36 = 0;
     u32 l37 = 0;
-    l3 = e->stack_pointer - 112ull;
-    e->stack_pointer = l3;
+    l3 = stack - 112ull;
+    stack = l3;
     {
         {
             {
                 l6 = l3;
-                if ((i64)(l6 - e->stack) < (i64)16ull) goto L3;
                 const u64 t4 = load64(l2);
                 l3 = t4;
                 store64(l6 + 48u, l3);
@@ -8151,7 +8154,7 @@ static void functions_form_calls_delete_definition(struct engine *e, u64 l0, u64
                 store64(l6 + 56u, t5);
                 const u32 t6 = load32(l6 + 52u);
                 if (t6 < (u32)l3) goto L2;
-                functions_arguments_Arguments_next(e, l6 + 40ull, l6 + 48ull, l1);
+                functions_arguments_Arguments_next(stack, l6 + 40ull, l6 + 48ull, l1);
                 const u32 t7 = load32(l6 + 44u);
                 l25 = t7;
                 const u32 t8 = load32(l6 + 40u);
@@ -8165,7 +8168,7 @@ static void functions_form_calls_delete_definition(struct engine *e, u64 l0, u64
                                     const u32 t14 = load32(l1 + 40ull);
                                     l26 = t14;
                                     if (l26 >= 8u) {
-                                        forms_work_Work_find_among_more(e, l6 + 24ull, l1, l24, l25);
+                                        forms_work_Work_find_among_more(stack, l6 + 24ull, l1, l24, l25);
                                         const u32 t16 = load32(l6 + 28u);
                                         l27 = t16;
                                         const u32 t17 = load8(l6 + 24u);
@@ -8197,7 +8200,7 @@ static void functions_form_calls_delete_definition(struct engine *e, u64 l0, u64
                                         }
                                     }
                                     L18:;
-                                    forms_work_Work_find_among_few(e, l6 + 32ull, l1, l24, l25);
+                                    forms_work_Work_find_among_few(stack, l6 + 32ull, l1, l24, l25);
                                     const u32 t25 = load32(l6 + 36u);
                                     l27 = t25;
                                     const u32 t26 = load8(l6 + 32u);
@@ -8284,7 +8287,7 @@ static void functions_form_calls_delete_definition(struct engine *e, u64 l0, u64
                     L10:;
                     l2 = l1 + 40ull;
                     const u32 t50 = load32(l2);
-                    store_define_take_out(e, l1, l27, l25, t50);
+                    store_define_take_out(stack, l1, l27, l25, t50);
                     store64(l1 + 44ull, 0ull);
                     const u32 t51 = load32(l2);
                     store32(l2, t51 - 1u);
@@ -8293,7 +8296,7 @@ static void functions_form_calls_delete_definition(struct engine *e, u64 l0, u64
                 const u32 t52 = load32(l6 + 52u);
                 const u32 t53 = load32(l6 + 48u);
                 if (t52 < t53) goto L2;
-                functions_arguments_Arguments_next(e, l6 + 16ull, l6 + 48ull, l1);
+                functions_arguments_Arguments_next(stack, l6 + 16ull, l6 + 48ull, l1);
                 const u32 t54 = load32(l6 + 20u);
                 l25 = t54;
                 const u32 t55 = load32(l6 + 16u);
@@ -8333,13 +8336,13 @@ static void functions_form_calls_delete_definition(struct engine *e, u64 l0, u64
                                             }
                                         }
                                         L63:;
-                                        forms_work_Work_find_among_few(e, l6 + 8ull, l1, l24, l25);
+                                        forms_work_Work_find_among_few(stack, l6 + 8ull, l1, l24, l25);
                                         const u32 t70 = load32(l6 + 12u);
                                         l27 = t70;
                                         const u32 t71 = load8(l6 + 8u);
                                         v60 = t71; goto L60;
                                     }
-                                    forms_work_Work_find_among_more(e, l6, l1, l24, l25);
+                                    forms_work_Work_find_among_more(stack, l6, l1, l24, l25);
                                     const u32 t72 = load32(l6 + 4u);
                                     l27 = t72;
                                     const u32 t73 = load8(l6);
@@ -8426,7 +8429,7 @@ static void functions_form_calls_delete_definition(struct engine *e, u64 l0, u64
                     L57:;
                     l2 = l1 + 40ull;
                     const u32 t97 = load32(l2);
-                    store_define_take_out(e, l1, l27, l25, t97);
+                    store_define_take_out(stack, l1, l27, l25, t97);
                     store64(l1 + 44ull, 0ull);
                     const u32 t98 = load32(l2);
                     store32(l2, t98 - 1u);
@@ -8495,7 +8498,7 @@ static void functions_form_calls_delete_definition(struct engine *e, u64 l0, u64
                                 if (t119 == 2u) { v109 = 2u; goto L109; }
                                 const u32 t120 = load8(l3 + 24u);
                                 if (t120 == 2u) { v109 = 3u; goto L109; }
-                                const u32 t121 = store_arguments_before_far_comma(e, l3, l5);
+                                const u32 t121 = store_arguments_before_far_comma(stack, l3, l5);
                                 v109 = t121; goto L109;
                             }
                             L110:;
@@ -8508,7 +8511,7 @@ static void functions_form_calls_delete_definition(struct engine *e, u64 l0, u64
                             if (l27) goto L122;
                             const u32 t123 = load32(l12);
                             if (l25 >= (t123 >> 3)) goto L122;
-                            store_index_index_worthwhile(e, l1, l25, l12);
+                            store_index_index_worthwhile(stack, l1, l25, l12);
                             const u32 t124 = load32(l1 + 16ull);
                             l26 = t124;
                             l2 = (u64)(l26 + l24);
@@ -8682,7 +8685,7 @@ static void functions_form_calls_delete_definition(struct engine *e, u64 l0, u64
                                                             store32(l12, (l26 > l27) ? 4294967295u : l27);
                                                             goto L130;
                                                         }
-                                                        store_store_find_some(e, l6 + 80ull, l4, l30, l32, l25, l13, l9);
+                                                        store_store_find_some(stack, l6 + 80ull, l4, l30, l32, l25, l13, l9);
                                                         const u32 t169 = load8(l6 + 80u);
                                                         if (t169 == 1u) {
                                                             const u64 t171 = load64(l6 + 84u);
@@ -8699,7 +8702,7 @@ static void functions_form_calls_delete_definition(struct engine *e, u64 l0, u64
                                                             l24 = 1u;
                                                             goto L130;
                                                         }
-                                                        store_store_find_some(e, l6 + 96ull, l4, 0u, 0u, l30, l13, l9);
+                                                        store_store_find_some(stack, l6 + 96ull, l4, 0u, 0u, l30, l13, l9);
                                                         const u32 t174 = load32(l6 + 100u);
                                                         const u32 t175 = load8(l6 + 96u);
                                                         l24 = t175;
@@ -8795,7 +8798,7 @@ static void functions_form_calls_delete_definition(struct engine *e, u64 l0, u64
                                                 }
                                                 v128 = l31; goto L128;
                                             }
-                                            store_store_find_round(e, l6 + 64ull, l4, l30, l32, l25, l13, l9);
+                                            store_store_find_round(stack, l6 + 64ull, l4, l30, l32, l25, l13, l9);
                                             const u32 t198 = load8(l6 + 64u);
                                             l24 = t198;
                                             const u64 t199 = load64(l6 + 68u);
@@ -9117,7 +9120,7 @@ static void functions_form_calls_delete_definition(struct engine *e, u64 l0, u64
                                             store32(l2 + 4ull, t285);
                                             goto L261;
                                         }
-                                        space_copies_copy_long(e, l4, l12, l3, l10);
+                                        space_copies_copy_long(stack, l4, l12, l3, l10);
                                     }
                                     L261:;
                                     l29 = (l29 - l28) + l25;
@@ -9132,8 +9135,8 @@ static void functions_form_calls_delete_definition(struct engine *e, u64 l0, u64
                             if (l26 != l32) goto L250;
                         }
                     }
-                    space_space_Space_remove_store(e, l1, l29, l28);
-                    store_index_index_from(e, l1, l27, l31, l30);
+                    space_space_Space_remove_store(stack, l1, l29, l28);
+                    store_index_index_from(stack, l1, l27, l31, l30);
                     store64(l1 + 44ull, 0ull);
                     store32(l1 + 40ull, l30);
                 }
@@ -9149,10 +9152,10 @@ static void functions_form_calls_delete_definition(struct engine *e, u64 l0, u64
         store32(l0 + 4ull, 0u);
     }
     L1:;
-    e->stack_pointer = l6 + 112ull;
+    stack = l6 + 112ull;
 }
 
-static void functions_form_calls_delete_all(struct engine *e, u64 l0, u64 l1) {
+static void functions_form_calls_delete_all(u64 stack, u64 l0, u64 l1) {
     u64 l2 = 0;
     u64 l3 = 0;
     u64 l4 = 0;
@@ -9163,10 +9166,10 @@ static void functions_form_calls_delete_all(struct engine *e, u64 l0, u64 l1) {
     u64 l9 = 0;
     u64 l10 = 0;
     u32 l11 = 0;
-    l9 = e->stack_pointer;
-    if ((i64)(l9 - e->stack) >= (i64)16ull) {
+    l9 = stack;
+    {
         const u32 t2 = load32(l1 + 16ull);
-        space_space_Space_remove_store(e, l1, 0u, t2);
+        space_space_Space_remove_store(stack, l1, 0u, t2);
         {
             const u32 t4 = load32(l1 + 40ull);
             const u64 t5 = load64(l1 + 8ull);
@@ -9174,7 +9177,7 @@ static void functions_form_calls_delete_all(struct engine *e, u64 l0, u64 l1) {
             const u32 t6 = load32(l1 + 28ull);
             l11 = t6;
             if (t4 < (((u32)l2 - l11) >> 5)) {
-                space_space_Space_move_active(e, l1, 0u);
+                space_space_Space_move_active(stack, l1, 0u);
                 goto L3;
             }
             l3 = (u64)l11;
@@ -9242,13 +9245,13 @@ static void functions_form_calls_delete_all(struct engine *e, u64 l0, u64 l1) {
         store64(l1 + 40ull, 0ull);
         store32(l0 + 4ull, 0u);
         store16(l0, (u16)1u);
-        e->stack_pointer = l9;
+        stack = l9;
         return;
     }
     trap();
 }
 
-static void functions_form_calls_list_names(struct engine *e, u64 l0, u64 l1, u64 l2) {
+static void functions_form_calls_list_names(u64 stack, u64 l0, u64 l1, u64 l2) {
     u32 l3 = 0;
     u32 l4 = 0;
     u32 l5 = 0;
@@ -9260,15 +9263,15 @@ static void functions_form_calls_list_names(struct engine *e, u64 l0, u64 l1, u6
     u32 l11 = 0;
     u32 l12 = 0;
     u64 l13 = 0;
-    l13 = e->stack_pointer - 32ull;
-    e->stack_pointer = l13;
+    l13 = stack - 32ull;
+    stack = l13;
     {
-        if ((i64)(l13 - e->stack) >= (i64)16ull) {
+        {
             const u64 t3 = load64(l2 + 8u);
             store64(l13 + 24u, t3);
             const u64 t4 = load64(l2);
             store64(l13 + 16u, t4);
-            functions_arguments_Arguments_next(e, l13 + 8ull, l13 + 16ull, l1);
+            functions_arguments_Arguments_next(stack, l13 + 8ull, l13 + 16ull, l1);
             const u32 t5 = load32(l1 + 40ull);
             l10 = t5;
             if (l10) {
@@ -9278,13 +9281,13 @@ static void functions_form_calls_list_names(struct engine *e, u64 l0, u64 l1, u6
                 l12 = t8;
                 L9:;
                 {
-                    forms_work_Work_form(e, l13, l1, l8);
+                    forms_work_Work_form(stack, l13, l1, l8);
                     {
                         const u32 t11 = load8(l13);
                         if (t11 != 1u) goto L10;
                         const u32 t12 = load32(l13 + 4u);
                         l4 = t12;
-                        const u32 t13 = functions_arguments_put_part(e, l1, l12, l11);
+                        const u32 t13 = functions_arguments_put_part(stack, l1, l12, l11);
                         if (t13) {
                             const u32 t15 = load32(l1 + 48ull);
                             l3 = t15;
@@ -9369,7 +9372,7 @@ static void functions_form_calls_list_names(struct engine *e, u64 l0, u64 l1, u6
                                 l4 = (t44 == 4u) ? t43 : 0u;
                             }
                             l3 = l3 + 3u;
-                            const u32 t45 = space_space_Space_copy_store(e, l1, l3, l3 + l4);
+                            const u32 t45 = space_space_Space_copy_store(stack, l1, l3, l3 + l4);
                             if (t45) goto L10;
                         }
                         store16(l0, (u16)0u);
@@ -9388,10 +9391,10 @@ static void functions_form_calls_list_names(struct engine *e, u64 l0, u64 l1, u6
         trap();
     }
     L1:;
-    e->stack_pointer = l13 + 32ull;
+    stack = l13 + 32ull;
 }
 
-static void store_fill_load_items_in_way(struct engine *e, u64 l0, u64 l1, u32 l2, u32 l3) {
+static void store_fill_load_items_in_way(u64 stack, u64 l0, u64 l1, u32 l2, u32 l3) {
     u64 l4 = 0;
     u64 l5 = 0;
     u64 l6 = 0;
@@ -9414,8 +9417,8 @@ static void store_fill_load_items_in_way(struct engine *e, u64 l0, u64 l1, u32 l
     u32 l23 = 0;
     u32 l24 = 0;
     u32 l25 = 0;
-    l14 = e->stack_pointer;
-    if ((i64)(l14 - e->stack) >= (i64)16ull) {
+    l14 = stack;
+    {
         l9 = (u64)l2;
         const u64 t2 = load64(l1);
         l8 = t2;
@@ -9494,7 +9497,7 @@ static void store_fill_load_items_in_way(struct engine *e, u64 l0, u64 l1, u32 l
             l3 = t26;
             u32 v27;
             if (l2 > (l3 - l25)) {
-                space_space_Space_move_active(e, l1, 0u);
+                space_space_Space_move_active(stack, l1, 0u);
                 const u32 t28 = load32(l1 + 24ull);
                 l24 = t28;
                 const u64 t29 = load64(l1);
@@ -9508,7 +9511,7 @@ static void store_fill_load_items_in_way(struct engine *e, u64 l0, u64 l1, u32 l
             l12 = (u64)(v27 - l23);
             {
                 if (l2 >= 25u) {
-                    space_copies_copy_long(e, l8, l9, l9 + l10, l12);
+                    space_copies_copy_long(stack, l8, l9, l9 + l10, l12);
                     goto L31;
                 }
                 if (l2 >= 8u) {
@@ -9732,9 +9735,9 @@ static void store_fill_load_items_in_way(struct engine *e, u64 l0, u64 l1, u32 l
                     goto L31;
                 }
                 if (l2 >= 2u) {
-                    core_slice_edits_slice_T_copy_from_slice(e, l8 + (l12 << 3), l8 + (l9 << 3), 2ull);
+                    core_slice_edits_slice_T_copy_from_slice(stack, l8 + (l12 << 3), l8 + (l9 << 3), 2ull);
                     l4 = l10 - 2ull;
-                    core_slice_edits_slice_T_copy_from_slice(e, l8 + ((l4 + l12) << 3), l8 + ((l4 + l9) << 3), 2ull);
+                    core_slice_edits_slice_T_copy_from_slice(stack, l8 + ((l4 + l12) << 3), l8 + ((l4 + l9) << 3), 2ull);
                     goto L31;
                 }
                 if (l2 != 1u) goto L31;
@@ -9753,20 +9756,21 @@ static void store_fill_load_items_in_way(struct engine *e, u64 l0, u64 l1, u32 l
         L4:;
         store32(t3 + 4u, v4);
         store8(l0, (u8)l23);
-        e->stack_pointer = l14;
+        stack = l14;
         return;
     }
     trap();
 }
 
-static void core_slice_edits_slice_T_copy_from_slice(struct engine *e, u64 l0, u64 l1, u64 l2) {
+static void core_slice_edits_slice_T_copy_from_slice(u64 stack, u64 l0, u64 l1, u64 l2) {
     u64 l3 = 0;
     u64 l4 = 0;
     u64 l5 = 0;
     u64 l6 = 0;
     u64 l7 = 0;
     u32 l8 = 0;
-    if ((i64)(e->stack_pointer - e->stack) >= (i64)16ull) {
+    (void)stack;
+    {
         {
             l3 = l2 << 3;
             if (l3 > (l0 - l1)) {
@@ -9814,7 +9818,7 @@ static void core_slice_edits_slice_T_copy_from_slice(struct engine *e, u64 l0, u
     trap();
 }
 
-static void space_copies_copy_long(struct engine *e, u64 l0, u64 l1, u64 l2, u64 l3) {
+static void space_copies_copy_long(u64 stack, u64 l0, u64 l1, u64 l2, u64 l3) {
     u64 l4 = 0;
     u64 l5 = 0;
     u64 l6 = 0;
@@ -9830,8 +9834,8 @@ static void space_copies_copy_long(struct engine *e, u64 l0, u64 l1, u64 l2, u64
     u64 l16 = 0;
     u64 l17 = 0;
     u32 l18 = 0;
-    l14 = e->stack_pointer;
-    if ((i64)(l14 - e->stack) >= (i64)16ull) {
+    l14 = stack;
+    {
         l5 = l2 - l1;
         {
             if (l2 <= l3) {
@@ -9870,16 +9874,16 @@ static void space_copies_copy_long(struct engine *e, u64 l0, u64 l1, u64 l2, u64
                         store16(l1, (u16)t12);
                         const u32 t13 = load32(l0 + 4ull);
                         store32(l1 + 4ull, t13);
-                        e->stack_pointer = l14;
+                        stack = l14;
                         return;
                     }
                     if (l3 == 0) goto L2;
                     memmove(at(l6), at(l7), (size_t)l3);
-                    e->stack_pointer = l14;
+                    stack = l14;
                     return;
                 }
-                space_copies_copy_parts(e, l7, l5, l6);
-                e->stack_pointer = l14;
+                space_copies_copy_parts(stack, l7, l5, l6);
+                stack = l14;
                 return;
             }
             l10 = l3 + l5;
@@ -9919,16 +9923,16 @@ static void space_copies_copy_long(struct engine *e, u64 l0, u64 l1, u64 l2, u64
                         store16(l1, (u16)t23);
                         const u32 t24 = load32(l0 + 4ull);
                         store32(l1 + 4ull, t24);
-                        e->stack_pointer = l14;
+                        stack = l14;
                         return;
                     }
                     if (l3 == 0) goto L2;
                     memmove(at(l7), at(l6), (size_t)l3);
-                    e->stack_pointer = l14;
+                    stack = l14;
                     return;
                 }
-                space_copies_copy_parts(e, l6, l5, l7);
-                e->stack_pointer = l14;
+                space_copies_copy_parts(stack, l6, l5, l7);
+                stack = l14;
                 return;
             }
             l8 = l3 - l1;
@@ -9966,7 +9970,7 @@ static void space_copies_copy_long(struct engine *e, u64 l0, u64 l1, u64 l2, u64
                     store16(l3, (u16)t33);
                     const u32 t34 = load32(l0 + 4ull);
                     store32(l3 + 4ull, t34);
-                    e->stack_pointer = l14;
+                    stack = l14;
                     return;
                 }
                 if (l5 == 0) goto L2;
@@ -10003,7 +10007,7 @@ static void space_copies_copy_long(struct engine *e, u64 l0, u64 l1, u64 l2, u64
             }
             if (l1 < l3) {
                 {
-                    if ((i64)(e->stack_pointer - e->stack) >= (i64)16ull) {
+                    {
                         l8 = l2 - l1;
                         if ((l8 == 0) == 0) {
                             l5 = l3 - l1;
@@ -10119,7 +10123,7 @@ static void space_copies_copy_long(struct engine *e, u64 l0, u64 l1, u64 l2, u64
                     trap();
                 }
                 L44:;
-                e->stack_pointer = l14;
+                stack = l14;
                 return;
             }
             if (l5 <= 48ull) {
@@ -10238,7 +10242,7 @@ static void space_copies_copy_long(struct engine *e, u64 l0, u64 l1, u64 l2, u64
                     store16(l0 + 56u, (u16)t116);
                     const u32 t117 = load32(l1 + 60ull);
                     store32(l0 + 60ull, t117);
-                    e->stack_pointer = l14;
+                    stack = l14;
                     return;
                 }
                 const u64 t118 = load64(l1);
@@ -10264,13 +10268,13 @@ static void space_copies_copy_long(struct engine *e, u64 l0, u64 l1, u64 l2, u64
                 store64(l0 + 16u, l8);
                 store64(l0 + 8u, l5);
                 store64(l0, l3);
-                e->stack_pointer = l14;
+                stack = l14;
                 return;
             }
             l8 = l1;
             l1 = 0ull;
             {
-                if ((i64)(e->stack_pointer - e->stack) >= (i64)16ull) {
+                {
                     if (l2 != l8) {
                         l17 = l2 - l8;
                         l5 = l8 - l3;
@@ -10388,13 +10392,13 @@ static void space_copies_copy_long(struct engine *e, u64 l0, u64 l1, u64 l2, u64
             L126:;
         }
         L2:;
-        e->stack_pointer = l14;
+        stack = l14;
         return;
     }
     trap();
 }
 
-static u32 forms_work_Work_fill_other(struct engine *e, u64 l0, u32 l1, u32 l2, u32 l3) {
+static u32 forms_work_Work_fill_other(u64 stack, u64 l0, u32 l1, u32 l2, u32 l3) {
     u32 l4 = 0;
     u32 l5 = 0;
     u32 l6 = 0;
@@ -10402,8 +10406,8 @@ static u32 forms_work_Work_fill_other(struct engine *e, u64 l0, u32 l1, u32 l2, 
     u32 l8 = 0;
     u64 l9 = 0;
     u64 l10 = 0;
-    l10 = e->stack_pointer;
-    if ((i64)(l10 - e->stack) >= (i64)16ull) {
+    l10 = stack;
+    {
         const u32 t2 = load32(l0 + 48ull);
         l4 = t2;
         {
@@ -10482,16 +10486,16 @@ static u32 forms_work_Work_fill_other(struct engine *e, u64 l0, u32 l1, u32 l2, 
         const u32 t29 = load32(l9 + 4ull);
         l4 = (l4 + t29) + 3u;
         const u32 t30 = load32(l9 + 12ull);
-        const u32 t31 = store_fill_fill_items(e, l0, t28 + l4, l4 + t30, l2, l3);
+        const u32 t31 = store_fill_fill_items(stack, l0, t28 + l4, l4 + t30, l2, l3);
         l4 = t31;
-        e->stack_pointer = l10;
+        stack = l10;
         return l4;
     }
     trap();
     return 0;
 }
 
-static u32 store_fill_fill_items(struct engine *e, u64 l0, u32 l1, u32 l2, u32 l3, u32 l4) {
+static u32 store_fill_fill_items(u64 stack, u64 l0, u32 l1, u32 l2, u32 l3, u32 l4) {
     u64 l5 = 0;
     u64 l6 = 0;
     u64 l7 = 0;
@@ -10531,14 +10535,14 @@ static u32 store_fill_fill_items(struct engine *e, u64 l0, u32 l1, u32 l2, u32 l
     u32 l41 = 0;
     u32 l42 = 0;
     u32 l43 = 0;
-    l5 = e->stack_pointer - 64ull;
-    e->stack_pointer = l5;
+    l5 = stack - 64ull;
+    stack = l5;
     {
         {
             {
                 {
                     l21 = l5;
-                    if ((i64)(l21 - e->stack) >= (i64)16ull) {
+                    {
                         l38 = 1u;
                         if (l1 == l2) goto L1;
                         l11 = (u64)l1;
@@ -10615,7 +10619,7 @@ static u32 store_fill_fill_items(struct engine *e, u64 l0, u32 l1, u32 l2, u32 l
                         if (t11 == (t12 + (u32)v13)) {
                             l3 = l43 - (l41 + l42);
                             if (l37 > ((l3 < 64u) ? l3 : 64u)) {
-                                const u32 t31 = space_space_Space_copy_store(e, l0, l1, l2);
+                                const u32 t31 = space_space_Space_copy_store(stack, l0, l1, l2);
                                 l38 = t31;
                                 goto L1;
                             }
@@ -10836,9 +10840,9 @@ static u32 store_fill_fill_items(struct engine *e, u64 l0, u32 l1, u32 l2, u32 l
                                     goto L32;
                                 }
                                 if (l37 >= 2u) {
-                                    core_slice_edits_slice_T_copy_from_slice(e, l7 + ((l11 + l19) << 3), l7 + (l11 << 3), 2ull);
+                                    core_slice_edits_slice_T_copy_from_slice(stack, l7 + ((l11 + l19) << 3), l7 + (l11 << 3), 2ull);
                                     l5 = (l11 + l17) - 2ull;
-                                    core_slice_edits_slice_T_copy_from_slice(e, l7 + ((l5 + l19) << 3), l7 + (l5 << 3), 2ull);
+                                    core_slice_edits_slice_T_copy_from_slice(stack, l7 + ((l5 + l19) << 3), l7 + (l5 << 3), 2ull);
                                     goto L32;
                                 }
                                 if (l37 != 1u) goto L32;
@@ -11653,7 +11657,7 @@ static u32 store_fill_fill_items(struct engine *e, u64 l0, u32 l1, u32 l2, u32 l
                                 }
                             }
                             L132:;
-                            space_filling_fill_each(e, l21 + 24ull, l7, l8, l24, l10, l19, l21 + 40ull);
+                            space_filling_fill_each(stack, l21 + 24ull, l7, l8, l24, l10, l19, l21 + 40ull);
                             const u32 t382 = load8(l21 + 24u);
                             if (t382 != 1u) goto L131;
                             const u64 t383 = load64(l21 + 32u);
@@ -11662,7 +11666,7 @@ static u32 store_fill_fill_items(struct engine *e, u64 l0, u32 l1, u32 l2, u32 l
                         }
                         L131:;
                         l38 = 0u;
-                        space_space_Space_move_active(e, l0, 0u);
+                        space_space_Space_move_active(stack, l0, 0u);
                         const u32 t384 = load32(l0 + 24ull);
                         l3 = t384;
                         const u32 t385 = load32(l0 + 28ull);
@@ -12022,9 +12026,9 @@ static u32 store_fill_fill_items(struct engine *e, u64 l0, u32 l1, u32 l2, u32 l
                                                     l11 = 0ull;
                                                     goto L412;
                                                 }
-                                                core_slice_edits_slice_T_copy_from_slice(e, l7 + ((l9 + l13) << 3), l7 + (l9 << 3), 2ull);
+                                                core_slice_edits_slice_T_copy_from_slice(stack, l7 + ((l9 + l13) << 3), l7 + (l9 << 3), 2ull);
                                                 l5 = l15 + l31;
-                                                core_slice_edits_slice_T_copy_from_slice(e, l7 + ((l5 + l13) << 3), l7 + (l5 << 3), 2ull);
+                                                core_slice_edits_slice_T_copy_from_slice(stack, l7 + ((l5 + l13) << 3), l7 + (l5 << 3), 2ull);
                                                 l11 = l12;
                                                 goto L412;
                                             }
@@ -12289,9 +12293,9 @@ static u32 store_fill_fill_items(struct engine *e, u64 l0, u32 l1, u32 l2, u32 l
                                                     goto L517;
                                                 }
                                                 if (l12 == 0) { v413 = 0ull; goto L413; }
-                                                core_slice_edits_slice_T_copy_from_slice(e, l7 + ((l9 + l13) << 3), l7 + (l9 << 3), 2ull);
+                                                core_slice_edits_slice_T_copy_from_slice(stack, l7 + ((l9 + l13) << 3), l7 + (l9 << 3), 2ull);
                                                 l5 = l15 + l31;
-                                                core_slice_edits_slice_T_copy_from_slice(e, l7 + ((l5 + l13) << 3), l7 + (l5 << 3), 2ull);
+                                                core_slice_edits_slice_T_copy_from_slice(stack, l7 + ((l5 + l13) << 3), l7 + (l5 << 3), 2ull);
                                             }
                                             L517:;
                                             v413 = l12;
@@ -12350,7 +12354,7 @@ static u32 store_fill_fill_items(struct engine *e, u64 l0, u32 l1, u32 l2, u32 l
                             }
                         }
                         L389:;
-                        space_filling_fill_each(e, l21 + 8ull, l7, l11, l24, l10, l20, l21 + 40ull);
+                        space_filling_fill_each(stack, l21 + 8ull, l7, l11, l24, l10, l20, l21 + 40ull);
                         const u32 t608 = load8(l21 + 8u);
                         if (t608 != 1u) goto L2;
                         const u64 t609 = load64(l21 + 16u);
@@ -12417,11 +12421,11 @@ static u32 store_fill_fill_items(struct engine *e, u64 l0, u32 l1, u32 l2, u32 l
         }
     }
     L1:;
-    e->stack_pointer = l21 + 64ull;
+    stack = l21 + 64ull;
     return l38;
 }
 
-static void core_delivery_deliver(struct engine *e, u64 l0, u32 l1, u32 l2) {
+static void core_delivery_deliver(u64 stack, u64 l0, u32 l1, u32 l2) {
     u64 l3 = 0;
     u64 l4 = 0;
     u64 l5 = 0;
@@ -12444,8 +12448,8 @@ static void core_delivery_deliver(struct engine *e, u64 l0, u32 l1, u32 l2) {
     u32 l22 = 0;
     {
         {
-            l17 = e->stack_pointer;
-            if ((i64)(l17 - e->stack) >= (i64)16ull) {
+            l17 = stack;
+            {
                 const u32 t4 = load32(l0 + 16ull);
                 l18 = t4;
                 {
@@ -12837,7 +12841,7 @@ static void core_delivery_deliver(struct engine *e, u64 l0, u32 l1, u32 l2) {
                         store32(l3 + 4ull, t131);
                         goto L1;
                     }
-                    space_copies_copy_long(e, l6, l8, l9, l7);
+                    space_copies_copy_long(stack, l6, l8, l9, l7);
                     goto L1;
                 }
                 L5:;
@@ -13115,14 +13119,14 @@ static void core_delivery_deliver(struct engine *e, u64 l0, u32 l1, u32 l2) {
                         store32(l3 + 4ull, t217);
                         goto L139;
                     }
-                    space_copies_copy_long(e, l6, l7, l15, l9);
+                    space_copies_copy_long(stack, l6, l7, l15, l9);
                 }
                 L139:;
                 store32(l0 + 32ull, l19);
                 l3 = l0 + 20ull;
                 const u32 t218 = load32(l3);
                 store32(l3, t218 + (l1 - l2));
-                e->stack_pointer = l17;
+                stack = l17;
                 return;
             }
             trap();
@@ -13189,10 +13193,10 @@ static void core_delivery_deliver(struct engine *e, u64 l0, u32 l1, u32 l2) {
     L230:;
     store32(l0 + 20ull, l1);
     store32(l0 + 32ull, l2);
-    e->stack_pointer = l17;
+    stack = l17;
 }
 
-static void space_copies_copy_more(struct engine *e, u64 l0, u64 l1, u64 l2, u64 l3) {
+static void space_copies_copy_more(u64 stack, u64 l0, u64 l1, u64 l2, u64 l3) {
     u64 l4 = 0;
     u64 l5 = 0;
     u64 l6 = 0;
@@ -13201,8 +13205,8 @@ static void space_copies_copy_more(struct engine *e, u64 l0, u64 l1, u64 l2, u64
     u64 l9 = 0;
     u64 l10 = 0;
     u64 l11 = 0;
-    l7 = e->stack_pointer;
-    if ((i64)(l7 - e->stack) >= (i64)16ull) {
+    l7 = stack;
+    {
         {
             l4 = l2 - l1;
             if (l4 <= 7ull) {
@@ -13238,7 +13242,7 @@ static void space_copies_copy_more(struct engine *e, u64 l0, u64 l1, u64 l2, u64
                     store16(l2, (u16)t11);
                     const u32 t12 = load32(l4 + 4ull);
                     store32(l2 + 4ull, t12);
-                    e->stack_pointer = l7;
+                    stack = l7;
                     return;
                 }
                 if (l1 == l2) goto L2;
@@ -13293,19 +13297,19 @@ static void space_copies_copy_more(struct engine *e, u64 l0, u64 l1, u64 l2, u64
                 store16(l4, (u16)t25);
                 const u32 t26 = load32(l2 - 52ull);
                 store32(l4 + 4ull, t26);
-                e->stack_pointer = l7;
+                stack = l7;
                 return;
             }
-            space_copies_copy_long(e, l0, l1, l2, l3);
+            space_copies_copy_long(stack, l0, l1, l2, l3);
         }
         L2:;
-        e->stack_pointer = l7;
+        stack = l7;
         return;
     }
     trap();
 }
 
-static void space_copies_copy_parts(struct engine *e, u64 l0, u64 l1, u64 l2) {
+static void space_copies_copy_parts(u64 stack, u64 l0, u64 l1, u64 l2) {
     u64 l3 = 0;
     u64 l4 = 0;
     u64 l5 = 0;
@@ -13318,7 +13322,8 @@ static void space_copies_copy_parts(struct engine *e, u64 l0, u64 l1, u64 l2) {
     u64 l12 = 0;
     u64 l13 = 0;
     u32 l14 = 0;
-    if ((i64)(e->stack_pointer - e->stack) >= (i64)16ull) {
+    (void)stack;
+    {
         if ((l1 == 0) == 0) {
             L3:;
             {
@@ -13380,7 +13385,7 @@ static void space_copies_copy_parts(struct engine *e, u64 l0, u64 l1, u64 l2) {
     trap();
 }
 
-static void space_space_Space_move_active(struct engine *e, u64 l0, u32 l1) {
+static void space_space_Space_move_active(u64 stack, u64 l0, u32 l1) {
     u64 l2 = 0;
     u64 l3 = 0;
     u64 l4 = 0;
@@ -13396,8 +13401,8 @@ static void space_space_Space_move_active(struct engine *e, u64 l0, u32 l1) {
     u32 l14 = 0;
     u32 l15 = 0;
     u32 l16 = 0;
-    l10 = e->stack_pointer;
-    if ((i64)(l10 - e->stack) >= (i64)16ull) {
+    l10 = stack;
+    {
         const u32 t2 = load32(l0 + 8ull);
         l15 = t2 - l1;
         const u32 t3 = load32(l0 + 24ull);
@@ -13502,23 +13507,24 @@ static void space_space_Space_move_active(struct engine *e, u64 l0, u32 l1) {
                 store32(l2 + 4ull, t30);
                 goto L5;
             }
-            space_copies_copy_long(e, l4, l9, l5, l8);
+            space_copies_copy_long(stack, l4, l9, l5, l8);
         }
         L5:;
         store32(l0 + 28ull, l15);
-        e->stack_pointer = l10;
+        stack = l10;
         return;
     }
     trap();
 }
 
-static u64 c_filling_put_characters(struct engine *e, u64 l0, u64 l1, u64 l2, u64 l3, u64 l4) {
+static u64 c_filling_put_characters(u64 stack, u64 l0, u64 l1, u64 l2, u64 l3, u64 l4) {
     u64 l5 = 0;
     u64 l6 = 0;
     u64 l7 = 0;
     u64 l8 = 0;
     u32 l9 = 0;
-    if ((i64)(e->stack_pointer - e->stack) >= (i64)16ull) {
+    (void)stack;
+    {
         l8 = l2 + l3;
         {
             l4 = l4 - l2;
@@ -13617,27 +13623,27 @@ static u64 c_filling_put_characters(struct engine *e, u64 l0, u64 l1, u64 l2, u6
     return 0;
 }
 
-static void store_index_index_worthwhile(struct engine *e, u64 l0, u32 l1, u64 l2) {
+static void store_index_index_worthwhile(u64 stack, u64 l0, u32 l1, u64 l2) {
     u64 l3 = 0;
     u32 l4 = 0;
     u32 l5 = 0;
-    l3 = e->stack_pointer;
-    if ((i64)(l3 - e->stack) >= (i64)16ull) {
+    l3 = stack;
+    {
         const u32 t2 = load32(l0 + 24ull);
         const u32 t3 = load32(l2);
         l4 = t3 >> 3;
         l5 = l4 - l1;
         if ((t2 >> 8) <= ((l4 < l5) ? 0u : l5)) {
             store32(l2, 0u);
-            (void)store_index_index_fitting(e, l0, l1);
+            (void)store_index_index_fitting(stack, l0, l1);
         }
-        e->stack_pointer = l3;
+        stack = l3;
         return;
     }
     trap();
 }
 
-static void store_store_find_some(struct engine *e, u64 l0, u64 l1, u32 l2, u32 l3, u32 l4, u64 l5, u64 l6) {
+static void store_store_find_some(u64 stack, u64 l0, u64 l1, u32 l2, u32 l3, u32 l4, u64 l5, u64 l6) {
     u64 l7 = 0;
     u64 l8 = 0;
     u64 l9 = 0;
@@ -13648,9 +13654,10 @@ static void store_store_find_some(struct engine *e, u64 l0, u64 l1, u32 l2, u32 
     u64 l14 = 0;
     u32 l15 = 0;
     u32 l16 = 0;
+    (void)stack;
     {
         {
-            if ((i64)(e->stack_pointer - e->stack) >= (i64)16ull) {
+            {
                 l2 = l4 - l2;
                 if (l2 == 0) goto L1;
                 const u32 t4 = load8((l5 + (l6 << 3)) - 7ull);
@@ -13703,7 +13710,7 @@ static void store_store_find_some(struct engine *e, u64 l0, u64 l1, u32 l2, u32 
     store64(l0 + 4ull, l9);
 }
 
-static void store_store_find_round(struct engine *e, u64 l0, u64 l1, u32 l2, u32 l3, u32 l4, u64 l5, u64 l6) {
+static void store_store_find_round(u64 stack, u64 l0, u64 l1, u32 l2, u32 l3, u32 l4, u64 l5, u64 l6) {
     u64 l7 = 0;
     u64 l8 = 0;
     u64 l9 = 0;
@@ -13714,11 +13721,12 @@ static void store_store_find_round(struct engine *e, u64 l0, u64 l1, u32 l2, u32
     u64 l14 = 0;
     u32 l15 = 0;
     u32 l16 = 0;
+    (void)stack;
     {
         u64 v2;
         {
             {
-                if ((i64)(e->stack_pointer - e->stack) >= (i64)16ull) {
+                {
                     const u32 t5 = load8((l5 + (l6 << 3)) - 7ull);
                     l16 = t5;
                     l15 = l4 - l2;
@@ -13821,7 +13829,7 @@ static void store_store_find_round(struct engine *e, u64 l0, u64 l1, u32 l2, u32
     store64(l0 + 4ull, l11);
 }
 
-static u32 store_index_index_fitting(struct engine *e, u64 l0, u32 l1) {
+static u32 store_index_index_fitting(u64 stack, u64 l0, u32 l1) {
     u64 l2 = 0;
     u64 l3 = 0;
     u64 l4 = 0;
@@ -13833,8 +13841,8 @@ static u32 store_index_index_fitting(struct engine *e, u64 l0, u32 l1) {
     u64 l10 = 0;
     u32 l11 = 0;
     u32 l12 = 0;
-    l9 = e->stack_pointer;
-    if ((i64)(l9 - e->stack) >= (i64)16ull) {
+    l9 = stack;
+    {
         l11 = 1u << ((0u - clz32((l1 << 2))) & 31);
         l11 = ((l11 > 16u) ? l11 : 16u) << 2;
         const u32 t2 = load32(l0 + 8ull);
@@ -13848,7 +13856,7 @@ static u32 store_index_index_fitting(struct engine *e, u64 l0, u32 l1) {
         }
         l12 = l11 <= l12;
         if (l12) {
-            space_space_Space_move_active(e, l0, l11);
+            space_space_Space_move_active(stack, l0, l11);
             const u64 t8 = load64(l0 + 8ull);
             l3 = t8;
             const u64 t9 = load32(l0 + 28ull);
@@ -13912,16 +13920,16 @@ static u32 store_index_index_fitting(struct engine *e, u64 l0, u32 l1) {
                     if (l6 < l7) goto L12;
                 }
             }
-            store_index_index_from(e, l0, 0u, 0u, l1);
+            store_index_index_from(stack, l0, 0u, 0u, l1);
         }
-        e->stack_pointer = l9;
+        stack = l9;
         return l12;
     }
     trap();
     return 0;
 }
 
-static void store_index_index_from(struct engine *e, u64 l0, u32 l1, u32 l2, u32 l3) {
+static void store_index_index_from(u64 stack, u64 l0, u32 l1, u32 l2, u32 l3) {
     u64 l4 = 0;
     u64 l5 = 0;
     u64 l6 = 0;
@@ -13935,8 +13943,8 @@ static void store_index_index_from(struct engine *e, u64 l0, u32 l1, u32 l2, u32
     u32 l14 = 0;
     u32 l15 = 0;
     u32 l16 = 0;
-    l11 = e->stack_pointer;
-    if ((i64)(l11 - e->stack) >= (i64)16ull) {
+    l11 = stack;
+    {
         {
             const u32 t3 = load32(l0 + 28ull);
             const u32 t4 = load32(l0 + 8ull);
@@ -14041,7 +14049,7 @@ static void store_index_index_from(struct engine *e, u64 l0, u32 l1, u32 l2, u32
                         goto L6;
                     }
                     L22:;
-                    space_space_Space_move_active(e, l0, 0u);
+                    space_space_Space_move_active(stack, l0, 0u);
                 }
                 L6:;
                 l14 = 3u;
@@ -14072,18 +14080,19 @@ static void store_index_index_from(struct engine *e, u64 l0, u32 l1, u32 l2, u32
             }
         }
         L2:;
-        e->stack_pointer = l11;
+        stack = l11;
         return;
     }
     trap();
 }
 
-static u32 store_store_place_of(struct engine *e, u64 l0, u32 l1, u32 l2, u32 l3) {
+static u32 store_store_place_of(u64 stack, u64 l0, u32 l1, u32 l2, u32 l3) {
     u64 l4 = 0;
     u32 l5 = 0;
     u32 l6 = 0;
     u32 l7 = 0;
-    if ((i64)(e->stack_pointer - e->stack) >= (i64)16ull) {
+    (void)stack;
+    {
         {
             if (l1 == l3) goto L2;
             if (l1 < l3) {
@@ -14157,7 +14166,7 @@ static u32 store_store_place_of(struct engine *e, u64 l0, u32 l1, u32 l2, u32 l3
     return 0;
 }
 
-static u32 core_display_show_items(struct engine *e, u64 l0, u32 l1, u32 l2, u64 l3) {
+static u32 core_display_show_items(u64 stack, u64 l0, u32 l1, u32 l2, u64 l3) {
     u64 l4 = 0;
     u64 l5 = 0;
     u64 l6 = 0;
@@ -14165,12 +14174,12 @@ static u32 core_display_show_items(struct engine *e, u64 l0, u32 l1, u32 l2, u64
     u64 l8 = 0;
     u64 l9 = 0;
     u32 l10 = 0;
-    l4 = e->stack_pointer - 64ull;
-    e->stack_pointer = l4;
+    l4 = stack - 64ull;
+    stack = l4;
     {
         {
             l5 = l4;
-            if ((i64)(l5 - e->stack) >= (i64)16ull) {
+            {
                 if (l1 >= l2) goto L1;
                 l9 = (u64)l2;
                 l7 = (u64)l1;
@@ -14233,7 +14242,7 @@ static u32 core_display_show_items(struct engine *e, u64 l0, u32 l1, u32 l2, u64
                         const u64 t23 = load64(l6);
                         l4 = t23 + 1ull;
                         store64(l6, l4);
-                        itoa_Buffer_format(e, l5 + 8ull, l5 + 24ull, l2);
+                        itoa_Buffer_format(stack, l5 + 8ull, l5 + 24ull, l2);
                         {
                             {
                                 const u64 t26 = load64(l5 + 16u);
@@ -14295,17 +14304,18 @@ static u32 core_display_show_items(struct engine *e, u64 l0, u32 l1, u32 l2, u64
         l10 = 1u;
     }
     L1:;
-    e->stack_pointer = l5 + 64ull;
+    stack = l5 + 64ull;
     return l10;
 }
 
-static void itoa_Buffer_format(struct engine *e, u64 l0, u64 l1, u32 l2) {
+static void itoa_Buffer_format(u64 stack, u64 l0, u64 l1, u32 l2) {
     u64 l3 = 0;
     u64 l4 = 0;
     u64 l5 = 0;
     u64 l6 = 0;
     u32 l7 = 0;
-    if ((i64)(e->stack_pointer - e->stack) >= (i64)16ull) {
+    (void)stack;
+    {
         l4 = (u64)l2;
         l3 = 40ull;
         if (l2 >= 10000u) {
@@ -14358,7 +14368,7 @@ static void itoa_Buffer_format(struct engine *e, u64 l0, u64 l1, u32 l2) {
     trap();
 }
 
-static u32 forms_work_Work_load_other_part(struct engine *e, u64 l0, u32 l1, u32 l2) {
+static u32 forms_work_Work_load_other_part(u64 stack, u64 l0, u32 l1, u32 l2) {
     u64 l3 = 0;
     u64 l4 = 0;
     u64 l5 = 0;
@@ -14383,8 +14393,8 @@ static u32 forms_work_Work_load_other_part(struct engine *e, u64 l0, u32 l1, u32
     u32 l24 = 0;
     u32 l25 = 0;
     u32 l26 = 0;
-    l16 = e->stack_pointer;
-    if ((i64)(l16 - e->stack) >= (i64)16ull) {
+    l16 = stack;
+    {
         l2 = l2 - l1;
         const u32 t2 = load32(l0 + 8ull);
         const u32 t3 = load32(l0 + 24ull);
@@ -14399,7 +14409,7 @@ static u32 forms_work_Work_load_other_part(struct engine *e, u64 l0, u32 l1, u32
             const u32 t7 = load32(l4);
             l24 = t7;
             if (l2 > (l24 - l25)) {
-                space_space_Space_move_active(e, l0, 0u);
+                space_space_Space_move_active(stack, l0, 0u);
                 const u32 t9 = load32(l4);
                 l24 = t9;
                 const u32 t10 = load32(l0 + 16ull);
@@ -14415,7 +14425,7 @@ static u32 forms_work_Work_load_other_part(struct engine *e, u64 l0, u32 l1, u32
             l7 = t12;
             {
                 if (l2 >= 25u) {
-                    space_copies_copy_long(e, l7, l8, l8 + l11, l9);
+                    space_copies_copy_long(stack, l7, l8, l8 + l11, l9);
                     goto L13;
                 }
                 if (l2 >= 8u) {
@@ -14696,14 +14706,14 @@ static u32 forms_work_Work_load_other_part(struct engine *e, u64 l0, u32 l1, u32
             L13:;
             store32(l0 + 24ull, l1);
         }
-        e->stack_pointer = l16;
+        stack = l16;
         return l26;
     }
     trap();
     return 0;
 }
 
-static u32 functions_arguments_put_part(struct engine *e, u64 l0, u32 l1, u32 l2) {
+static u32 functions_arguments_put_part(u64 stack, u64 l0, u32 l1, u32 l2) {
     u32 l3 = 0;
     u32 l4 = 0;
     u32 l5 = 0;
@@ -14712,8 +14722,8 @@ static u32 functions_arguments_put_part(struct engine *e, u64 l0, u32 l1, u32 l2
     u64 l8 = 0;
     u64 l9 = 0;
     u64 l10 = 0;
-    l9 = e->stack_pointer;
-    if ((i64)(l9 - e->stack) >= (i64)16ull) {
+    l9 = stack;
+    {
         u32 v2;
         {
             l5 = l2 - l1;
@@ -14724,7 +14734,7 @@ static u32 functions_arguments_put_part(struct engine *e, u64 l0, u32 l1, u32 l2
             l4 = l3 + t5;
             const u32 t6 = load32(l0 + 24ull);
             if (l5 > (t3 - (l4 + t6))) {
-                const u32 t8 = space_space_Space_find_way(e, l0, (u64)l5);
+                const u32 t8 = space_space_Space_find_way(stack, l0, (u64)l5);
                 if (t8 == 0) { v2 = 0u; goto L2; }
                 const u32 t9 = load32(l0 + 16ull);
                 l3 = t9;
@@ -14746,7 +14756,7 @@ static u32 functions_arguments_put_part(struct engine *e, u64 l0, u32 l1, u32 l2
                     store32(l7 + 4ull, t15);
                     goto L12;
                 }
-                space_copies_copy_more(e, l6, l8, l10, l7);
+                space_copies_copy_more(stack, l6, l8, l10, l7);
             }
             L12:;
             l0 = l0 + 20ull;
@@ -14756,14 +14766,14 @@ static u32 functions_arguments_put_part(struct engine *e, u64 l0, u32 l1, u32 l2
         }
         L2:;
         l3 = v2;
-        e->stack_pointer = l9;
+        stack = l9;
         return l3;
     }
     trap();
     return 0;
 }
 
-static u32 values_number_long_greater(struct engine *e, u64 l0, u64 l1, u64 l2, u64 l3) {
+static u32 values_number_long_greater(u64 stack, u64 l0, u64 l1, u64 l2, u64 l3) {
     u64 l4 = 0;
     u64 l5 = 0;
     u64 l6 = 0;
@@ -14776,7 +14786,8 @@ static u32 values_number_long_greater(struct engine *e, u64 l0, u64 l1, u64 l2, 
     u32 l13 = 0;
     u32 l14 = 0;
     u32 l15 = 0;
-    if ((i64)(e->stack_pointer - e->stack) >= (i64)16ull) {
+    (void)stack;
+    {
         l7 = 0ull - l1;
         l6 = l0 + (l1 << 3);
         L2:;
@@ -14983,7 +14994,7 @@ static u32 values_number_long_greater(struct engine *e, u64 l0, u64 l1, u64 l2, 
     return 0;
 }
 
-static void values_number_long_tail(struct engine *e, u64 l0, u64 l1, u64 l2) {
+static void values_number_long_tail(u64 stack, u64 l0, u64 l1, u64 l2) {
     u64 l3 = 0;
     u64 l4 = 0;
     u64 l5 = 0;
@@ -15000,12 +15011,12 @@ static void values_number_long_tail(struct engine *e, u64 l0, u64 l1, u64 l2) {
     u32 l16 = 0;
     u32 l17 = 0;
     u32 l18 = 0;
-    l3 = e->stack_pointer - 48ull;
-    e->stack_pointer = l3;
+    l3 = stack - 48ull;
+    stack = l3;
     {
         {
             l5 = l3;
-            if ((i64)(l5 - e->stack) >= (i64)16ull) {
+            {
                 l15 = 0u - (u32)l2;
                 l3 = ((l2 << 3) + l1) + 9ull;
                 l1 = 0ull;
@@ -15080,8 +15091,8 @@ static void values_number_long_tail(struct engine *e, u64 l0, u64 l1, u64 l2) {
                             goto L17;
                         }
                         l16 = (i64)l8 < (i64)0ull;
-                        multi3(e, l5 + 16ull, l16 ? (0ull - l12) : l12, 0ull, l1, 0ull);
-                        multi3(e, l5 + 32ull, l16 ? (0ull - (l8 + (u64)(l12 != 0ull))) : l8, 0ull, l1, 0ull);
+                        multi3(stack, l5 + 16ull, l16 ? (0ull - l12) : l12, 0ull, l1, 0ull);
+                        multi3(stack, l5 + 32ull, l16 ? (0ull - (l8 + (u64)(l12 != 0ull))) : l8, 0ull, l1, 0ull);
                         const u64 t19 = load64(l5 + 40u);
                         const u64 t20 = load64(l5 + 24u);
                         l4 = t20;
@@ -15097,7 +15108,7 @@ static void values_number_long_tail(struct engine *e, u64 l0, u64 l1, u64 l2) {
                         const u32 t24 = (l10 - 1ull) < (t23 & 18446744073709551614ull);
                         l10 = l10 + 9223372036854775807ull;
                         if ((l9 == l10) ? t24 : (l10 < l9)) goto L17;
-                        multi3(e, l5, l12, l8, l1, 0ull);
+                        multi3(stack, l5, l12, l8, l1, 0ull);
                         const u64 t25 = load64(l5 + 8u);
                         l4 = t25;
                         const u64 t26 = load64(l5);
@@ -15156,17 +15167,18 @@ static void values_number_long_tail(struct engine *e, u64 l0, u64 l1, u64 l2) {
         store32(l0, 0u - l17);
     }
     L1:;
-    e->stack_pointer = l5 + 48ull;
+    stack = l5 + 48ull;
 }
 
-static u32 forms_work_Work_pointer(struct engine *e, u64 l0, u32 l1) {
+static u32 forms_work_Work_pointer(u64 stack, u64 l0, u32 l1) {
     u32 l2 = 0;
     u32 l3 = 0;
     u32 l4 = 0;
     u32 l5 = 0;
     u32 l6 = 0;
     u64 l7 = 0;
-    if ((i64)(e->stack_pointer - e->stack) >= (i64)16ull) {
+    (void)stack;
+    {
         const u32 t2 = load32(l0 + 48ull);
         l2 = t2;
         {
@@ -15258,14 +15270,15 @@ static u32 forms_work_Work_pointer(struct engine *e, u64 l0, u32 l1) {
     return 0;
 }
 
-static u32 forms_work_Work_body_len(struct engine *e, u64 l0, u32 l1) {
+static u32 forms_work_Work_body_len(u64 stack, u64 l0, u32 l1) {
     u32 l2 = 0;
     u32 l3 = 0;
     u32 l4 = 0;
     u32 l5 = 0;
     u32 l6 = 0;
     u64 l7 = 0;
-    if ((i64)(e->stack_pointer - e->stack) >= (i64)16ull) {
+    (void)stack;
+    {
         const u32 t2 = load32(l0 + 48ull);
         l2 = t2;
         {
@@ -15357,14 +15370,15 @@ static u32 forms_work_Work_body_len(struct engine *e, u64 l0, u32 l1) {
     return 0;
 }
 
-static void forms_work_Work_body(struct engine *e, u64 l0, u64 l1, u32 l2) {
+static void forms_work_Work_body(u64 stack, u64 l0, u64 l1, u32 l2) {
     u32 l3 = 0;
     u32 l4 = 0;
     u32 l5 = 0;
     u32 l6 = 0;
     u32 l7 = 0;
     u64 l8 = 0;
-    if ((i64)(e->stack_pointer - e->stack) >= (i64)16ull) {
+    (void)stack;
+    {
         const u32 t2 = load32(l1 + 48ull);
         l3 = t2;
         {
@@ -15465,7 +15479,7 @@ static void forms_work_Work_body(struct engine *e, u64 l0, u64 l1, u32 l2) {
     trap();
 }
 
-static void functions_form_parts_take_part(struct engine *e, u64 l0, u64 l1, u32 l2, u32 l3, u32 l4, u32 l5) {
+static void functions_form_parts_take_part(u64 stack, u64 l0, u64 l1, u32 l2, u32 l3, u32 l4, u32 l5) {
     u64 l6 = 0;
     u64 l7 = 0;
     u64 l8 = 0;
@@ -15480,11 +15494,11 @@ static void functions_form_parts_take_part(struct engine *e, u64 l0, u64 l1, u32
     u32 l17 = 0;
     u32 l18 = 0;
     u32 l19 = 0;
-    l6 = e->stack_pointer - 16ull;
-    e->stack_pointer = l6;
+    l6 = stack - 16ull;
+    stack = l6;
     l9 = l6;
-    if ((i64)(l9 - e->stack) >= (i64)16ull) {
-        (void)forms_work_Work_body_len(e, l1, l2);
+    {
+        (void)forms_work_Work_body_len(stack, l1, l2);
         l8 = (u64)l4;
         {
             L4:;
@@ -15493,7 +15507,7 @@ static void functions_form_parts_take_part(struct engine *e, u64 l0, u64 l1, u32
                     {
                         {
                             if (l3 < l4) {
-                                forms_work_Work_body(e, l9, l1, l2);
+                                forms_work_Work_body(stack, l9, l1, l2);
                                 {
                                     const u64 t10 = load64(l9 + 8u);
                                     l6 = t10;
@@ -15513,12 +15527,12 @@ static void functions_form_parts_take_part(struct engine *e, u64 l0, u64 l1, u32
                                             if (l7 != 0ull) goto L14;
                                         }
                                     }
-                                    (void)forms_work_Work_body_len(e, l1, l2);
+                                    (void)forms_work_Work_body_len(stack, l1, l2);
                                     l14 = l4;
                                     goto L6;
                                 }
                                 L9:;
-                                (void)forms_work_Work_body_len(e, l1, l2);
+                                (void)forms_work_Work_body_len(stack, l1, l2);
                                 l14 = (l3 > l4) ? l4 : l3;
                                 if (l3 >= l4) goto L6;
                                 const u32 t18 = load32(l1 + 16ull);
@@ -15694,7 +15708,7 @@ static void functions_form_parts_take_part(struct engine *e, u64 l0, u64 l1, u32
                                 }
                                 goto L6;
                             }
-                            forms_work_Work_set_pointer(e, l1, l2, l5);
+                            forms_work_Work_set_pointer(stack, l1, l2, l5);
                             store32(l0 + 4ull, 0u);
                             store16(l0, (u16)1u);
                             goto L3;
@@ -15730,20 +15744,20 @@ static void functions_form_parts_take_part(struct engine *e, u64 l0, u64 l1, u32
                     l3 = l4;
                 }
                 L5:;
-                const u32 t76 = forms_work_Work_copy_body(e, l1, l2, l14, l3);
+                const u32 t76 = forms_work_Work_copy_body(stack, l1, l2, l14, l3);
                 if (t76) goto L4;
             }
             store16(l0, (u16)0u);
             store32(l0 + 4ull, 0u);
         }
         L3:;
-        e->stack_pointer = l9 + 16ull;
+        stack = l9 + 16ull;
         return;
     }
     trap();
 }
 
-static void forms_work_Work_set_pointer(struct engine *e, u64 l0, u32 l1, u32 l2) {
+static void forms_work_Work_set_pointer(u64 stack, u64 l0, u32 l1, u32 l2) {
     u32 l3 = 0;
     u32 l4 = 0;
     u32 l5 = 0;
@@ -15753,7 +15767,8 @@ static void forms_work_Work_set_pointer(struct engine *e, u64 l0, u32 l1, u32 l2
     u64 l9 = 0;
     u64 l10 = 0;
     u64 l11 = 0;
-    if ((i64)(e->stack_pointer - e->stack) >= (i64)16ull) {
+    (void)stack;
+    {
         l10 = l0 + 48ull;
         const u32 t2 = load32(l10);
         l3 = t2;
@@ -15839,7 +15854,7 @@ static void forms_work_Work_set_pointer(struct engine *e, u64 l0, u32 l1, u32 l2
     trap();
 }
 
-static u32 forms_work_Work_copy_body(struct engine *e, u64 l0, u32 l1, u32 l2, u32 l3) {
+static u32 forms_work_Work_copy_body(u64 stack, u64 l0, u32 l1, u32 l2, u32 l3) {
     u32 l4 = 0;
     u32 l5 = 0;
     u32 l6 = 0;
@@ -15847,8 +15862,8 @@ static u32 forms_work_Work_copy_body(struct engine *e, u64 l0, u32 l1, u32 l2, u
     u32 l8 = 0;
     u64 l9 = 0;
     u64 l10 = 0;
-    l10 = e->stack_pointer;
-    if ((i64)(l10 - e->stack) >= (i64)16ull) {
+    l10 = stack;
+    {
         const u32 t2 = load32(l0 + 48ull);
         l4 = t2;
         {
@@ -15935,16 +15950,16 @@ static u32 forms_work_Work_copy_body(struct engine *e, u64 l0, u32 l1, u32 l2, u
             v29 = l1;
         }
         l4 = (v29 + l4) + 3u;
-        const u32 t33 = space_space_Space_copy_store(e, t28, l4 + l2, l3 + l4);
+        const u32 t33 = space_space_Space_copy_store(stack, t28, l4 + l2, l3 + l4);
         l4 = t33;
-        e->stack_pointer = l10;
+        stack = l10;
         return l4;
     }
     trap();
     return 0;
 }
 
-static u32 space_space_Space_copy_store(struct engine *e, u64 l0, u32 l1, u32 l2) {
+static u32 space_space_Space_copy_store(u64 stack, u64 l0, u32 l1, u32 l2) {
     u64 l3 = 0;
     u64 l4 = 0;
     u64 l5 = 0;
@@ -15959,8 +15974,8 @@ static u32 space_space_Space_copy_store(struct engine *e, u64 l0, u32 l1, u32 l2
     u64 l14 = 0;
     u32 l15 = 0;
     u32 l16 = 0;
-    l10 = e->stack_pointer;
-    if ((i64)(l10 - e->stack) >= (i64)16ull) {
+    l10 = stack;
+    {
         u32 v2;
         {
             l16 = l2 - l1;
@@ -15970,7 +15985,7 @@ static u32 space_space_Space_copy_store(struct engine *e, u64 l0, u32 l1, u32 l2
             l15 = t4 + t5;
             const u32 t6 = load32(l0 + 24ull);
             if (l16 > (t3 - (l15 + t6))) {
-                const u32 t8 = space_space_Space_find_way(e, l0, (u64)l16);
+                const u32 t8 = space_space_Space_find_way(stack, l0, (u64)l16);
                 if (t8 == 0) { v2 = 0u; goto L2; }
                 const u32 t9 = load32(l0 + 20ull);
                 const u32 t10 = load32(l0 + 16ull);
@@ -16081,7 +16096,7 @@ static u32 space_space_Space_copy_store(struct engine *e, u64 l0, u32 l1, u32 l2
                     store32(l3 + 4ull, t39);
                     goto L12;
                 }
-                space_copies_copy_long(e, l4, l5, l7, l9);
+                space_copies_copy_long(stack, l4, l5, l7, l9);
             }
             L12:;
             l0 = l0 + 20ull;
@@ -16091,14 +16106,14 @@ static u32 space_space_Space_copy_store(struct engine *e, u64 l0, u32 l1, u32 l2
         }
         L2:;
         l15 = v2;
-        e->stack_pointer = l10;
+        stack = l10;
         return l15;
     }
     trap();
     return 0;
 }
 
-static void store_borders_lay_borders(struct engine *e, u64 l0, u32 l1, u32 l2) {
+static void store_borders_lay_borders(u64 stack, u64 l0, u32 l1, u32 l2) {
     u64 l3 = 0;
     u64 l4 = 0;
     u64 l5 = 0;
@@ -16108,7 +16123,8 @@ static void store_borders_lay_borders(struct engine *e, u64 l0, u32 l1, u32 l2) 
     u32 l9 = 0;
     u32 l10 = 0;
     u32 l11 = 0;
-    if ((i64)(e->stack_pointer - e->stack) >= (i64)16ull) {
+    (void)stack;
+    {
         l2 = l2 - l1;
         if (l2 >= 2u) {
             l6 = (u64)l2;
@@ -16208,7 +16224,7 @@ static void store_borders_lay_borders(struct engine *e, u64 l0, u32 l1, u32 l2) 
     trap();
 }
 
-static void space_space_Space_write_part(struct engine *e, u64 l0, u32 l1, u32 l2, u32 l3) {
+static void space_space_Space_write_part(u64 stack, u64 l0, u32 l1, u32 l2, u32 l3) {
     u64 l4 = 0;
     u64 l5 = 0;
     u64 l6 = 0;
@@ -16227,8 +16243,8 @@ static void space_space_Space_write_part(struct engine *e, u64 l0, u32 l1, u32 l
     u64 l19 = 0;
     u64 l20 = 0;
     u64 l21 = 0;
-    l10 = e->stack_pointer;
-    if ((i64)(l10 - e->stack) >= (i64)16ull) {
+    l10 = stack;
+    {
         l3 = l3 - l2;
         l12 = (u64)l3;
         const u32 t2 = load32(l0 + 16ull);
@@ -16237,8 +16253,8 @@ static void space_space_Space_write_part(struct engine *e, u64 l0, u32 l1, u32 l
         const u64 t3 = load64(l0);
         l7 = t3;
         if (l3 >= 25u) {
-            space_copies_copy_long(e, l7, l8, l8 + l12, l9);
-            e->stack_pointer = l10;
+            space_copies_copy_long(stack, l7, l8, l8 + l12, l9);
+            stack = l10;
             return;
         }
         if (l3 >= 8u) {
@@ -16359,7 +16375,7 @@ static void space_space_Space_write_part(struct engine *e, u64 l0, u32 l1, u32 l
                 store16(l0 + 56u, (u16)t50);
                 const u32 t51 = load32(l4 + 60ull);
                 store32(l0 + 60ull, t51);
-                e->stack_pointer = l10;
+                stack = l10;
                 return;
             }
             const u64 t52 = load64(l4);
@@ -16385,7 +16401,7 @@ static void space_space_Space_write_part(struct engine *e, u64 l0, u32 l1, u32 l
             store64(l0 + 16u, l11);
             store64(l0 + 8u, l6);
             store64(l0, l5);
-            e->stack_pointer = l10;
+            stack = l10;
             return;
         }
         if (l3 >= 4u) {
@@ -16448,7 +16464,7 @@ static void space_space_Space_write_part(struct engine *e, u64 l0, u32 l1, u32 l
                 store16(l0 + 24u, (u16)t82);
                 const u32 t83 = load32(l4 + 28ull);
                 store32(l0 + 28ull, t83);
-                e->stack_pointer = l10;
+                stack = l10;
                 return;
             }
             const u64 t84 = load64(l4);
@@ -16462,7 +16478,7 @@ static void space_space_Space_write_part(struct engine *e, u64 l0, u32 l1, u32 l
             store64(l0 + 16u, l11);
             store64(l0 + 8u, l6);
             store64(l0, l5);
-            e->stack_pointer = l10;
+            stack = l10;
             return;
         }
         if (l3 >= 2u) {
@@ -16503,7 +16519,7 @@ static void space_space_Space_write_part(struct engine *e, u64 l0, u32 l1, u32 l
                 store16(l0 + 8u, (u16)t100);
                 const u32 t101 = load32(l4 + 12ull);
                 store32(l0 + 12ull, t101);
-                e->stack_pointer = l10;
+                stack = l10;
                 return;
             }
             const u64 t102 = load64(l4);
@@ -16511,7 +16527,7 @@ static void space_space_Space_write_part(struct engine *e, u64 l0, u32 l1, u32 l
             const u64 t103 = load64(l4 + 8u);
             store64(l0 + 8u, t103);
             store64(l0, l5);
-            e->stack_pointer = l10;
+            stack = l10;
             return;
         }
         if (l3 == 1u) {
@@ -16522,13 +16538,13 @@ static void space_space_Space_write_part(struct engine *e, u64 l0, u32 l1, u32 l
             const u32 t106 = load32(l4 + 4ull);
             store32(l0 + 4ull, t106);
         }
-        e->stack_pointer = l10;
+        stack = l10;
         return;
     }
     trap();
 }
 
-static void store_define_take_out(struct engine *e, u64 l0, u32 l1, u32 l2, u32 l3) {
+static void store_define_take_out(u64 stack, u64 l0, u32 l1, u32 l2, u32 l3) {
     u64 l4 = 0;
     u64 l5 = 0;
     u64 l6 = 0;
@@ -16541,8 +16557,8 @@ static void store_define_take_out(struct engine *e, u64 l0, u32 l1, u32 l2, u32 
     u32 l13 = 0;
     u32 l14 = 0;
     u32 l15 = 0;
-    l7 = e->stack_pointer;
-    if ((i64)(l7 - e->stack) >= (i64)16ull) {
+    l7 = stack;
+    {
         {
             const u32 t3 = load32(l0 + 8ull);
             l9 = t3;
@@ -16645,14 +16661,14 @@ static void store_define_take_out(struct engine *e, u64 l0, u32 l1, u32 l2, u32 
         } else {
             v35 = l10;
         }
-        space_space_Space_remove_store(e, t33, t34, v35 + (l1 + l2));
-        e->stack_pointer = l7;
+        space_space_Space_remove_store(stack, t33, t34, v35 + (l1 + l2));
+        stack = l7;
         return;
     }
     trap();
 }
 
-static void space_space_Space_remove_store(struct engine *e, u64 l0, u32 l1, u32 l2) {
+static void space_space_Space_remove_store(u64 stack, u64 l0, u32 l1, u32 l2) {
     u64 l3 = 0;
     u64 l4 = 0;
     u64 l5 = 0;
@@ -16666,8 +16682,8 @@ static void space_space_Space_remove_store(struct engine *e, u64 l0, u32 l1, u32
     u64 l13 = 0;
     u64 l14 = 0;
     u32 l15 = 0;
-    l11 = e->stack_pointer;
-    if ((i64)(l11 - e->stack) >= (i64)16ull) {
+    l11 = stack;
+    {
         l9 = (u64)l1;
         const u64 t2 = load64(l0);
         l6 = t2;
@@ -16767,27 +16783,27 @@ static void space_space_Space_remove_store(struct engine *e, u64 l0, u32 l1, u32
                 store32(l4 + 4ull, t29);
                 goto L3;
             }
-            space_copies_copy_long(e, l6, l10, l3, l9);
+            space_copies_copy_long(stack, l6, l10, l3, l9);
         }
         L3:;
         l3 = l0 + 16ull;
         const u32 t30 = load32(l3);
         store32(l3, t30 + (l1 - l2));
-        e->stack_pointer = l11;
+        stack = l11;
         return;
     }
     trap();
 }
 
-static u32 forms_work_Work_fill_body(struct engine *e, u64 l0, u32 l1, u32 l2, u32 l3) {
+static u32 forms_work_Work_fill_body(u64 stack, u64 l0, u32 l1, u32 l2, u32 l3) {
     u64 l4 = 0;
-    l4 = e->stack_pointer;
-    if ((i64)(l4 - e->stack) >= (i64)16ull) {
+    l4 = stack;
+    {
         const u32 t2 = load32(l0 + 44ull);
         if (l1 != t2) {
-            const u32 t4 = forms_work_Work_fill_other(e, l0, l1, l2, l3);
+            const u32 t4 = forms_work_Work_fill_other(stack, l0, l1, l2, l3);
             l1 = t4;
-            e->stack_pointer = l4;
+            stack = l4;
             return l1;
         }
         const u64 t5 = load64(l0);
@@ -16799,16 +16815,16 @@ static u32 forms_work_Work_fill_body(struct engine *e, u64 l0, u32 l1, u32 l2, u
         const u32 t9 = load32(l0 + 4ull);
         l1 = (l1 + t9) + 3u;
         const u32 t10 = load32(l0 + 12ull);
-        const u32 t11 = store_fill_fill_items(e, t7, t8 + l1, l1 + t10, l2, l3);
+        const u32 t11 = store_fill_fill_items(stack, t7, t8 + l1, l1 + t10, l2, l3);
         l1 = t11;
-        e->stack_pointer = l4;
+        stack = l4;
         return l1;
     }
     trap();
     return 0;
 }
 
-static void space_filling_fill_each(struct engine *e, u64 l0, u64 l1, u64 l2, u64 l3, u64 l4, u64 l5, u64 l6) {
+static void space_filling_fill_each(u64 stack, u64 l0, u64 l1, u64 l2, u64 l3, u64 l4, u64 l5, u64 l6) {
     u64 l7 = 0;
     u64 l8 = 0;
     u64 l9 = 0;
@@ -16834,7 +16850,8 @@ static void space_filling_fill_each(struct engine *e, u64 l0, u64 l1, u64 l2, u6
     u32 l29 = 0;
     u32 l30 = 0;
     u32 l31 = 0;
-    if ((i64)(e->stack_pointer - e->stack) >= (i64)16ull) {
+    (void)stack;
+    {
         l31 = 1u;
         {
             if (l2 >= l3) goto L2;
@@ -17530,7 +17547,7 @@ static void space_filling_fill_each(struct engine *e, u64 l0, u64 l1, u64 l2, u6
     trap();
 }
 
-static void forms_work_Work_form(struct engine *e, u64 l0, u64 l1, u32 l2) {
+static void forms_work_Work_form(u64 stack, u64 l0, u64 l1, u32 l2) {
     u32 l3 = 0;
     u32 l4 = 0;
     u32 l5 = 0;
@@ -17540,7 +17557,8 @@ static void forms_work_Work_form(struct engine *e, u64 l0, u64 l1, u32 l2) {
     u64 l9 = 0;
     u64 l10 = 0;
     u64 l11 = 0;
-    if ((i64)(e->stack_pointer - e->stack) >= (i64)16ull) {
+    (void)stack;
+    {
         const u32 t2 = load32(l1 + 40ull);
         const u64 t3 = l0;
         u32 v4;
@@ -17633,7 +17651,7 @@ static void forms_work_Work_form(struct engine *e, u64 l0, u64 l1, u32 l2) {
     trap();
 }
 
-static u32 core_machine_printing_call_len(struct engine *e, u64 l0, u32 l1) {
+static u32 core_machine_printing_call_len(u64 stack, u64 l0, u32 l1) {
     u64 l2 = 0;
     u64 l3 = 0;
     u64 l4 = 0;
@@ -17644,9 +17662,9 @@ static u32 core_machine_printing_call_len(struct engine *e, u64 l0, u32 l1) {
     u32 l9 = 0;
     u32 l10 = 0;
     u32 l11 = 0;
-    l2 = e->stack_pointer - 176ull;
-    e->stack_pointer = l2;
-    if ((i64)(l2 - e->stack) >= (i64)16ull) {
+    l2 = stack - 176ull;
+    stack = l2;
+    {
         store8(l2 + 72u, (u8)0u);
         store64(l2 + 64u, 0ull);
         store64(l2 + 56u, 0ull);
@@ -17656,7 +17674,7 @@ static u32 core_machine_printing_call_len(struct engine *e, u64 l0, u32 l1) {
         l1 = t2;
         store32(l2 + 144u, l1);
         store32(l2 + 140u, l1);
-        functions_arguments_Arguments_next(e, l2 + 48ull, l2 + 136ull, l0);
+        functions_arguments_Arguments_next(stack, l2 + 48ull, l2 + 136ull, l0);
         const u32 t3 = load32(l0 + 16ull);
         l1 = t3;
         const u64 t4 = load64(l0);
@@ -17671,7 +17689,7 @@ static u32 core_machine_printing_call_len(struct engine *e, u64 l0, u32 l1) {
             l4 = (u64)(l1 + l10);
             if (((u64)(l1 + l9) - l4) == 2ull) {
                 l4 = l3 + (l4 << 3);
-                functions_function_function_of(e, l2 + 96ull, l4, l4 + 8ull);
+                functions_function_function_of(stack, l2 + 96ull, l4, l4 + 8ull);
                 const u64 t9 = load64(l2 + 136u);
                 l4 = t9;
                 store64(l2 + 57u, l4);
@@ -17684,7 +17702,7 @@ static u32 core_machine_printing_call_len(struct engine *e, u64 l0, u32 l1) {
                 l10 = t11;
                 const u32 t12 = load8(l2 + 96u);
                 l9 = t12;
-                functions_arguments_Arguments_next(e, l2 + 32ull, l2 + 80ull, l0);
+                functions_arguments_Arguments_next(stack, l2 + 32ull, l2 + 80ull, l0);
                 if (l9 == 0) goto L7;
                 const u32 t13 = load32(l2 + 36u);
                 l9 = t13;
@@ -17707,7 +17725,7 @@ static u32 core_machine_printing_call_len(struct engine *e, u64 l0, u32 l1) {
                             const u32 t19 = load32(l0 + 40ull);
                             l8 = t19;
                             if (l8 >= 8u) {
-                                forms_work_Work_find_among_more(e, l2 + 16ull, l0, l11, l9);
+                                forms_work_Work_find_among_more(stack, l2 + 16ull, l0, l11, l9);
                                 const u32 t21 = load32(l2 + 20u);
                                 l8 = t21;
                                 const u32 t22 = load8(l2 + 16u);
@@ -17735,7 +17753,7 @@ static u32 core_machine_printing_call_len(struct engine *e, u64 l0, u32 l1) {
                                 }
                             }
                             L23:;
-                            forms_work_Work_find_among_few(e, l2 + 24ull, l0, l11, l9);
+                            forms_work_Work_find_among_few(stack, l2 + 24ull, l0, l11, l9);
                             const u32 t28 = load32(l2 + 28u);
                             l8 = t28;
                             const u32 t29 = load8(l2 + 24u);
@@ -17751,7 +17769,7 @@ static u32 core_machine_printing_call_len(struct engine *e, u64 l0, u32 l1) {
                     l8 = 0u;
                 }
                 L16:;
-                forms_work_Work_stored(e, l2 + 96ull, l0, l8);
+                forms_work_Work_stored(stack, l2 + 96ull, l0, l8);
                 const u64 t30 = load64(l2 + 120u);
                 l4 = t30;
                 l5 = l4 & 4294967295ull;
@@ -17791,7 +17809,7 @@ static u32 core_machine_printing_call_len(struct engine *e, u64 l0, u32 l1) {
                             l1 = t40;
                         }
                         L35:;
-                        itoa_Buffer_format(e, l2, l2 + 136ull, l1);
+                        itoa_Buffer_format(stack, l2, l2 + 136ull, l1);
                         const u32 t41 = load32(l2 + 8u);
                         v34 = t41 + 2u;
                     }
@@ -17812,17 +17830,17 @@ static u32 core_machine_printing_call_len(struct engine *e, u64 l0, u32 l1) {
             store64(l2 + 65u, l4);
             store64(l2 + 80u, l3);
             store64(l2 + 88u, l4);
-            functions_arguments_Arguments_next(e, l2 + 40ull, l2 + 80ull, l0);
+            functions_arguments_Arguments_next(stack, l2 + 40ull, l2 + 80ull, l0);
         }
         L7:;
-        e->stack_pointer = l2 + 176ull;
+        stack = l2 + 176ull;
         return l8;
     }
     trap();
     return 0;
 }
 
-static u32 core_display_show_items2(struct engine *e, u64 l0, u32 l1, u32 l2, u64 l3) {
+static u32 core_display_show_items2(u64 stack, u64 l0, u32 l1, u32 l2, u64 l3) {
     u64 l4 = 0;
     u64 l5 = 0;
     u64 l6 = 0;
@@ -17831,13 +17849,13 @@ static u32 core_display_show_items2(struct engine *e, u64 l0, u32 l1, u32 l2, u6
     u64 l9 = 0;
     u64 l10 = 0;
     u64 l11 = 0;
-    l4 = e->stack_pointer - 64ull;
-    e->stack_pointer = l4;
+    l4 = stack - 64ull;
+    stack = l4;
     {
         {
             {
                 l6 = l4;
-                if ((i64)(l6 - e->stack) >= (i64)16ull) {
+                {
                     if (l1 < l2) {
                         l10 = (u64)l2;
                         l8 = (u64)l1;
@@ -17918,7 +17936,7 @@ static u32 core_display_show_items2(struct engine *e, u64 l0, u32 l1, u32 l2, u6
                                     store64(l4, l5);
                                 }
                                 L24:;
-                                itoa_Buffer_format(e, l6 + 8ull, l6 + 24ull, l2);
+                                itoa_Buffer_format(stack, l6 + 8ull, l6 + 24ull, l2);
                                 const u64 t31 = load64(l3 + 8ull);
                                 l7 = t31;
                                 {
@@ -18010,20 +18028,21 @@ static u32 core_display_show_items2(struct engine *e, u64 l0, u32 l1, u32 l2, u6
         l1 = 1u;
     }
     L1:;
-    e->stack_pointer = l6 + 64ull;
+    stack = l6 + 64ull;
     return l1;
 }
 
-static u64 engine_active(struct engine *e, u64 l0, u64 l1, u64 l2) {
+static u64 engine_active(u64 stack, u64 l0, u64 l1, u64 l2) {
     u64 l3 = 0;
     u64 l4 = 0;
     u64 l5 = 0;
     u64 l6 = 0;
     u64 l7 = 0;
     u32 l8 = 0;
+    (void)stack;
     u64 v1;
     {
-        if ((i64)(e->stack_pointer - e->stack) >= (i64)16ull) {
+        {
             {
                 const u32 t4 = load32(l0 + 28ull);
                 l8 = t4;
@@ -18092,10 +18111,8 @@ static u64 engine_active(struct engine *e, u64 l0, u64 l1, u64 l2) {
     return l2;
 }
 
-static void engine_again(struct engine *e, u64 l0, u64 l1) {
-    if ((i64)(e->stack_pointer - e->stack) <= (i64)15ull) {
-        trap();
-    }
+static void engine_again(u64 stack, u64 l0, u64 l1) {
+    (void)stack;
     store64(l0 + 72ull, 0ull);
     store64(l0 + 64ull, l1);
     store32(l0 + 32ull, 0u);
@@ -18103,47 +18120,58 @@ static void engine_again(struct engine *e, u64 l0, u64 l1) {
     store64(l0 + 78ull, 0ull);
 }
 
-static u32 engine_awaits(struct engine *e, u64 l0) {
-    u32 l1 = 0;
-    u64 l2 = 0;
-    l2 = e->stack_pointer;
-    if ((i64)(l2 - e->stack) <= (i64)15ull) {
-        trap();
+static u32 engine_awaits(u64 stack, u64 l0) {
+    u64 l1 = 0;
+    u32 l2 = 0;
+    u32 l3 = 0;
+    l1 = stack - 16ull;
+    stack = l1;
+    {
+        {
+            {
+                store8(l1 + 14u, (u8)0u);
+                store16(l1 + 12u, (u16)0u);
+                core_machine_Machine_next_function(stack, l1 + 12ull, l0);
+                const u32 t4 = load8(l1 + 12u);
+                if (t4 != 1u) goto L1;
+                const u32 t5 = load8(l1 + 13u);
+                l3 = t5;
+                if ((l3 - 2u) < 23u) goto L1;
+                if (l3 - 1u) goto L2;
+                l2 = 2u;
+                goto L1;
+            }
+            trap();
+        }
+        L2:;
+        l2 = 1u;
     }
-    const u32 t2 = core_machine_Machine_awaits(e, l0);
-    l1 = t2;
-    e->stack_pointer = l2;
-    l1 = l1 & 255u;
-    return l1;
+    L1:;
+    stack = l1 + 16ull;
+    return l2;
 }
 
-static u64 engine_form_count(struct engine *e, u64 l0) {
-    if ((i64)(e->stack_pointer - e->stack) <= (i64)15ull) {
-        trap();
-    }
+static u64 engine_form_count(u64 stack, u64 l0) {
+    (void)stack;
     const u64 t2 = load32(l0 + 40ull);
     l0 = t2;
     return l0;
 }
 
-static u64 engine_machine_size(struct engine *e) {
-    if ((i64)(e->stack_pointer - e->stack) <= (i64)15ull) {
-        trap();
-    }
+static u64 engine_machine_size(u64 stack) {
+    (void)stack;
     return 88ull;
 }
 
-static u32 engine_meta(struct engine *e, u64 l0) {
+static u32 engine_meta(u64 stack, u64 l0) {
     u32 l1 = 0;
-    if ((i64)(e->stack_pointer - e->stack) <= (i64)15ull) {
-        trap();
-    }
+    (void)stack;
     const u32 t2 = load8(l0 + 56ull);
     l1 = t2;
     return l1;
 }
 
-static u64 engine_neutral(struct engine *e, u64 l0, u64 l1, u64 l2) {
+static u64 engine_neutral(u64 stack, u64 l0, u64 l1, u64 l2) {
     u32 l3 = 0;
     u32 l4 = 0;
     u32 l5 = 0;
@@ -18151,9 +18179,10 @@ static u64 engine_neutral(struct engine *e, u64 l0, u64 l1, u64 l2) {
     u64 l7 = 0;
     u64 l8 = 0;
     u64 l9 = 0;
+    (void)stack;
     u64 v1;
     {
-        if ((i64)(e->stack_pointer - e->stack) >= (i64)16ull) {
+        {
             const u32 t3 = load32(l0 + 16ull);
             l3 = t3;
             const u32 t4 = load32(l0 + 20ull);
@@ -18218,16 +18247,17 @@ static u64 engine_neutral(struct engine *e, u64 l0, u64 l1, u64 l2) {
     return l2;
 }
 
-static u32 engine_open(struct engine *e, u64 l0, u64 l1, u64 l2, u64 l3) {
+static u32 engine_open(u64 stack, u64 l0, u64 l1, u64 l2, u64 l3) {
     u64 l4 = 0;
     u64 l5 = 0;
     u64 l6 = 0;
     u64 l7 = 0;
     u64 l8 = 0;
     u32 l9 = 0;
+    (void)stack;
     u32 v1;
     {
-        if ((i64)(e->stack_pointer - e->stack) >= (i64)16ull) {
+        {
             u32 v3;
             if (l2 <= 16777216ull) {
                 {
@@ -18291,16 +18321,17 @@ static u32 engine_open(struct engine *e, u64 l0, u64 l1, u64 l2, u64 l3) {
     return l9;
 }
 
-static u64 engine_part(struct engine *e, u64 l0, u32 l1) {
+static u64 engine_part(u64 stack, u64 l0, u32 l1) {
     u64 l2 = 0;
     u32 l3 = 0;
     u32 l4 = 0;
     u32 l5 = 0;
+    (void)stack;
     u64 v1;
     {
         {
             {
-                if ((i64)(e->stack_pointer - e->stack) >= (i64)16ull) {
+                {
                     {
                         {
                             {
@@ -18358,17 +18389,18 @@ static u64 engine_part(struct engine *e, u64 l0, u32 l1) {
     return l0;
 }
 
-static u32 engine_rule(struct engine *e, u64 l0) {
+static u32 engine_rule(u64 stack, u64 l0) {
     u32 l1 = 0;
     u32 l2 = 0;
     u32 l3 = 0;
     u32 l4 = 0;
     u64 l5 = 0;
+    (void)stack;
     u32 v1;
     {
         {
             {
-                if ((i64)(e->stack_pointer - e->stack) >= (i64)16ull) {
+                {
                     const u32 t5 = load32(l0 + 24ull);
                     l2 = t5;
                     if (l2 == 0) { v1 = 0u; goto L1; }
@@ -18429,7 +18461,7 @@ static u32 engine_rule(struct engine *e, u64 l0) {
     return l1;
 }
 
-static void engine_run(struct engine *e, u64 l0, u64 l1, u64 l2, u64 l3, u64 l4, u64 l5, u64 l6, u64 l7) {
+static void engine_run(u64 stack, u64 l0, u64 l1, u64 l2, u64 l3, u64 l4, u64 l5, u64 l6, u64 l7) {
     u64 l8 = 0;
     u64 l9 = 0;
     u64 l10 = 0;
@@ -18473,11 +18505,11 @@ static void engine_run(struct engine *e, u64 l0, u64 l1, u64 l2, u64 l3, u64 l4,
     u32 l48 = 0;
     u32 l49 = 0;
     u32 l50 = 0;
-    l10 = e->stack_pointer - 208ull;
-    e->stack_pointer = l10;
+    l10 = stack - 208ull;
+    stack = l10;
     {
         l9 = l10;
-        if ((i64)(l9 - e->stack) >= (i64)16ull) {
+        {
             {
                 if (l2 >= 16777217ull) {
                     store64(l0 + 4u, 0ull);
@@ -18559,11 +18591,11 @@ static void engine_run(struct engine *e, u64 l0, u64 l1, u64 l2, u64 l3, u64 l4,
                 l3 = l9 + 184ull;
                 l12 = l9 + 40ull;
                 l13 = l9 + 8ull;
-                l8 = e->stack_pointer - 208ull;
-                e->stack_pointer = l8;
+                l8 = stack - 208ull;
+                stack = l8;
                 {
                     {
-                        if ((i64)(l8 - e->stack) >= (i64)16ull) {
+                        {
                             const u64 t12 = load64(l3);
                             l17 = t12;
                             store64(l8 + 72u, 0ull);
@@ -18587,7 +18619,7 @@ static void engine_run(struct engine *e, u64 l0, u64 l1, u64 l2, u64 l3, u64 l4,
                                     l23 = l8 + 141ull;
                                     L20:;
                                     {
-                                        core_scan_pass(e, l8 + 72ull, l4, l15, l8 + 92ull, l8 + 88ull);
+                                        core_scan_pass(stack, l8 + 72ull, l4, l15, l8 + 92ull, l8 + 88ull);
                                         u32 v21;
                                         {
                                             const u32 t22 = load8(l8 + 72u);
@@ -18613,7 +18645,7 @@ static void engine_run(struct engine *e, u64 l0, u64 l1, u64 l2, u64 l3, u64 l4,
                                                                 l6 = l4 + 16ull;
                                                                 const u32 t33 = load32(l6);
                                                                 if ((l40 - (l37 + t33)) <= 10u) {
-                                                                    const u32 t35 = space_space_Space_find_way(e, l4, 11ull);
+                                                                    const u32 t35 = space_space_Space_find_way(stack, l4, 11ull);
                                                                     if (t35 == 0) goto L28;
                                                                     const u32 t36 = load32(l4 + 28ull);
                                                                     l40 = t36;
@@ -18696,7 +18728,7 @@ static void engine_run(struct engine *e, u64 l0, u64 l1, u64 l2, u64 l3, u64 l4,
                                                                                                                 const u32 t60 = load8(l6 + 16ull);
                                                                                                                 if (t60 != 2u) goto L58;
                                                                                                             }
-                                                                                                            functions_function_function_of(e, l8 + 144ull, l6, l6 + 8ull);
+                                                                                                            functions_function_function_of(stack, l8 + 144ull, l6, l6 + 8ull);
                                                                                                             const u32 t61 = load8(l8 + 144u);
                                                                                                             if (t61 != 1u) goto L58;
                                                                                                             l38 = (u32)(l16 >> 32);
@@ -18740,7 +18772,7 @@ static void engine_run(struct engine *e, u64 l0, u64 l1, u64 l2, u64 l3, u64 l4,
                                                                                                                             L66:;
                                                                                                                             const u32 t68 = load8(l19);
                                                                                                                             l35 = t68;
-                                                                                                                            devices_slice_source_SliceSourceSource_take_held(e, l12, l35, l4);
+                                                                                                                            devices_slice_source_SliceSourceSource_take_held(stack, l12, l35, l4);
                                                                                                                             {
                                                                                                                                 {
                                                                                                                                     const u32 t71 = load8(l12 + 17ull);
@@ -18773,7 +18805,7 @@ static void engine_run(struct engine *e, u64 l0, u64 l1, u64 l2, u64 l3, u64 l4,
                                                                                                                                             l38 = l36 + t81;
                                                                                                                                             const u32 t82 = load32(l4 + 24ull);
                                                                                                                                             if (t79 == (l38 + t82)) {
-                                                                                                                                                const u32 t84 = space_space_Space_push_in_way(e, l4, l8 + 144ull);
+                                                                                                                                                const u32 t84 = space_space_Space_push_in_way(stack, l4, l8 + 144ull);
                                                                                                                                                 if (t84) goto L78;
                                                                                                                                                 goto L51;
                                                                                                                                             }
@@ -18789,7 +18821,7 @@ static void engine_run(struct engine *e, u64 l0, u64 l1, u64 l2, u64 l3, u64 l4,
                                                                                                                                             store32(l7, l39);
                                                                                                                                         }
                                                                                                                                         L78:;
-                                                                                                                                        devices_slice_source_SliceSourceSource_take_held(e, l12, l35, l4);
+                                                                                                                                        devices_slice_source_SliceSourceSource_take_held(stack, l12, l35, l4);
                                                                                                                                         const u32 t87 = load8(l12 + 17ull);
                                                                                                                                         if (t87 == 0) goto L72;
                                                                                                                                     }
@@ -18849,7 +18881,7 @@ static void engine_run(struct engine *e, u64 l0, u64 l1, u64 l2, u64 l3, u64 l4,
                                                                                                                                 store32(l7, l38);
                                                                                                                                 goto L50;
                                                                                                                             }
-                                                                                                                            const u32 t105 = space_space_Space_push_in_way(e, l4, l8 + 144ull);
+                                                                                                                            const u32 t105 = space_space_Space_push_in_way(stack, l4, l8 + 144ull);
                                                                                                                             if (t105) goto L50;
                                                                                                                             goto L51;
                                                                                                                         }
@@ -18866,7 +18898,7 @@ static void engine_run(struct engine *e, u64 l0, u64 l1, u64 l2, u64 l3, u64 l4,
                                                                                                                     store32(l8 + 192u, l38);
                                                                                                                     store32(l8 + 188u, l41);
                                                                                                                     store32(l8 + 184u, l44);
-                                                                                                                    functions_arguments_Arguments_next(e, l8 + 16ull, l8 + 184ull, l4);
+                                                                                                                    functions_arguments_Arguments_next(stack, l8 + 16ull, l8 + 184ull, l4);
                                                                                                                     const u32 t107 = load32(l8 + 20u);
                                                                                                                     l34 = t107;
                                                                                                                     const u32 t108 = load32(l8 + 16u);
@@ -18883,7 +18915,7 @@ static void engine_run(struct engine *e, u64 l0, u64 l1, u64 l2, u64 l3, u64 l4,
                                                                                                                                 const u32 t112 = load32(l4 + 40ull);
                                                                                                                                 l36 = t112;
                                                                                                                                 if (l36 >= 8u) {
-                                                                                                                                    forms_work_Work_find_among_more(e, l8, l4, l35, l34);
+                                                                                                                                    forms_work_Work_find_among_more(stack, l8, l4, l35, l34);
                                                                                                                                     const u32 t114 = load8(l8);
                                                                                                                                     l34 = t114;
                                                                                                                                     const u32 t115 = load32(l8 + 4u);
@@ -18911,7 +18943,7 @@ static void engine_run(struct engine *e, u64 l0, u64 l1, u64 l2, u64 l3, u64 l4,
                                                                                                                                     }
                                                                                                                                 }
                                                                                                                                 L116:;
-                                                                                                                                forms_work_Work_find_among_few(e, l8 + 8ull, l4, l35, l34);
+                                                                                                                                forms_work_Work_find_among_few(stack, l8 + 8ull, l4, l35, l34);
                                                                                                                                 const u32 t121 = load8(l8 + 8u);
                                                                                                                                 l34 = t121;
                                                                                                                                 const u32 t122 = load32(l8 + 12u);
@@ -18928,8 +18960,8 @@ static void engine_run(struct engine *e, u64 l0, u64 l1, u64 l2, u64 l3, u64 l4,
                                                                                                                         l35 = 0u;
                                                                                                                     }
                                                                                                                     L109:;
-                                                                                                                    forms_work_Work_stored(e, l8 + 144ull, l4, l35);
-                                                                                                                    const u32 t123 = core_display_show_form(e, l8 + 144ull, l13);
+                                                                                                                    forms_work_Work_stored(stack, l8 + 144ull, l4, l35);
+                                                                                                                    const u32 t123 = core_display_show_form(stack, l8 + 144ull, l13);
                                                                                                                     l34 = t123 & 255u;
                                                                                                                     l36 = l34 ? 5u : 0u;
                                                                                                                     v49 = l34 + 3u; goto L49;
@@ -18955,7 +18987,7 @@ static void engine_run(struct engine *e, u64 l0, u64 l1, u64 l2, u64 l3, u64 l4,
                                                                                                                     store32(l8 + 152u, l38);
                                                                                                                     store32(l8 + 148u, l41);
                                                                                                                     store32(l8 + 144u, l44);
-                                                                                                                    functions_arguments_Arguments_next(e, l8 + 24ull, l8 + 144ull, l4);
+                                                                                                                    functions_arguments_Arguments_next(stack, l8 + 24ull, l8 + 144ull, l4);
                                                                                                                     const u32 t127 = load32(l8 + 24u);
                                                                                                                     l35 = t127;
                                                                                                                     const u32 t128 = load32(l8 + 28u);
@@ -19027,23 +19059,23 @@ static void engine_run(struct engine *e, u64 l0, u64 l1, u64 l2, u64 l3, u64 l4,
                                                                                                                                                                                                 }
                                                                                                                                                                                             }
                                                                                                                                                                                             L153:;
-                                                                                                                                                                                            functions_comparing_equal(e, l8 + 120ull, l4, l8 + 128ull);
+                                                                                                                                                                                            functions_comparing_equal(stack, l8 + 120ull, l4, l8 + 128ull);
                                                                                                                                                                                             goto L54;
                                                                                                                                                                                         }
                                                                                                                                                                                         L152:;
-                                                                                                                                                                                        functions_comparing_greater(e, l8 + 120ull, l4, l8 + 128ull);
+                                                                                                                                                                                        functions_comparing_greater(stack, l8 + 120ull, l4, l8 + 128ull);
                                                                                                                                                                                         goto L54;
                                                                                                                                                                                     }
                                                                                                                                                                                     L151:;
-                                                                                                                                                                                    functions_arithmetic_arithmetic(e, l8 + 120ull, l4, l42, l8 + 128ull);
+                                                                                                                                                                                    functions_arithmetic_arithmetic(stack, l8 + 120ull, l4, l42, l8 + 128ull);
                                                                                                                                                                                     goto L54;
                                                                                                                                                                                 }
                                                                                                                                                                                 L150:;
-                                                                                                                                                                                functions_bit_strings_union(e, l8 + 120ull, l4, l8 + 128ull);
+                                                                                                                                                                                functions_bit_strings_union(stack, l8 + 120ull, l4, l8 + 128ull);
                                                                                                                                                                                 goto L54;
                                                                                                                                                                             }
                                                                                                                                                                             L149:;
-                                                                                                                                                                            functions_bit_strings_intersection(e, l8 + 120ull, l4, l8 + 128ull);
+                                                                                                                                                                            functions_bit_strings_intersection(stack, l8 + 120ull, l4, l8 + 128ull);
                                                                                                                                                                             goto L54;
                                                                                                                                                                         }
                                                                                                                                                                         L148:;
@@ -19053,7 +19085,7 @@ static void engine_run(struct engine *e, u64 l0, u64 l1, u64 l2, u64 l3, u64 l4,
                                                                                                                                                                         const u64 t155 = load64(l8 + 136u);
                                                                                                                                                                         store64(l8 + 192u, t155);
                                                                                                                                                                         store64(l8 + 156u, 0ull);
-                                                                                                                                                                        functions_arguments_Arguments_next(e, l8 + 32ull, l8 + 184ull, l4);
+                                                                                                                                                                        functions_arguments_Arguments_next(stack, l8 + 32ull, l8 + 184ull, l4);
                                                                                                                                                                         const u32 t156 = load32(l8 + 32u);
                                                                                                                                                                         l38 = t156;
                                                                                                                                                                         const u32 t157 = load32(l8 + 36u);
@@ -19081,7 +19113,7 @@ static void engine_run(struct engine *e, u64 l0, u64 l1, u64 l2, u64 l3, u64 l4,
                                                                                                                                                                         store32(l8 + 152u, l36);
                                                                                                                                                                         store32(l8 + 148u, l34);
                                                                                                                                                                         store32(l8 + 144u, 2u);
-                                                                                                                                                                        functions_bit_strings_give_bits(e, l8 + 200ull, l4, l38, l34, l8 + 144ull);
+                                                                                                                                                                        functions_bit_strings_give_bits(stack, l8 + 200ull, l4, l38, l34, l8 + 144ull);
                                                                                                                                                                         const u32 t162 = load16(l8 + 200u);
                                                                                                                                                                         store16(l8 + 120u, (u16)t162);
                                                                                                                                                                         const u32 t163 = load32(l8 + 204u);
@@ -19089,39 +19121,39 @@ static void engine_run(struct engine *e, u64 l0, u64 l1, u64 l2, u64 l3, u64 l4,
                                                                                                                                                                         goto L54;
                                                                                                                                                                     }
                                                                                                                                                                     L147:;
-                                                                                                                                                                    functions_bit_strings_shift(e, l8 + 120ull, l4, l8 + 128ull);
+                                                                                                                                                                    functions_bit_strings_shift(stack, l8 + 120ull, l4, l8 + 128ull);
                                                                                                                                                                     goto L54;
                                                                                                                                                                 }
                                                                                                                                                                 L146:;
-                                                                                                                                                                functions_bit_strings_rotate(e, l8 + 120ull, l4, l8 + 128ull);
+                                                                                                                                                                functions_bit_strings_rotate(stack, l8 + 120ull, l4, l8 + 128ull);
                                                                                                                                                                 goto L54;
                                                                                                                                                             }
                                                                                                                                                             L145:;
-                                                                                                                                                            functions_form_parts_call_segment(e, l8 + 120ull, l4, l8 + 128ull);
+                                                                                                                                                            functions_form_parts_call_segment(stack, l8 + 120ull, l4, l8 + 128ull);
                                                                                                                                                             goto L54;
                                                                                                                                                         }
                                                                                                                                                         L144:;
-                                                                                                                                                        functions_form_parts_call_character(e, l8 + 120ull, l4, l8 + 128ull);
+                                                                                                                                                        functions_form_parts_call_character(stack, l8 + 120ull, l4, l8 + 128ull);
                                                                                                                                                         goto L54;
                                                                                                                                                     }
                                                                                                                                                     L143:;
-                                                                                                                                                    functions_form_parts_call_number(e, l8 + 120ull, l4, l8 + 128ull);
+                                                                                                                                                    functions_form_parts_call_number(stack, l8 + 120ull, l4, l8 + 128ull);
                                                                                                                                                     goto L54;
                                                                                                                                                 }
                                                                                                                                                 L142:;
-                                                                                                                                                functions_form_parts_initial_part(e, l8 + 120ull, l4, l8 + 128ull);
+                                                                                                                                                functions_form_parts_initial_part(stack, l8 + 120ull, l4, l8 + 128ull);
                                                                                                                                                 goto L54;
                                                                                                                                             }
                                                                                                                                             L141:;
-                                                                                                                                            functions_form_parts_call_restore(e, l8 + 120ull, l4, l8 + 128ull);
+                                                                                                                                            functions_form_parts_call_restore(stack, l8 + 120ull, l4, l8 + 128ull);
                                                                                                                                             goto L54;
                                                                                                                                         }
                                                                                                                                         L140:;
-                                                                                                                                        functions_form_calls_define_string(e, l8 + 120ull, l4, l8 + 128ull);
+                                                                                                                                        functions_form_calls_define_string(stack, l8 + 120ull, l4, l8 + 128ull);
                                                                                                                                         goto L54;
                                                                                                                                     }
                                                                                                                                     L139:;
-                                                                                                                                    functions_form_calls_segment_string(e, l8 + 120ull, l4, l8 + 128ull);
+                                                                                                                                    functions_form_calls_segment_string(stack, l8 + 120ull, l4, l8 + 128ull);
                                                                                                                                     goto L54;
                                                                                                                                 }
                                                                                                                                 L138:;
@@ -19131,7 +19163,7 @@ static void engine_run(struct engine *e, u64 l0, u64 l1, u64 l2, u64 l3, u64 l4,
                                                                                                                                 store64(l8 + 144u, t165);
                                                                                                                                 const u32 t166 = load8(l8 + 156u);
                                                                                                                                 l36 = t166;
-                                                                                                                                functions_arguments_Arguments_next(e, l8 + 64ull, l8 + 144ull, l4);
+                                                                                                                                functions_arguments_Arguments_next(stack, l8 + 64ull, l8 + 144ull, l4);
                                                                                                                                 const u32 t167 = load32(l8 + 68u);
                                                                                                                                 l34 = t167;
                                                                                                                                 const u32 t168 = load32(l8 + 64u);
@@ -19141,7 +19173,7 @@ static void engine_run(struct engine *e, u64 l0, u64 l1, u64 l2, u64 l3, u64 l4,
                                                                                                                                     const u32 t170 = load32(l4 + 40ull);
                                                                                                                                     l38 = t170;
                                                                                                                                     if (l38 >= 8u) {
-                                                                                                                                        forms_work_Work_find_among_more(e, l8 + 48ull, l4, l35, l34);
+                                                                                                                                        forms_work_Work_find_among_more(stack, l8 + 48ull, l4, l35, l34);
                                                                                                                                         const u32 t172 = load32(l8 + 52u);
                                                                                                                                         l42 = t172;
                                                                                                                                         const u32 t173 = load8(l8 + 48u);
@@ -19169,7 +19201,7 @@ static void engine_run(struct engine *e, u64 l0, u64 l1, u64 l2, u64 l3, u64 l4,
                                                                                                                                         }
                                                                                                                                     }
                                                                                                                                     L174:;
-                                                                                                                                    forms_work_Work_find_among_few(e, l8 + 56ull, l4, l35, l34);
+                                                                                                                                    forms_work_Work_find_among_few(stack, l8 + 56ull, l4, l35, l34);
                                                                                                                                     const u32 t179 = load32(l8 + 60u);
                                                                                                                                     l42 = t179;
                                                                                                                                     const u32 t180 = load8(l8 + 56u);
@@ -19180,15 +19212,15 @@ static void engine_run(struct engine *e, u64 l0, u64 l1, u64 l2, u64 l3, u64 l4,
                                                                                                                                 goto L55;
                                                                                                                             }
                                                                                                                             L137:;
-                                                                                                                            functions_form_calls_delete_definition(e, l8 + 120ull, l4, l8 + 128ull);
+                                                                                                                            functions_form_calls_delete_definition(stack, l8 + 120ull, l4, l8 + 128ull);
                                                                                                                             goto L54;
                                                                                                                         }
                                                                                                                         L136:;
-                                                                                                                        functions_form_calls_delete_all(e, l8 + 120ull, l4);
+                                                                                                                        functions_form_calls_delete_all(stack, l8 + 120ull, l4);
                                                                                                                         goto L54;
                                                                                                                     }
                                                                                                                     L135:;
-                                                                                                                    functions_form_calls_list_names(e, l8 + 120ull, l4, l8 + 128ull);
+                                                                                                                    functions_form_calls_list_names(stack, l8 + 120ull, l4, l8 + 128ull);
                                                                                                                     goto L54;
                                                                                                                 }
                                                                                                                 L134:;
@@ -19205,16 +19237,16 @@ static void engine_run(struct engine *e, u64 l0, u64 l1, u64 l2, u64 l3, u64 l4,
                                                                                                             l7 = l8 + 112ull;
                                                                                                             l2 = l4;
                                                                                                             l6 = l8 + 96ull;
-                                                                                                            l3 = e->stack_pointer - 32ull;
-                                                                                                            e->stack_pointer = l3;
+                                                                                                            l3 = stack - 32ull;
+                                                                                                            stack = l3;
                                                                                                             {
                                                                                                                 l1 = l3;
-                                                                                                                if ((i64)(l1 - e->stack) >= (i64)16ull) {
+                                                                                                                {
                                                                                                                     const u64 t183 = load64(l6 + 8u);
                                                                                                                     store64(l1 + 24u, t183);
                                                                                                                     const u64 t184 = load64(l6);
                                                                                                                     store64(l1 + 16u, t184);
-                                                                                                                    functions_arguments_Arguments_next(e, l1 + 8ull, l1 + 16ull, l2);
+                                                                                                                    functions_arguments_Arguments_next(stack, l1 + 8ull, l1 + 16ull, l2);
                                                                                                                     l35 = 3u;
                                                                                                                     u32 v185;
                                                                                                                     {
@@ -19266,7 +19298,7 @@ static void engine_run(struct engine *e, u64 l0, u64 l1, u64 l2, u64 l3, u64 l4,
                                                                                                                             const u64 t203 = load64(l2);
                                                                                                                             const u64 t204 = load64(l13);
                                                                                                                             const u64 t205 = load64(l13 + 8ull);
-                                                                                                                            const u64 t206 = c_filling_put_characters(e, l6, l3, t203, t204, t205);
+                                                                                                                            const u64 t206 = c_filling_put_characters(stack, l6, l3, t203, t204, t205);
                                                                                                                             l6 = t206;
                                                                                                                             const u64 t207 = load64(l2);
                                                                                                                             store64(l2, l6 + t207);
@@ -19284,7 +19316,7 @@ static void engine_run(struct engine *e, u64 l0, u64 l1, u64 l2, u64 l3, u64 l4,
                                                                                                                     store8(l7, (u8)l35);
                                                                                                                     store32(l7 + 4ull, 0u);
                                                                                                                     store8(l7 + 1ull, (u8)l39);
-                                                                                                                    e->stack_pointer = l1 + 32ull;
+                                                                                                                    stack = l1 + 32ull;
                                                                                                                     goto L181;
                                                                                                                 }
                                                                                                                 trap();
@@ -19414,7 +19446,7 @@ static void engine_run(struct engine *e, u64 l0, u64 l1, u64 l2, u64 l3, u64 l4,
                                                                                                         l44 = t248;
                                                                                                         const u32 t249 = load32(l4 + 16ull);
                                                                                                         if (l34 > (l46 - (t247 + (l44 + t249)))) {
-                                                                                                            store_fill_load_items_in_way(e, l8 + 40ull, l4, l35, l38 + l39);
+                                                                                                            store_fill_load_items_in_way(stack, l8 + 40ull, l4, l35, l38 + l39);
                                                                                                             const u32 t251 = load8(l8 + 40u);
                                                                                                             l36 = t251;
                                                                                                             const u32 t252 = load32(l8 + 44u);
@@ -19451,10 +19483,10 @@ static void engine_run(struct engine *e, u64 l0, u64 l1, u64 l2, u64 l3, u64 l4,
                                                                                                                                     if (((t265 + t266) | (t267 + t268)) & 255u) { v245 = 0u; goto L245; }
                                                                                                                                     l36 = l34 + l44;
                                                                                                                                     l3 = (u64)(l46 - l36);
-                                                                                                                                    core_slice_edits_slice_T_copy_from_slice(e, l7 + (l3 << 3), l7 + (l11 << 3), 4ull);
+                                                                                                                                    core_slice_edits_slice_T_copy_from_slice(stack, l7 + (l3 << 3), l7 + (l11 << 3), 4ull);
                                                                                                                                     const u64 t269 = l3 - l11;
                                                                                                                                     l3 = l6 - 4ull;
-                                                                                                                                    core_slice_edits_slice_T_copy_from_slice(e, l7 + ((t269 + l3) << 3), l7 + (l3 << 3), 4ull);
+                                                                                                                                    core_slice_edits_slice_T_copy_from_slice(stack, l7 + ((t269 + l3) << 3), l7 + (l3 << 3), 4ull);
                                                                                                                                     goto L254;
                                                                                                                                 }
                                                                                                                                 l3 = l7 + (l11 << 3);
@@ -19471,10 +19503,10 @@ static void engine_run(struct engine *e, u64 l0, u64 l1, u64 l2, u64 l3, u64 l4,
                                                                                                                                 if (t272 | t273) { v245 = 0u; goto L245; }
                                                                                                                                 l36 = l34 + l44;
                                                                                                                                 l3 = (u64)(l46 - l36);
-                                                                                                                                core_slice_edits_slice_T_copy_from_slice(e, l7 + (l3 << 3), l7 + (l11 << 3), 2ull);
+                                                                                                                                core_slice_edits_slice_T_copy_from_slice(stack, l7 + (l3 << 3), l7 + (l11 << 3), 2ull);
                                                                                                                                 const u64 t274 = l3 - l11;
                                                                                                                                 l3 = l6 - 2ull;
-                                                                                                                                core_slice_edits_slice_T_copy_from_slice(e, l7 + ((t274 + l3) << 3), l7 + (l3 << 3), 2ull);
+                                                                                                                                core_slice_edits_slice_T_copy_from_slice(stack, l7 + ((t274 + l3) << 3), l7 + (l3 << 3), 2ull);
                                                                                                                                 goto L254;
                                                                                                                             }
                                                                                                                             L258:;
@@ -19594,7 +19626,7 @@ static void engine_run(struct engine *e, u64 l0, u64 l1, u64 l2, u64 l3, u64 l4,
                                                                                                                             }
                                                                                                                         }
                                                                                                                         l3 = l1 - 8ull;
-                                                                                                                        core_slice_edits_slice_T_copy_from_slice(e, l7 + ((l3 + l18) << 3), l7 + ((l3 + l11) << 3), 8ull);
+                                                                                                                        core_slice_edits_slice_T_copy_from_slice(stack, l7 + ((l3 + l18) << 3), l7 + ((l3 + l11) << 3), 8ull);
                                                                                                                         store32(l4 + 24ull, l36);
                                                                                                                         goto L253;
                                                                                                                     }
@@ -19612,7 +19644,7 @@ static void engine_run(struct engine *e, u64 l0, u64 l1, u64 l2, u64 l3, u64 l4,
                                                                                                                     goto L254;
                                                                                                                 }
                                                                                                                 L255:;
-                                                                                                                space_copies_copy_long(e, l7, l11, l6, l18);
+                                                                                                                space_copies_copy_long(stack, l7, l11, l6, l18);
                                                                                                             }
                                                                                                             L254:;
                                                                                                             store32(l4 + 24ull, l36);
@@ -19634,7 +19666,7 @@ static void engine_run(struct engine *e, u64 l0, u64 l1, u64 l2, u64 l3, u64 l4,
                                                                                             {
                                                                                                 const u32 t325 = load32(l4 + 44ull);
                                                                                                 if (l42 != t325) {
-                                                                                                    const u32 t327 = forms_work_Work_fill_other(e, l4, l42, l49, l48);
+                                                                                                    const u32 t327 = forms_work_Work_fill_other(stack, l4, l42, l49, l48);
                                                                                                     v324 = t327; goto L324;
                                                                                                 }
                                                                                                 const u64 t328 = load64(l4);
@@ -19645,7 +19677,7 @@ static void engine_run(struct engine *e, u64 l0, u64 l1, u64 l2, u64 l3, u64 l4,
                                                                                                 const u32 t331 = load32(l3 + 4ull);
                                                                                                 l34 = (l34 + t331) + 3u;
                                                                                                 const u32 t332 = load32(l3 + 12ull);
-                                                                                                const u32 t333 = store_fill_fill_items(e, l4, t330 + l34, l34 + t332, l49, l48);
+                                                                                                const u32 t333 = store_fill_fill_items(stack, l4, t330 + l34, l34 + t332, l49, l48);
                                                                                                 v324 = t333;
                                                                                             }
                                                                                             L324:;
@@ -19754,7 +19786,7 @@ static void engine_run(struct engine *e, u64 l0, u64 l1, u64 l2, u64 l3, u64 l4,
                                                 l3 = l4 + 20ull;
                                                 const u32 t349 = load32(l3);
                                                 l34 = t349;
-                                                core_delivery_deliver(e, l4, l40, l41);
+                                                core_delivery_deliver(stack, l4, l40, l41);
                                                 l37 = l34 + (l37 + l45);
                                                 const u32 t350 = load32(l3);
                                                 l40 = t350;
@@ -19794,7 +19826,7 @@ static void engine_run(struct engine *e, u64 l0, u64 l1, u64 l2, u64 l3, u64 l4,
                     store64(l14, (u64)l36 & 255ull);
                 }
                 L9:;
-                e->stack_pointer = l8 + 208ull;
+                stack = l8 + 208ull;
                 const u32 t353 = load8(l9 + 160u);
                 l35 = t353;
                 const u32 t354 = load32(l9 + 176u);
@@ -19814,7 +19846,7 @@ static void engine_run(struct engine *e, u64 l0, u64 l1, u64 l2, u64 l3, u64 l4,
                 store32(l0, l35 + 1u);
             }
             L3:;
-            e->stack_pointer = l9 + 208ull;
+            stack = l9 + 208ull;
             goto L1;
         }
         trap();
@@ -19822,7 +19854,7 @@ static void engine_run(struct engine *e, u64 l0, u64 l1, u64 l2, u64 l3, u64 l4,
     L1:;
 }
 
-static u64 engine_form_codes(struct engine *e, u64 l0, u64 l1, u64 l2, u64 l3) {
+static u64 engine_form_codes(u64 stack, u64 l0, u64 l1, u64 l2, u64 l3) {
     u64 l4 = 0;
     u64 l5 = 0;
     u64 l6 = 0;
@@ -19832,12 +19864,12 @@ static u64 engine_form_codes(struct engine *e, u64 l0, u64 l1, u64 l2, u64 l3) {
     u64 v1;
     {
         l5 = l0;
-        l0 = e->stack_pointer - 48ull;
-        e->stack_pointer = l0;
+        l0 = stack - 48ull;
+        stack = l0;
         l4 = l0;
-        if ((i64)(l4 - e->stack) >= (i64)16ull) {
+        {
             if (l1 <= 4294967295ull) {
-                forms_work_Work_form(e, l4, l5, (u32)l1);
+                forms_work_Work_form(stack, l4, l5, (u32)l1);
             }
             u64 v4;
             {
@@ -19848,7 +19880,7 @@ static u64 engine_form_codes(struct engine *e, u64 l0, u64 l1, u64 l2, u64 l3) {
                 store64(l4 + 24u, 0ull);
                 store64(l4 + 16u, 0ull);
                 store64(l4 + 8u, 0ull);
-                forms_work_Work_stored(e, l4 + 8ull, l5, (u32)l1);
+                forms_work_Work_stored(stack, l4 + 8ull, l5, (u32)l1);
                 const u64 t6 = load64(l4 + 32u);
                 l7 = t6;
                 l6 = l7 & 4294967295ull;
@@ -19900,7 +19932,7 @@ static u64 engine_form_codes(struct engine *e, u64 l0, u64 l1, u64 l2, u64 l3) {
             }
             L4:;
             l0 = v4;
-            e->stack_pointer = l4 + 48ull;
+            stack = l4 + 48ull;
             v1 = l0; goto L1;
         }
         trap();
@@ -19910,7 +19942,7 @@ static u64 engine_form_codes(struct engine *e, u64 l0, u64 l1, u64 l2, u64 l3) {
     return l3;
 }
 
-static u64 engine_form_name(struct engine *e, u64 l0, u64 l1, u64 l2, u64 l3) {
+static u64 engine_form_name(u64 stack, u64 l0, u64 l1, u64 l2, u64 l3) {
     u64 l4 = 0;
     u64 l5 = 0;
     u64 l6 = 0;
@@ -19919,12 +19951,12 @@ static u64 engine_form_name(struct engine *e, u64 l0, u64 l1, u64 l2, u64 l3) {
     u64 v1;
     {
         l6 = l0;
-        l5 = e->stack_pointer - 48ull;
-        e->stack_pointer = l5;
+        l5 = stack - 48ull;
+        stack = l5;
         l4 = l5;
-        if ((i64)(l4 - e->stack) >= (i64)16ull) {
+        {
             if (l1 <= 4294967295ull) {
-                forms_work_Work_form(e, l4, l6, (u32)l1);
+                forms_work_Work_form(stack, l4, l6, (u32)l1);
             }
             {
                 const u64 t5 = load32(l6 + 40ull);
@@ -19935,7 +19967,7 @@ static u64 engine_form_name(struct engine *e, u64 l0, u64 l1, u64 l2, u64 l3) {
                 store64(l4 + 24u, 0ull);
                 store64(l4 + 16u, 0ull);
                 store64(l4 + 8u, 0ull);
-                forms_work_Work_stored(e, l4 + 8ull, l6, (u32)l1);
+                forms_work_Work_stored(stack, l4 + 8ull, l6, (u32)l1);
                 const u64 t6 = load64(l4 + 16u);
                 l7 = t6;
                 l1 = (l3 < l7) ? l3 : l7;
@@ -19989,7 +20021,7 @@ static u64 engine_form_name(struct engine *e, u64 l0, u64 l1, u64 l2, u64 l3) {
                 store8(t19, (u8)v20);
             }
             L4:;
-            e->stack_pointer = l4 + 48ull;
+            stack = l4 + 48ull;
             v1 = l7; goto L1;
         }
         trap();
@@ -19999,16 +20031,16 @@ static u64 engine_form_name(struct engine *e, u64 l0, u64 l1, u64 l2, u64 l3) {
     return l3;
 }
 
-static u64 engine_form_pointer(struct engine *e, u64 l0, u64 l1) {
+static u64 engine_form_pointer(u64 stack, u64 l0, u64 l1) {
     u64 l2 = 0;
-    l2 = e->stack_pointer - 48ull;
-    e->stack_pointer = l2;
+    l2 = stack - 48ull;
+    stack = l2;
     u64 v1;
     {
         {
-            if ((i64)(l2 - e->stack) >= (i64)16ull) {
+            {
                 if (l1 <= 4294967295ull) {
-                    forms_work_Work_form(e, l2, l0, (u32)l1);
+                    forms_work_Work_form(stack, l2, l0, (u32)l1);
                 }
                 const u64 t5 = load32(l0 + 40ull);
                 if (l1 < t5) goto L2;
@@ -20022,17 +20054,17 @@ static u64 engine_form_pointer(struct engine *e, u64 l0, u64 l1) {
         store64(l2 + 24u, 0ull);
         store64(l2 + 16u, 0ull);
         store64(l2 + 8u, 0ull);
-        forms_work_Work_stored(e, l2 + 8ull, l0, (u32)l1);
+        forms_work_Work_stored(stack, l2 + 8ull, l0, (u32)l1);
         const u64 t6 = load32(l2 + 40u);
         v1 = t6;
     }
     L1:;
     l1 = v1;
-    e->stack_pointer = l2 + 48ull;
+    stack = l2 + 48ull;
     return l1;
 }
 
-static u64 engine_form_text(struct engine *e, u64 l0, u64 l1, u64 l2, u64 l3) {
+static u64 engine_form_text(u64 stack, u64 l0, u64 l1, u64 l2, u64 l3) {
     u64 l4 = 0;
     u64 l5 = 0;
     u64 l6 = 0;
@@ -20041,12 +20073,12 @@ static u64 engine_form_text(struct engine *e, u64 l0, u64 l1, u64 l2, u64 l3) {
     u64 v1;
     {
         l5 = l1;
-        l1 = e->stack_pointer - 112ull;
-        e->stack_pointer = l1;
+        l1 = stack - 112ull;
+        stack = l1;
         l4 = l1;
-        if ((i64)(l4 - e->stack) >= (i64)16ull) {
+        {
             if (l5 <= 4294967295ull) {
-                forms_work_Work_form(e, l4 + 24ull, l0, (u32)l5);
+                forms_work_Work_form(stack, l4 + 24ull, l0, (u32)l5);
             }
             l1 = 0ull;
             const u64 t4 = load32(l0 + 40ull);
@@ -20057,7 +20089,7 @@ static u64 engine_form_text(struct engine *e, u64 l0, u64 l1, u64 l2, u64 l3) {
                 store64(l4 + 48u, 0ull);
                 store64(l4 + 40u, 0ull);
                 store64(l4 + 32u, 0ull);
-                forms_work_Work_stored(e, l4 + 32ull, l0, (u32)l5);
+                forms_work_Work_stored(stack, l4 + 32ull, l0, (u32)l5);
                 const u64 t6 = load64(l4 + 56u);
                 l0 = t6;
                 l2 = l0 & 4294967295ull;
@@ -20096,7 +20128,7 @@ static u64 engine_form_text(struct engine *e, u64 l0, u64 l1, u64 l2, u64 l3) {
                                 l7 = t16;
                             }
                             L11:;
-                            itoa_Buffer_format(e, l4 + 8ull, l4 + 72ull, l7);
+                            itoa_Buffer_format(stack, l4 + 8ull, l4 + 72ull, l7);
                             const u32 t17 = load32(l4 + 16u);
                             v10 = t17 + 2u;
                         }
@@ -20114,9 +20146,9 @@ static u64 engine_form_text(struct engine *e, u64 l0, u64 l1, u64 l2, u64 l3) {
                 store64(l4 + 88u, 0ull);
                 store64(l4 + 72u, l6);
                 store64(l4 + 80u, (l1 > l3) ? l3 : l1);
-                (void)core_display_show_form(e, l4 + 32ull, l4 + 72ull);
+                (void)core_display_show_form(stack, l4 + 32ull, l4 + 72ull);
             }
-            e->stack_pointer = l4 + 112ull;
+            stack = l4 + 112ull;
             v1 = l1; goto L1;
         }
         trap();
@@ -20126,197 +20158,199 @@ static u64 engine_form_text(struct engine *e, u64 l0, u64 l1, u64 l2, u64 l3) {
     return l3;
 }
 
-static void engine_turn(struct engine *e, u64 l0, u64 l1, u64 l2, u64 l3, u64 l4, u64 l5, u32 l6, u64 l7) {
-    u32 l8 = 0;
-    u32 l9 = 0;
-    u32 l10 = 0;
-    u32 l11 = 0;
-    u32 l12 = 0;
-    u32 l13 = 0;
-    u32 l14 = 0;
-    u32 l15 = 0;
-    u32 l16 = 0;
-    u32 l17 = 0;
-    u32 l18 = 0;
-    u32 l19 = 0;
-    u32 l20 = 0;
-    u32 l21 = 0;
-    u32 l22 = 0;
-    u32 l23 = 0;
-    u32 l24 = 0;
-    u32 l25 = 0;
+static void engine_turn(u64 stack, u64 l0, u64 l1, u64 l2, u64 l3, u64 l4, u64 l5, u32 l6, u64 l7) {
+    u64 l8 = 0;
+    u64 l9 = 0;
+    u64 l10 = 0;
+    u64 l11 = 0;
+    u64 l12 = 0;
+    u64 l13 = 0;
+    u64 l14 = 0;
+    u64 l15 = 0;
+    u64 l16 = 0;
+    u64 l17 = 0;
+    u64 l18 = 0;
+    u64 l19 = 0;
+    u64 l20 = 0;
+    u64 l21 = 0;
+    u64 l22 = 0;
+    u64 l23 = 0;
+    u64 l24 = 0;
+    u64 l25 = 0;
     u64 l26 = 0;
     u64 l27 = 0;
     u64 l28 = 0;
     u64 l29 = 0;
-    u64 l30 = 0;
-    u64 l31 = 0;
-    u64 l32 = 0;
-    u64 l33 = 0;
-    u64 l34 = 0;
-    u64 l35 = 0;
-    u64 l36 = 0;
-    u64 l37 = 0;
-    u64 l38 = 0;
-    u64 l39 = 0;
-    u64 l40 = 0;
-    u64 l41 = 0;
-    u64 l42 = 0;
-    u64 l43 = 0;
-    u64 l44 = 0;
-    u64 l45 = 0;
-    u64 l46 = 0;
-    u64 l47 = 0;
-    u64 l48 = 0;
-    l37 = l0;
-    l29 = l1;
-    l40 = l3;
-    l25 = l6;
-    l26 = e->stack_pointer - 208ull;
-    e->stack_pointer = l26;
+    u32 l30 = 0;
+    u32 l31 = 0;
+    u32 l32 = 0;
+    u32 l33 = 0;
+    u32 l34 = 0;
+    u32 l35 = 0;
+    u32 l36 = 0;
+    u32 l37 = 0;
+    u32 l38 = 0;
+    u32 l39 = 0;
+    u32 l40 = 0;
+    u32 l41 = 0;
+    u32 l42 = 0;
+    u32 l43 = 0;
+    u32 l44 = 0;
+    u32 l45 = 0;
+    u32 l46 = 0;
+    u32 l47 = 0;
+    l20 = l0;
+    l12 = l1;
+    l8 = l2;
+    l46 = l6;
+    l9 = stack - 224ull;
+    stack = l9;
     {
-        if ((i64)(l26 - e->stack) >= (i64)16ull) {
-            store64(l26 + 88u, 0ull);
-            store64(l26 + 80u, l40);
-            store64(l26 + 96u, 0ull);
-            store64(l26 + 48u, 0ull);
-            store64(l26 + 40u, l5);
-            store64(l26 + 56u, 0ull);
-            store64(l26 + 64u, 0ull);
-            store64(l26 + 72u, l2 + ((l2 == 0) ? 4096ull : 0ull));
-            store64(l26 + 32u, l4 + ((l4 == 0) ? 4096ull : 0ull));
+        {
+            store64(l9 + 96u, 0ull);
+            store64(l9 + 88u, l3);
+            store64(l9 + 104u, 0ull);
+            store64(l9 + 56u, 0ull);
+            store64(l9 + 48u, l5);
+            store64(l9 + 64u, 0ull);
+            store64(l9 + 72u, 0ull);
+            store64(l9 + 80u, l8 + ((l8 == 0) ? 4096ull : 0ull));
+            store64(l9 + 40u, l4 + ((l4 == 0) ? 4096ull : 0ull));
             {
-                if (l7 == 0) goto L3;
-                l41 = l29 + 56ull;
-                l44 = l26 + 181ull;
-                l45 = l26 + 165ull;
-                l46 = l26 + 117ull;
+                if (l7 == 0) {
+                    l5 = 0ull;
+                    goto L3;
+                }
+                l23 = l12 + 56ull;
+                l25 = l9 + 197ull;
+                l26 = l9 + 181ull;
+                l27 = l9 + 125ull;
                 l4 = 0ull;
-                L4:;
                 {
-                    store64(l26 + 144u, 0ull);
-                    store64(l26 + 104u, 0ull);
-                    store64(l26 + 112u, 0ull);
-                    store64(l26 + 120u, 0ull);
-                    l5 = l29 + 84ull;
-                    const u32 t5 = load8(l5);
-                    u64 v6;
-                    if (t5 != 1u) {
-                        l2 = l29 + 80ull;
-                        const u32 t7 = load32(l2);
-                        store32(l26 + 144u, t7);
-                        l42 = l29 + 72ull;
-                        const u64 t8 = load64(l42);
-                        store64(l26 + 136u, t8);
-                        const u64 t9 = load64(l29 + 64ull);
-                        store64(l26 + 128u, t9);
-                        l36 = l26 + 104ull;
-                        l28 = l29;
-                        l30 = l26 + 128ull;
-                        l33 = l7 - l4;
-                        l27 = e->stack_pointer - 160ull;
-                        e->stack_pointer = l27;
-                        {
+                    L6:;
+                    {
+                        store64(l9 + 152u, 0ull);
+                        store64(l9 + 112u, 0ull);
+                        store64(l9 + 120u, 0ull);
+                        store64(l9 + 128u, 0ull);
+                        l8 = 0ull;
+                        l5 = l12 + 84ull;
+                        const u32 t7 = load8(l5);
+                        if (t7 != 1u) {
+                            l8 = l12 + 80ull;
+                            const u32 t9 = load32(l8);
+                            store32(l9 + 152u, t9);
+                            l16 = l12 + 72ull;
+                            const u64 t10 = load64(l16);
+                            store64(l9 + 144u, t10);
+                            const u64 t11 = load64(l12 + 64ull);
+                            store64(l9 + 136u, t11);
+                            l19 = l9 + 112ull;
+                            l1 = l12;
+                            l13 = l9 + 136ull;
+                            l11 = l7 - l4;
+                            l10 = stack - 160ull;
+                            stack = l10;
                             {
                                 {
-                                    if ((i64)(l27 - e->stack) >= (i64)16ull) {
-                                        const u64 t14 = load64(l30 + 8u);
-                                        l38 = t14;
-                                        store64(l27 + 56u, 0ull);
-                                        store64(l27 + 64u, 0ull);
-                                        store32(l27 + 76u, 0u);
-                                        const u32 t15 = load32(l28 + 20ull);
-                                        l11 = t15;
-                                        store32(l27 + 80u, l11);
-                                        const u32 t16 = load32(l30 + 16u);
-                                        l21 = t16;
-                                        const u64 t17 = load64(l30);
-                                        l30 = t17 - l38;
-                                        l3 = (l30 < l33) ? l30 : l33;
-                                        if ((l3 == 0) == 0) {
-                                            const u32 t19 = load32(l28 + 24ull);
-                                            const u32 t20 = load32(l28 + 16ull);
-                                            l8 = t19 + (l11 + t20);
-                                            l47 = l27 + 125ull;
-                                            l32 = l27 + 109ull;
-                                            l33 = l3;
-                                            L21:;
-                                            {
-                                                core_scan_pass(e, l27 + 56ull, l28, l33, l27 + 80ull, l27 + 76ull);
-                                                u64 v22;
+                                    {
+                                        {
+                                            const u64 t16 = load64(l13 + 8u);
+                                            l21 = t16;
+                                            store64(l10 + 56u, 0ull);
+                                            store64(l10 + 64u, 0ull);
+                                            store32(l10 + 76u, 0u);
+                                            const u32 t17 = load32(l1 + 20ull);
+                                            l30 = t17;
+                                            store32(l10 + 80u, l30);
+                                            const u32 t18 = load32(l13 + 16u);
+                                            l35 = t18;
+                                            const u64 t19 = load64(l13);
+                                            l13 = t19 - l21;
+                                            l14 = (l11 > l13) ? l13 : l11;
+                                            if ((l14 == 0) == 0) {
+                                                const u32 t21 = load32(l1 + 24ull);
+                                                const u32 t22 = load32(l1 + 16ull);
+                                                l31 = t21 + (l30 + t22);
+                                                l28 = l10 + 125ull;
+                                                l29 = l10 + 109ull;
+                                                l11 = l14;
+                                                L23:;
                                                 {
-                                                    const u32 t23 = load8(l27 + 56u);
-                                                    if (t23 == 0) {
-                                                        l21 = (l8 > l21) ? l8 : l21;
-                                                        const u64 t25 = load64(l27 + 64u);
-                                                        v22 = l33 - t25; goto L22;
-                                                    }
-                                                    u32 v26;
+                                                    core_scan_pass(stack, l10 + 56ull, l1, l11, l10 + 80ull, l10 + 76ull);
+                                                    u64 v24;
                                                     {
-                                                        const u32 t27 = load8(l27 + 60u);
-                                                        if (t27 == 0) {
-                                                            store32(l28 + 32ull, 0u);
-                                                            l39 = l28 + 20ull;
-                                                            store32(l39, 0u);
-                                                            const u32 t29 = load32(l28 + 28ull);
-                                                            l8 = t29;
-                                                            l34 = l28 + 24ull;
-                                                            const u32 t30 = load32(l34);
-                                                            l11 = t30;
-                                                            l31 = l28 + 16ull;
-                                                            const u32 t31 = load32(l31);
-                                                            if ((l8 - (l11 + t31)) <= 10u) {
-                                                                const u32 t33 = space_space_Space_find_way(e, l28, 11ull);
-                                                                if (t33 == 0) goto L12;
-                                                                const u32 t34 = load32(l28 + 24ull);
-                                                                l11 = t34;
-                                                                const u32 t35 = load32(l28 + 28ull);
-                                                                l8 = t35;
-                                                            }
-                                                            const u64 t36 = load64(l28);
-                                                            l11 = l11 + 11u;
-                                                            l30 = t36 + ((u64)(l8 - l11) << 3);
-                                                            store64(l30 + 56u, 0ull);
-                                                            store64(l30 + 48u, 0ull);
-                                                            store64(l30 + 40u, 0ull);
-                                                            store64(l30 + 32u, 0ull);
-                                                            store64(l30 + 24u, 0ull);
-                                                            store64(l30 + 16u, 0ull);
-                                                            store64(l30 + 8u, 0ull);
-                                                            store64(l30, 0ull);
-                                                            store16(l30 + 80u, (u16)10496u);
-                                                            store16(l30 + 72u, (u16)10496u);
-                                                            store16(l30 + 64u, (u16)29440u);
-                                                            store32(l30 + 84ull, 0u);
-                                                            store32(l30 + 76ull, 0u);
-                                                            store32(l30 + 68ull, 0u);
-                                                            store8(l30 + 57ull, (u8)114u);
-                                                            store8(l30 + 49ull, (u8)40u);
-                                                            store8(l30 + 41ull, (u8)35u);
-                                                            store8(l30 + 33ull, (u8)44u);
-                                                            store8(l30 + 25ull, (u8)115u);
-                                                            store8(l30 + 17ull, (u8)112u);
-                                                            store8(l30 + 9ull, (u8)40u);
-                                                            store8(l30 + 1ull, (u8)35u);
-                                                            store32(l34, l11);
-                                                            const u32 t37 = load32(l39);
-                                                            const u32 t38 = load32(l31);
-                                                            v26 = t37 + (t38 + l11); goto L26;
+                                                        const u32 t25 = load8(l10 + 56u);
+                                                        if (t25 == 0) {
+                                                            l35 = (l31 > l35) ? l31 : l35;
+                                                            const u64 t27 = load64(l10 + 64u);
+                                                            v24 = l11 - t27; goto L24;
                                                         }
-                                                        const u64 t39 = load64(l28);
-                                                        l31 = t39;
-                                                        const u32 t40 = load32(l28 + 16ull);
-                                                        l11 = t40;
-                                                        const u64 t41 = load64(l27 + 64u);
-                                                        l39 = t41;
-                                                        l16 = (u32)l39;
-                                                        const u32 t42 = load8((l31 + ((u64)(l11 + l16) << 3)) + 1ull);
-                                                        l12 = t42;
-                                                        const u32 t43 = load32(l28 + 20ull);
-                                                        l8 = t43;
-                                                        store8(l27 + 114u, (u8)0u);
-                                                        store16(l27 + 112u, (u16)0u);
+                                                        u32 v28;
                                                         {
+                                                            const u32 t29 = load8(l10 + 60u);
+                                                            if (t29 == 0) {
+                                                                store32(l1 + 32ull, 0u);
+                                                                l22 = l1 + 20ull;
+                                                                store32(l22, 0u);
+                                                                const u32 t31 = load32(l1 + 28ull);
+                                                                l31 = t31;
+                                                                l15 = l1 + 24ull;
+                                                                const u32 t32 = load32(l15);
+                                                                l30 = t32;
+                                                                l2 = l1 + 16ull;
+                                                                const u32 t33 = load32(l2);
+                                                                if ((l31 - (l30 + t33)) <= 10u) {
+                                                                    const u32 t35 = space_space_Space_find_way(stack, l1, 11ull);
+                                                                    if (t35 == 0) goto L14;
+                                                                    const u32 t36 = load32(l1 + 28ull);
+                                                                    l31 = t36;
+                                                                    const u32 t37 = load32(l1 + 24ull);
+                                                                    l30 = t37;
+                                                                }
+                                                                const u64 t38 = load64(l1);
+                                                                l30 = l30 + 11u;
+                                                                l13 = t38 + ((u64)(l31 - l30) << 3);
+                                                                store64(l13 + 56u, 0ull);
+                                                                store64(l13 + 48u, 0ull);
+                                                                store64(l13 + 40u, 0ull);
+                                                                store64(l13 + 32u, 0ull);
+                                                                store64(l13 + 24u, 0ull);
+                                                                store64(l13 + 16u, 0ull);
+                                                                store64(l13 + 8u, 0ull);
+                                                                store64(l13, 0ull);
+                                                                store16(l13 + 80u, (u16)10496u);
+                                                                store16(l13 + 72u, (u16)10496u);
+                                                                store16(l13 + 64u, (u16)29440u);
+                                                                store32(l13 + 84ull, 0u);
+                                                                store32(l13 + 76ull, 0u);
+                                                                store32(l13 + 68ull, 0u);
+                                                                store8(l13 + 57ull, (u8)114u);
+                                                                store8(l13 + 49ull, (u8)40u);
+                                                                store8(l13 + 41ull, (u8)35u);
+                                                                store8(l13 + 33ull, (u8)44u);
+                                                                store8(l13 + 25ull, (u8)115u);
+                                                                store8(l13 + 17ull, (u8)112u);
+                                                                store8(l13 + 9ull, (u8)40u);
+                                                                store8(l13 + 1ull, (u8)35u);
+                                                                store32(l15, l30);
+                                                                const u32 t39 = load32(l22);
+                                                                const u32 t40 = load32(l2);
+                                                                v28 = t39 + (t40 + l30); goto L28;
+                                                            }
+                                                            const u64 t41 = load64(l1);
+                                                            l2 = t41;
+                                                            const u32 t42 = load32(l1 + 16ull);
+                                                            l30 = t42;
+                                                            const u64 t43 = load64(l10 + 64u);
+                                                            l22 = t43;
+                                                            l39 = (u32)l22;
+                                                            const u32 t44 = load8((l2 + ((u64)(l30 + l39) << 3)) + 1ull);
+                                                            l38 = t44;
+                                                            const u32 t45 = load32(l1 + 20ull);
+                                                            l31 = t45;
+                                                            store8(l10 + 114u, (u8)0u);
+                                                            store16(l10 + 112u, (u16)0u);
                                                             {
                                                                 {
                                                                     {
@@ -20328,97 +20362,1875 @@ static void engine_turn(struct engine *e, u64 l0, u64 l1, u64 l2, u64 l3, u64 l4
                                                                                             {
                                                                                                 {
                                                                                                     {
-                                                                                                        l6 = l8 + l11;
-                                                                                                        l13 = l16 + 1u;
-                                                                                                        l30 = (u64)(l11 + l13);
-                                                                                                        l34 = (u64)l6 - l30;
-                                                                                                        if (l34 < 2ull) goto L55;
-                                                                                                        l30 = l31 + (l30 << 3);
-                                                                                                        if (l34 != 2ull) {
-                                                                                                            const u32 t57 = load8(l30 + 16ull);
-                                                                                                            if (t57 != 2u) goto L55;
+                                                                                                        {
+                                                                                                            l6 = l30 + l31;
+                                                                                                            l37 = l39 + 1u;
+                                                                                                            l13 = (u64)(l30 + l37);
+                                                                                                            l15 = (u64)l6 - l13;
+                                                                                                            if (l15 < 2ull) goto L57;
+                                                                                                            l13 = l2 + (l13 << 3);
+                                                                                                            if (l15 != 2ull) {
+                                                                                                                const u32 t59 = load8(l13 + 16ull);
+                                                                                                                if (t59 != 2u) goto L57;
+                                                                                                            }
+                                                                                                            functions_function_function_of(stack, l10 + 112ull, l13, l13 + 8ull);
+                                                                                                            const u32 t60 = load8(l10 + 112u);
+                                                                                                            if (t60 == 1u) goto L56;
                                                                                                         }
-                                                                                                        functions_function_function_of(e, l27 + 112ull, l30, l30 + 8ull);
-                                                                                                        const u32 t58 = load8(l27 + 112u);
-                                                                                                        if (t58 == 1u) goto L54;
+                                                                                                        L57:;
+                                                                                                        l36 = 0u;
+                                                                                                        store8(l10 + 86u, (u8)0u);
+                                                                                                        store16(l10 + 84u, (u16)0u);
+                                                                                                        l32 = 1u;
+                                                                                                        l33 = 0u;
+                                                                                                        l34 = l37;
+                                                                                                        goto L55;
                                                                                                     }
-                                                                                                    L55:;
-                                                                                                    l9 = 0u;
-                                                                                                    store8(l27 + 86u, (u8)0u);
-                                                                                                    store16(l27 + 84u, (u16)0u);
-                                                                                                    l14 = 1u;
-                                                                                                    l15 = 0u;
-                                                                                                    l10 = l13;
-                                                                                                    goto L53;
+                                                                                                    L56:;
+                                                                                                    const u32 t61 = load8(l10 + 114u);
+                                                                                                    l36 = t61;
+                                                                                                    const u32 t62 = load8(l10 + 113u);
+                                                                                                    l33 = t62;
+                                                                                                    l32 = 0u;
+                                                                                                    store8(l10 + 86u, (u8)0u);
+                                                                                                    store16(l10 + 84u, (u16)0u);
+                                                                                                    l34 = l39 + 4u;
+                                                                                                    if ((l33 - 11u) < 14u) goto L55;
+                                                                                                    if (((1u << (l33 & 31)) & 1012u) == 0) goto L54;
                                                                                                 }
-                                                                                                L54:;
-                                                                                                const u32 t59 = load8(l27 + 114u);
-                                                                                                l9 = t59;
-                                                                                                const u32 t60 = load8(l27 + 113u);
-                                                                                                l15 = t60;
-                                                                                                l14 = 0u;
-                                                                                                store8(l27 + 86u, (u8)0u);
-                                                                                                store16(l27 + 84u, (u16)0u);
-                                                                                                l10 = l16 + 4u;
-                                                                                                if ((l15 - 11u) < 14u) goto L53;
-                                                                                                if (((1u << (l15 & 31)) & 1012u) == 0) goto L52;
-                                                                                            }
-                                                                                            L53:;
-                                                                                            l30 = l28 + 24ull;
-                                                                                            const u32 t61 = load32(l30);
-                                                                                            l22 = t61 - 1u;
-                                                                                            store32(l30, l22);
-                                                                                            l17 = l6 + l22;
-                                                                                            l6 = 0u;
-                                                                                            if (l14) goto L44;
-                                                                                            l14 = (u32)(l39 >> 32);
-                                                                                            l12 = l12 == 0;
-                                                                                            {
-                                                                                                if ((l15 - 5u) < 20u) goto L62;
+                                                                                                L55:;
+                                                                                                l13 = l1 + 24ull;
+                                                                                                const u32 t63 = load32(l13);
+                                                                                                l44 = t63 - 1u;
+                                                                                                store32(l13, l44);
+                                                                                                l40 = l6 + l44;
+                                                                                                l6 = 0u;
+                                                                                                if (l32) goto L46;
+                                                                                                l32 = (u32)(l22 >> 32);
+                                                                                                l38 = l38 == 0;
                                                                                                 {
-                                                                                                    switch (l15 - 2u) {
-                                                                                                    case 0: goto L63;
-                                                                                                    case 2: goto L51;
-                                                                                                    default: goto L62;
+                                                                                                    if ((l33 - 5u) < 20u) goto L64;
+                                                                                                    {
+                                                                                                        switch (l33 - 2u) {
+                                                                                                        case 0: goto L65;
+                                                                                                        case 2: goto L53;
+                                                                                                        default: goto L64;
+                                                                                                        }
+                                                                                                    }
+                                                                                                    L65:;
+                                                                                                    const u32 t66 = load16(l10 + 84u);
+                                                                                                    store16(l28, (u16)t66);
+                                                                                                    const u32 t67 = load8(l10 + 86u);
+                                                                                                    store8(l28 + 2u, (u8)t67);
+                                                                                                    store8(l10 + 124u, (u8)l38);
+                                                                                                    store32(l10 + 120u, l32);
+                                                                                                    store32(l10 + 116u, l31);
+                                                                                                    store32(l10 + 112u, l34);
+                                                                                                    functions_arguments_Arguments_next(stack, l10 + 8ull, l10 + 112ull, l1);
+                                                                                                    const u32 t68 = load32(l10 + 8u);
+                                                                                                    l31 = t68;
+                                                                                                    const u32 t69 = load32(l10 + 12u);
+                                                                                                    if (l31 == t69) goto L46;
+                                                                                                    l13 = l2 + ((u64)(l30 + l31) << 3);
+                                                                                                    const u32 t70 = load8(l13);
+                                                                                                    const u64 t71 = l23;
+                                                                                                    u32 v72;
+                                                                                                    if (t70) {
+                                                                                                        v72 = 0u;
+                                                                                                    } else {
+                                                                                                        const u32 t73 = load8(l13 + 1ull);
+                                                                                                        v72 = t73;
+                                                                                                    }
+                                                                                                    store8(t71, (u8)v72);
+                                                                                                    goto L46;
+                                                                                                }
+                                                                                                L64:;
+                                                                                                const u32 t74 = load16(l10 + 84u);
+                                                                                                store16(l29, (u16)t74);
+                                                                                                const u32 t75 = load8(l10 + 86u);
+                                                                                                store8(l29 + 2u, (u8)t75);
+                                                                                                store8(l10 + 108u, (u8)l38);
+                                                                                                store32(l10 + 104u, l32);
+                                                                                                store32(l10 + 100u, l31);
+                                                                                                store32(l10 + 96u, l34);
+                                                                                                store64(l10 + 88u, 0ull);
+                                                                                                {
+                                                                                                    {
+                                                                                                        {
+                                                                                                            {
+                                                                                                                {
+                                                                                                                    {
+                                                                                                                        {
+                                                                                                                            {
+                                                                                                                                {
+                                                                                                                                    {
+                                                                                                                                        {
+                                                                                                                                            {
+                                                                                                                                                {
+                                                                                                                                                    {
+                                                                                                                                                        {
+                                                                                                                                                            {
+                                                                                                                                                                {
+                                                                                                                                                                    {
+                                                                                                                                                                        {
+                                                                                                                                                                            switch (l33 - 5u) {
+                                                                                                                                                                            case 0: goto L82;
+                                                                                                                                                                            case 1: goto L81;
+                                                                                                                                                                            case 2: goto L79;
+                                                                                                                                                                            case 3: goto L78;
+                                                                                                                                                                            case 4: goto L77;
+                                                                                                                                                                            case 6: goto L80;
+                                                                                                                                                                            case 7: goto L87;
+                                                                                                                                                                            case 8: goto L86;
+                                                                                                                                                                            case 9: goto L85;
+                                                                                                                                                                            case 10: goto L84;
+                                                                                                                                                                            case 11: goto L83;
+                                                                                                                                                                            case 12: goto L76;
+                                                                                                                                                                            case 13: goto L94;
+                                                                                                                                                                            case 14: goto L93;
+                                                                                                                                                                            case 15: goto L92;
+                                                                                                                                                                            case 16: goto L91;
+                                                                                                                                                                            case 17: goto L90;
+                                                                                                                                                                            case 18: goto L89;
+                                                                                                                                                                            case 19: goto L88;
+                                                                                                                                                                            default: goto L47;
+                                                                                                                                                                            }
+                                                                                                                                                                        }
+                                                                                                                                                                        L94:;
+                                                                                                                                                                        functions_comparing_greater(stack, l10 + 88ull, l1, l10 + 96ull);
+                                                                                                                                                                        goto L49;
+                                                                                                                                                                    }
+                                                                                                                                                                    L93:;
+                                                                                                                                                                    functions_arithmetic_arithmetic(stack, l10 + 88ull, l1, l36, l10 + 96ull);
+                                                                                                                                                                    goto L49;
+                                                                                                                                                                }
+                                                                                                                                                                L92:;
+                                                                                                                                                                functions_bit_strings_union(stack, l10 + 88ull, l1, l10 + 96ull);
+                                                                                                                                                                goto L49;
+                                                                                                                                                            }
+                                                                                                                                                            L91:;
+                                                                                                                                                            functions_bit_strings_intersection(stack, l10 + 88ull, l1, l10 + 96ull);
+                                                                                                                                                            goto L49;
+                                                                                                                                                        }
+                                                                                                                                                        L90:;
+                                                                                                                                                        store64(l10 + 152u, 0ull);
+                                                                                                                                                        const u64 t95 = load64(l10 + 96u);
+                                                                                                                                                        store64(l10 + 136u, t95);
+                                                                                                                                                        const u64 t96 = load64(l10 + 104u);
+                                                                                                                                                        store64(l10 + 144u, t96);
+                                                                                                                                                        store64(l10 + 124u, 0ull);
+                                                                                                                                                        functions_arguments_Arguments_next(stack, l10 + 16ull, l10 + 136ull, l1);
+                                                                                                                                                        const u32 t97 = load32(l10 + 16u);
+                                                                                                                                                        l38 = t97;
+                                                                                                                                                        const u32 t98 = load32(l10 + 20u);
+                                                                                                                                                        l32 = t98;
+                                                                                                                                                        l13 = (u64)(l32 + l30);
+                                                                                                                                                        l15 = (u64)(l38 + l30) - l13;
+                                                                                                                                                        l13 = (l2 + (l13 << 3)) - 8ull;
+                                                                                                                                                        l6 = l32;
+                                                                                                                                                        L99:;
+                                                                                                                                                        {
+                                                                                                                                                            {
+                                                                                                                                                                l33 = l6;
+                                                                                                                                                                if (l15 == 0) goto L100;
+                                                                                                                                                                const u32 t101 = load8(l13);
+                                                                                                                                                                if (t101) goto L100;
+                                                                                                                                                                l15 = l15 + 1ull;
+                                                                                                                                                                l6 = l33 - 1u;
+                                                                                                                                                                l2 = l13 + 1ull;
+                                                                                                                                                                l13 = l13 - 8ull;
+                                                                                                                                                                const u32 t102 = load8(l2);
+                                                                                                                                                                if ((t102 & 248u) == 48u) goto L99;
+                                                                                                                                                            }
+                                                                                                                                                            L100:;
+                                                                                                                                                        }
+                                                                                                                                                        store32(l10 + 120u, l32);
+                                                                                                                                                        store32(l10 + 116u, l33);
+                                                                                                                                                        store32(l10 + 112u, 2u);
+                                                                                                                                                        functions_bit_strings_give_bits(stack, l10 + 152ull, l1, l38, l33, l10 + 112ull);
+                                                                                                                                                        const u32 t103 = load16(l10 + 152u);
+                                                                                                                                                        store16(l10 + 88u, (u16)t103);
+                                                                                                                                                        const u32 t104 = load32(l10 + 156u);
+                                                                                                                                                        store32(l10 + 92u, t104);
+                                                                                                                                                        goto L49;
+                                                                                                                                                    }
+                                                                                                                                                    L89:;
+                                                                                                                                                    functions_bit_strings_shift(stack, l10 + 88ull, l1, l10 + 96ull);
+                                                                                                                                                    goto L49;
+                                                                                                                                                }
+                                                                                                                                                L88:;
+                                                                                                                                                functions_bit_strings_rotate(stack, l10 + 88ull, l1, l10 + 96ull);
+                                                                                                                                                goto L49;
+                                                                                                                                            }
+                                                                                                                                            L87:;
+                                                                                                                                            functions_form_parts_call_segment(stack, l10 + 88ull, l1, l10 + 96ull);
+                                                                                                                                            goto L49;
+                                                                                                                                        }
+                                                                                                                                        L86:;
+                                                                                                                                        functions_form_parts_call_character(stack, l10 + 88ull, l1, l10 + 96ull);
+                                                                                                                                        goto L49;
+                                                                                                                                    }
+                                                                                                                                    L85:;
+                                                                                                                                    functions_form_parts_call_number(stack, l10 + 88ull, l1, l10 + 96ull);
+                                                                                                                                    goto L49;
+                                                                                                                                }
+                                                                                                                                L84:;
+                                                                                                                                functions_form_parts_initial_part(stack, l10 + 88ull, l1, l10 + 96ull);
+                                                                                                                                goto L49;
+                                                                                                                            }
+                                                                                                                            L83:;
+                                                                                                                            functions_form_parts_call_restore(stack, l10 + 88ull, l1, l10 + 96ull);
+                                                                                                                            goto L49;
+                                                                                                                        }
+                                                                                                                        L82:;
+                                                                                                                        functions_form_calls_define_string(stack, l10 + 88ull, l1, l10 + 96ull);
+                                                                                                                        goto L49;
+                                                                                                                    }
+                                                                                                                    L81:;
+                                                                                                                    functions_form_calls_segment_string(stack, l10 + 88ull, l1, l10 + 96ull);
+                                                                                                                    goto L49;
+                                                                                                                }
+                                                                                                                L80:;
+                                                                                                                const u64 t105 = load64(l10 + 104u);
+                                                                                                                store64(l10 + 120u, t105);
+                                                                                                                const u64 t106 = load64(l10 + 96u);
+                                                                                                                store64(l10 + 112u, t106);
+                                                                                                                const u32 t107 = load8(l10 + 124u);
+                                                                                                                l32 = t107;
+                                                                                                                functions_arguments_Arguments_next(stack, l10 + 48ull, l10 + 112ull, l1);
+                                                                                                                const u32 t108 = load32(l10 + 52u);
+                                                                                                                l33 = t108;
+                                                                                                                const u32 t109 = load32(l10 + 48u);
+                                                                                                                l6 = t109;
+                                                                                                                u32 v110;
+                                                                                                                {
+                                                                                                                    const u32 t111 = load32(l1 + 40ull);
+                                                                                                                    l38 = t111;
+                                                                                                                    if (l38 >= 8u) {
+                                                                                                                        forms_work_Work_find_among_more(stack, l10 + 32ull, l1, l6, l33);
+                                                                                                                        const u32 t113 = load8(l10 + 32u);
+                                                                                                                        l33 = t113;
+                                                                                                                        const u32 t114 = load32(l10 + 36u);
+                                                                                                                        v110 = t114; goto L110;
+                                                                                                                    }
+                                                                                                                    {
+                                                                                                                        if (l38 == 0) goto L115;
+                                                                                                                        const u64 t116 = load32(l2 + 4ull);
+                                                                                                                        l13 = (u64)(l30 + l33);
+                                                                                                                        l15 = (u64)(l6 + l30);
+                                                                                                                        if (t116 != (l13 - l15)) goto L115;
+                                                                                                                        l17 = 17ull - (l15 << 3);
+                                                                                                                        l15 = (l13 ^ 18446744073709551615ull) + l15;
+                                                                                                                        l13 = l2 + (l13 << 3);
+                                                                                                                        L117:;
+                                                                                                                        {
+                                                                                                                            l15 = l15 + 1ull;
+                                                                                                                            if (l15 == 0) goto L52;
+                                                                                                                            l2 = l13 - 7ull;
+                                                                                                                            l18 = l13 + l17;
+                                                                                                                            l13 = l13 - 8ull;
+                                                                                                                            const u32 t118 = load8(l18);
+                                                                                                                            const u32 t119 = load8(l2);
+                                                                                                                            if (t118 == t119) goto L117;
+                                                                                                                        }
+                                                                                                                    }
+                                                                                                                    L115:;
+                                                                                                                    forms_work_Work_find_among_few(stack, l10 + 40ull, l1, l6, l33);
+                                                                                                                    const u32 t120 = load8(l10 + 40u);
+                                                                                                                    l33 = t120;
+                                                                                                                    const u32 t121 = load32(l10 + 44u);
+                                                                                                                    v110 = t121;
+                                                                                                                }
+                                                                                                                L110:;
+                                                                                                                l6 = v110;
+                                                                                                                if ((l33 & 255u) != 1u) goto L51;
+                                                                                                                goto L50;
+                                                                                                            }
+                                                                                                            L79:;
+                                                                                                            functions_form_calls_delete_definition(stack, l10 + 88ull, l1, l10 + 96ull);
+                                                                                                            goto L49;
+                                                                                                        }
+                                                                                                        L78:;
+                                                                                                        functions_form_calls_delete_all(stack, l10 + 88ull, l1);
+                                                                                                        goto L49;
+                                                                                                    }
+                                                                                                    L77:;
+                                                                                                    functions_form_calls_list_names(stack, l10 + 88ull, l1, l10 + 96ull);
+                                                                                                    goto L49;
+                                                                                                }
+                                                                                                L76:;
+                                                                                                functions_comparing_equal(stack, l10 + 88ull, l1, l10 + 96ull);
+                                                                                                goto L49;
+                                                                                            }
+                                                                                            L54:;
+                                                                                            store32(l19 + 20u, 0u);
+                                                                                            store32(l19 + 16u, l35);
+                                                                                            l1 = l14 - l11;
+                                                                                            store64(l19, l1);
+                                                                                            store64(l19 + 8u, l1 + l21);
+                                                                                            goto L12;
+                                                                                        }
+                                                                                        L53:;
+                                                                                        l13 = l14 - l11;
+                                                                                        l1 = l13 + l21;
+                                                                                        l30 = 0u;
+                                                                                        goto L48;
+                                                                                    }
+                                                                                    L52:;
+                                                                                    store64(l1 + 44ull, 0ull);
+                                                                                    l6 = 0u;
+                                                                                    goto L50;
+                                                                                }
+                                                                                L51:;
+                                                                                store32(l10 + 92u, 0u);
+                                                                                store16(l10 + 88u, (u16)1u);
+                                                                                goto L49;
+                                                                            }
+                                                                            L50:;
+                                                                            const u32 t122 = load32(l10 + 116u);
+                                                                            l33 = t122;
+                                                                            const u32 t123 = load32(l10 + 112u);
+                                                                            l38 = t123;
+                                                                            {
+                                                                                if ((l32 & 1u) == 0) goto L124;
+                                                                                if (l33 >= l38) goto L124;
+                                                                                const u32 t125 = load32(l1 + 44ull);
+                                                                                const u32 t126 = load32(l1 + 48ull);
+                                                                                const u32 t127 = store_store_place_of(stack, l1, t125, t126, l6);
+                                                                                l32 = t127;
+                                                                                l34 = 0u;
+                                                                                const u64 t128 = load64(l1);
+                                                                                l15 = t128;
+                                                                                l13 = l15 + ((u64)l32 << 3);
+                                                                                const u32 t129 = load32(l13 + 12ull);
+                                                                                l41 = t129;
+                                                                                const u32 t130 = load32(l13 + 20ull);
+                                                                                l36 = t130;
+                                                                                if (l41 != l36) {
+                                                                                    const u32 t132 = load32(l13 + 4ull);
+                                                                                    l47 = (l32 + t132) + 3u;
+                                                                                    l34 = l47 + l36;
+                                                                                    u32 v133;
+                                                                                    {
+                                                                                        l32 = l41 - l36;
+                                                                                        const u32 t134 = load32(l1 + 28ull);
+                                                                                        l42 = t134;
+                                                                                        const u32 t135 = load32(l1 + 20ull);
+                                                                                        const u32 t136 = load32(l1 + 24ull);
+                                                                                        l43 = t136;
+                                                                                        const u32 t137 = load32(l1 + 16ull);
+                                                                                        if (l32 > (l42 - (t135 + (l43 + t137)))) {
+                                                                                            store_fill_load_items_in_way(stack, l10 + 24ull, l1, l34, l41 + l47);
+                                                                                            const u32 t139 = load8(l10 + 24u);
+                                                                                            l36 = t139;
+                                                                                            const u32 t140 = load32(l10 + 28u);
+                                                                                            v133 = t140; goto L133;
+                                                                                        }
+                                                                                        l0 = (u64)l32;
+                                                                                        l18 = (u64)l34;
+                                                                                        {
+                                                                                            {
+                                                                                                {
+                                                                                                    {
+                                                                                                        {
+                                                                                                            {
+                                                                                                                if (l32 >= 8u) {
+                                                                                                                    if (l32 == 8u) goto L145;
+                                                                                                                    l13 = l15 + (l18 << 3);
+                                                                                                                    l2 = l0;
+                                                                                                                    goto L146;
+                                                                                                                }
+                                                                                                                if (l32 >= 4u) {
+                                                                                                                    l36 = 0u;
+                                                                                                                    l13 = l15 + (l18 << 3);
+                                                                                                                    const u32 t149 = load8(l13 + 24ull);
+                                                                                                                    const u32 t150 = load8(l13 + 16ull);
+                                                                                                                    const u32 t151 = load8(l13 + 8ull);
+                                                                                                                    const u32 t152 = load8(l13);
+                                                                                                                    if (((t149 + t150) | (t151 + t152)) & 255u) { v133 = 0u; goto L133; }
+                                                                                                                    l2 = l0 + l18;
+                                                                                                                    l13 = l15 + (l2 << 3);
+                                                                                                                    const u32 t153 = load8(l13 - 8ull);
+                                                                                                                    const u32 t154 = load8(l13 - 16ull);
+                                                                                                                    const u32 t155 = load8(l13 - 24ull);
+                                                                                                                    const u32 t156 = load8(l13 - 32ull);
+                                                                                                                    if (((t153 + t154) | (t155 + t156)) & 255u) { v133 = 0u; goto L133; }
+                                                                                                                    l34 = l32 + l43;
+                                                                                                                    l13 = (u64)(l42 - l34);
+                                                                                                                    core_slice_edits_slice_T_copy_from_slice(stack, l15 + (l13 << 3), l15 + (l18 << 3), 4ull);
+                                                                                                                    const u64 t157 = l13 - l18;
+                                                                                                                    l13 = l2 - 4ull;
+                                                                                                                    core_slice_edits_slice_T_copy_from_slice(stack, l15 + ((t157 + l13) << 3), l15 + (l13 << 3), 4ull);
+                                                                                                                    goto L142;
+                                                                                                                }
+                                                                                                                l13 = l15 + (l18 << 3);
+                                                                                                                const u32 t158 = load8(l13);
+                                                                                                                l41 = t158;
+                                                                                                                if (l32 < 2u) goto L144;
+                                                                                                                l36 = 0u;
+                                                                                                                const u32 t159 = load8(l13 + 8ull);
+                                                                                                                if (t159 | (l41 & 255u)) { v133 = 0u; goto L133; }
+                                                                                                                l2 = l0 + l18;
+                                                                                                                l13 = l15 + (l2 << 3);
+                                                                                                                const u32 t160 = load8(l13 - 8ull);
+                                                                                                                const u32 t161 = load8(l13 - 16ull);
+                                                                                                                if (t160 | t161) { v133 = 0u; goto L133; }
+                                                                                                                l34 = l32 + l43;
+                                                                                                                l13 = (u64)(l42 - l34);
+                                                                                                                core_slice_edits_slice_T_copy_from_slice(stack, l15 + (l13 << 3), l15 + (l18 << 3), 2ull);
+                                                                                                                const u64 t162 = l13 - l18;
+                                                                                                                l13 = l2 - 2ull;
+                                                                                                                core_slice_edits_slice_T_copy_from_slice(stack, l15 + ((t162 + l13) << 3), l15 + (l13 << 3), 2ull);
+                                                                                                                goto L142;
+                                                                                                            }
+                                                                                                            L146:;
+                                                                                                            L163:;
+                                                                                                            {
+                                                                                                                const u32 t164 = load8(l13 + 56ull);
+                                                                                                                const u32 t165 = load8(l13 + 48ull);
+                                                                                                                const u32 t166 = load8(l13 + 40ull);
+                                                                                                                const u32 t167 = load8(l13 + 32ull);
+                                                                                                                const u32 t168 = load8(l13 + 24ull);
+                                                                                                                const u32 t169 = load8(l13 + 16ull);
+                                                                                                                const u32 t170 = load8(l13 + 8ull);
+                                                                                                                const u32 t171 = load8(l13);
+                                                                                                                if ((t164 | ((t165 + (t166 + (t167 + (t168 + (t169 + (t170 + t171)))))) & 255u)) == 0) {
+                                                                                                                    l13 = l13 + 64ull;
+                                                                                                                    l2 = l2 - 8ull;
+                                                                                                                    if (l2 >= 9ull) goto L163;
+                                                                                                                    goto L145;
+                                                                                                                }
+                                                                                                            }
+                                                                                                            l36 = 0u;
+                                                                                                            v133 = 0u; goto L133;
+                                                                                                        }
+                                                                                                        L145:;
+                                                                                                        l36 = 0u;
+                                                                                                        l2 = l0 + l18;
+                                                                                                        l13 = l15 + (l2 << 3);
+                                                                                                        const u32 t173 = load8(l13 - 56ull);
+                                                                                                        const u32 t174 = load8(l13 - 64ull);
+                                                                                                        const u32 t175 = load8(l13 - 48ull);
+                                                                                                        const u32 t176 = load8(l13 - 40ull);
+                                                                                                        const u32 t177 = load8(l13 - 32ull);
+                                                                                                        const u32 t178 = load8(l13 - 24ull);
+                                                                                                        const u32 t179 = load8(l13 - 16ull);
+                                                                                                        const u32 t180 = load8(l13 - 8ull);
+                                                                                                        if ((((((((t173 + t174) + t175) + t176) + t177) + t178) + t179) & 255u) | t180) { v133 = 0u; goto L133; }
+                                                                                                        l34 = l32 + l43;
+                                                                                                        l24 = (u64)(l42 - l34);
+                                                                                                        if (l32 > 24u) goto L143;
+                                                                                                        if (l32 != 8u) {
+                                                                                                            l13 = l15 + (l24 << 3);
+                                                                                                            l2 = l15 + (l18 << 3);
+                                                                                                            l17 = l0;
+                                                                                                            L182:;
+                                                                                                            {
+                                                                                                                core_slice_edits_slice_T_copy_from_slice(stack, l13, l2, 8ull);
+                                                                                                                l13 = l13 + 64ull;
+                                                                                                                l2 = l2 + 64ull;
+                                                                                                                l17 = l17 - 8ull;
+                                                                                                                if (l17 > 8ull) goto L182;
+                                                                                                            }
+                                                                                                        }
+                                                                                                        l13 = l0 - 8ull;
+                                                                                                        core_slice_edits_slice_T_copy_from_slice(stack, l15 + ((l13 + l24) << 3), l15 + ((l13 + l18) << 3), 8ull);
+                                                                                                        store32(l1 + 24ull, l34);
+                                                                                                        goto L141;
+                                                                                                    }
+                                                                                                    L144:;
+                                                                                                    l36 = 0u;
+                                                                                                    if (l41 & 255u) { v133 = 0u; goto L133; }
+                                                                                                    l34 = l32 + l43;
+                                                                                                    if (l32 != 1u) goto L142;
+                                                                                                    l13 = l15 + ((u64)(l42 - l34) << 3);
+                                                                                                    l2 = l15 + (l18 << 3);
+                                                                                                    const u32 t183 = load16(l2);
+                                                                                                    store16(l13, (u16)t183);
+                                                                                                    const u32 t184 = load32(l2 + 4ull);
+                                                                                                    store32(l13 + 4ull, t184);
+                                                                                                    goto L142;
+                                                                                                }
+                                                                                                L143:;
+                                                                                                space_copies_copy_long(stack, l15, l18, l2, l24);
+                                                                                            }
+                                                                                            L142:;
+                                                                                            store32(l1 + 24ull, l34);
+                                                                                        }
+                                                                                        L141:;
+                                                                                        l36 = 1u;
+                                                                                        v133 = l32;
+                                                                                    }
+                                                                                    L133:;
+                                                                                    l34 = v133;
+                                                                                    if ((l36 & 255u) != 1u) goto L124;
+                                                                                }
+                                                                                store32(l10 + 92u, l34);
+                                                                                store16(l10 + 88u, (u16)2u);
+                                                                                goto L49;
+                                                                            }
+                                                                            L124:;
+                                                                            const u32 t185 = forms_work_Work_fill_body(stack, l1, l6, l38, l33);
+                                                                            l33 = t185;
+                                                                            store32(l10 + 92u, 0u);
+                                                                            store8(l10 + 89u, (u8)0u);
+                                                                            store8(l10 + 88u, (u8)l33);
+                                                                        }
+                                                                        L49:;
+                                                                        const u32 t186 = load32(l10 + 92u);
+                                                                        l6 = t186;
+                                                                        {
+                                                                            const u64 t188 = load8(l10 + 88u);
+                                                                            switch ((u32)t188 - 1u) {
+                                                                            case 0: goto L47;
+                                                                            case 1: goto L46;
+                                                                            case 2: goto L46;
+                                                                            case 3: goto L187;
+                                                                            default: goto L14;
+                                                                            }
+                                                                        }
+                                                                        L187:;
+                                                                        const u32 t189 = load32(l1 + 24ull);
+                                                                        const u32 t190 = load32(l1 + 20ull);
+                                                                        const u32 t191 = load32(l1 + 16ull);
+                                                                        l40 = t189 + (t190 + t191);
+                                                                        l13 = l14 - l11;
+                                                                        l1 = l13 + l21;
+                                                                        const u32 t192 = load8(l10 + 89u);
+                                                                        l30 = t192;
+                                                                        l31 = 1u << (l30 & 31);
+                                                                        if (l31 & 3u) goto L48;
+                                                                        if (l31 & 12u) goto L13;
+                                                                        l35 = (l35 < l40) ? l40 : l35;
+                                                                        goto L13;
+                                                                    }
+                                                                    L48:;
+                                                                    l35 = (l35 < l40) ? l40 : l35;
+                                                                    l1 = l1 + 1ull;
+                                                                    goto L13;
+                                                                }
+                                                                L47:;
+                                                                const u32 t193 = load32(l1 + 20ull);
+                                                                l33 = t193;
+                                                                core_delivery_deliver(stack, l1, l39, l31);
+                                                                v28 = l33 + (l30 + l44); goto L28;
+                                                            }
+                                                            L46:;
+                                                            const u64 t194 = load64(l1);
+                                                            const u64 t195 = load32(l1 + 16ull);
+                                                            l13 = t194 + (t195 << 3);
+                                                            {
+                                                                {
+                                                                    const u32 t198 = load32(l1 + 32ull);
+                                                                    l30 = t198;
+                                                                    l31 = l30 <= l39;
+                                                                    if (l31) goto L197;
+                                                                    if ((l30 - l39) != 1u) goto L197;
+                                                                    const u32 t199 = load32((l13 + ((l22 << 3) & 34359738360ull)) + 4ull);
+                                                                    l30 = t199;
+                                                                    l31 = l30 ? (l37 - l30) : 0u;
+                                                                    goto L196;
+                                                                }
+                                                                L197:;
+                                                                if (l31) {
+                                                                    l31 = l30;
+                                                                    goto L196;
+                                                                }
+                                                                L201:;
+                                                                {
+                                                                    const u32 t202 = load32((l13 + ((u64)(l30 - 1u) << 3)) + 4ull);
+                                                                    l31 = t202;
+                                                                    l30 = l30 - l31;
+                                                                    l31 = l31 ? l30 : 0u;
+                                                                    if (l31 > l39) goto L201;
+                                                                }
+                                                            }
+                                                            L196:;
+                                                            store32(l1 + 20ull, l39);
+                                                            store32(l1 + 32ull, l31);
+                                                            v28 = l6 + l40;
+                                                        }
+                                                        L28:;
+                                                        l30 = v28;
+                                                        store32(l10 + 76u, 0u);
+                                                        const u32 t203 = load32(l1 + 20ull);
+                                                        l31 = t203;
+                                                        store32(l10 + 80u, l31);
+                                                        const u32 t204 = load32(l1 + 24ull);
+                                                        const u32 t205 = load32(l1 + 16ull);
+                                                        l31 = t204 + (l31 + t205);
+                                                        l35 = (l30 > l35) ? l30 : l35;
+                                                        v24 = l11 - 1ull;
+                                                    }
+                                                    L24:;
+                                                    l11 = v24;
+                                                    if (l11 != 0ull) goto L23;
+                                                }
+                                            }
+                                            store32(l19 + 20u, 0u);
+                                            store32(l19 + 16u, l35);
+                                            store64(l19, l14);
+                                            store64(l19 + 8u, l14 + l21);
+                                            goto L12;
+                                        }
+                                        trap();
+                                    }
+                                    L14:;
+                                    l13 = l14 - l11;
+                                    l1 = l13 + l21;
+                                    l30 = 2u;
+                                }
+                                L13:;
+                                store16(l19 + 22u, (u16)0u);
+                                store8(l19 + 21u, (u8)l30);
+                                store8(l19 + 20u, (u8)1u);
+                                store32(l19 + 16u, l35);
+                                store64(l19 + 8u, l1);
+                                store64(l19, l13);
+                            }
+                            L12:;
+                            stack = l10 + 160ull;
+                            const u64 t206 = load64(l9 + 120u);
+                            store64(l16, t206);
+                            const u32 t207 = load32(l9 + 128u);
+                            store32(l8, t207);
+                            const u32 t208 = load16(l9 + 132u);
+                            store16(l5, (u16)t208);
+                            const u64 t209 = load64(l9 + 112u);
+                            l8 = t209;
+                        }
+                        l5 = 0ull;
+                        l4 = l4 + l8;
+                        if (l4 == l7) goto L3;
+                        store8(l9 + 166u, (u8)0u);
+                        store16(l9 + 164u, (u16)0u);
+                        core_machine_Machine_next_function(stack, l9 + 164ull, l12);
+                        const u32 t210 = load8(l9 + 164u);
+                        l6 = t210;
+                        u32 v211;
+                        {
+                            {
+                                u32 v213;
+                                {
+                                    {
+                                        {
+                                            {
+                                                {
+                                                    {
+                                                        {
+                                                            {
+                                                                {
+                                                                    {
+                                                                        {
+                                                                            if (l46) {
+                                                                                const u32 t225 = load8(l9 + 165u);
+                                                                                l34 = t225;
+                                                                                goto L223;
+                                                                            }
+                                                                            const u32 t226 = load8(l9 + 165u);
+                                                                            l34 = t226;
+                                                                            if ((l6 & 255u) != 1u) goto L223;
+                                                                            if ((l34 - 2u) < 23u) goto L223;
+                                                                            const u64 t227 = load64(l9 + 88u);
+                                                                            l14 = t227;
+                                                                            {
+                                                                                {
+                                                                                    if (l34 != 1u) {
+                                                                                        const u64 t231 = load64(l9 + 80u);
+                                                                                        l11 = t231;
+                                                                                        const u32 t232 = load8(l23);
+                                                                                        l31 = t232;
+                                                                                        if (l14 <= 3ull) {
+                                                                                            if (l14 == 0) goto L228;
+                                                                                            l34 = 0u;
+                                                                                            l30 = l31 & 255u;
+                                                                                            const u32 t234 = load8(l11);
+                                                                                            if (l30 == t234) goto L223;
+                                                                                            const u32 t235 = load8(l11 + (l14 >> 1));
+                                                                                            if (t235 == l30) goto L223;
+                                                                                            const u32 t236 = load8((l11 + l14) - 1ull);
+                                                                                            if (t236 != (l31 & 255u)) goto L228;
+                                                                                            goto L223;
+                                                                                        }
+                                                                                        if (l14 <= 8ull) {
+                                                                                            l34 = 0u;
+                                                                                            l30 = l31 & 255u;
+                                                                                            const u32 t238 = load8(l11);
+                                                                                            if (l30 == t238) goto L223;
+                                                                                            const u32 t239 = load8(l11 + 1ull);
+                                                                                            if (t239 == l30) goto L223;
+                                                                                            l30 = l31 & 255u;
+                                                                                            const u32 t240 = load8(l11 + 2ull);
+                                                                                            if (l30 == t240) goto L223;
+                                                                                            const u32 t241 = load8(l11 + 3ull);
+                                                                                            if (t241 == l30) goto L223;
+                                                                                            l30 = l31 & 255u;
+                                                                                            l8 = l11 + l14;
+                                                                                            const u32 t242 = load8(l8 - 4ull);
+                                                                                            if (l30 == t242) goto L223;
+                                                                                            const u32 t243 = load8(l8 - 3ull);
+                                                                                            if (t243 == l30) goto L223;
+                                                                                            l30 = l31 & 255u;
+                                                                                            const u32 t244 = load8(l8 - 2ull);
+                                                                                            if (l30 == t244) goto L223;
+                                                                                            const u32 t245 = load8(l8 - 1ull);
+                                                                                            if (t245 != l30) goto L228;
+                                                                                            goto L223;
+                                                                                        }
+                                                                                        if (l14 <= 32ull) {
+                                                                                            l34 = 0u;
+                                                                                            l30 = l31 & 255u;
+                                                                                            const u32 t247 = load8(l11);
+                                                                                            if (l30 == t247) goto L223;
+                                                                                            const u32 t248 = load8(l11 + 1ull);
+                                                                                            if (t248 == l30) goto L223;
+                                                                                            l30 = l31 & 255u;
+                                                                                            const u32 t249 = load8(l11 + 2ull);
+                                                                                            if (l30 == t249) goto L223;
+                                                                                            const u32 t250 = load8(l11 + 3ull);
+                                                                                            if (t250 == l30) goto L223;
+                                                                                            l30 = l31 & 255u;
+                                                                                            const u32 t251 = load8(l11 + 4ull);
+                                                                                            if (l30 == t251) goto L223;
+                                                                                            const u32 t252 = load8(l11 + 5ull);
+                                                                                            if (t252 == l30) goto L223;
+                                                                                            l30 = l31 & 255u;
+                                                                                            const u32 t253 = load8(l11 + 6ull);
+                                                                                            if (l30 == t253) goto L223;
+                                                                                            const u32 t254 = load8(l11 + 7ull);
+                                                                                            if (t254 == l30) goto L223;
+                                                                                            l30 = l31 & 255u;
+                                                                                            l16 = l14 - 8ull;
+                                                                                            l8 = l11 + ((l16 < 8ull) ? l16 : 8ull);
+                                                                                            const u32 t255 = load8(l8);
+                                                                                            if (l30 == t255) goto L223;
+                                                                                            const u32 t256 = load8(l8 + 1ull);
+                                                                                            if (t256 == l30) goto L223;
+                                                                                            l30 = l31 & 255u;
+                                                                                            const u32 t257 = load8(l8 + 2ull);
+                                                                                            if (l30 == t257) goto L223;
+                                                                                            const u32 t258 = load8(l8 + 3ull);
+                                                                                            if (t258 == l30) goto L223;
+                                                                                            l30 = l31 & 255u;
+                                                                                            const u32 t259 = load8(l8 + 4ull);
+                                                                                            if (l30 == t259) goto L223;
+                                                                                            const u32 t260 = load8(l8 + 5ull);
+                                                                                            if (t260 == l30) goto L223;
+                                                                                            l30 = l31 & 255u;
+                                                                                            const u32 t261 = load8(l8 + 6ull);
+                                                                                            if (l30 == t261) goto L223;
+                                                                                            const u32 t262 = load8(l8 + 7ull);
+                                                                                            if (t262 == l30) goto L223;
+                                                                                            l30 = l31 & 255u;
+                                                                                            l8 = l11 + ((l16 < 16ull) ? l16 : 16ull);
+                                                                                            const u32 t263 = load8(l8);
+                                                                                            if (l30 == t263) goto L223;
+                                                                                            const u32 t264 = load8(l8 + 1ull);
+                                                                                            if (t264 == l30) goto L223;
+                                                                                            l30 = l31 & 255u;
+                                                                                            const u32 t265 = load8(l8 + 2ull);
+                                                                                            if (l30 == t265) goto L223;
+                                                                                            const u32 t266 = load8(l8 + 3ull);
+                                                                                            if (t266 == l30) goto L223;
+                                                                                            l30 = l31 & 255u;
+                                                                                            const u32 t267 = load8(l8 + 4ull);
+                                                                                            if (l30 == t267) goto L223;
+                                                                                            const u32 t268 = load8(l8 + 5ull);
+                                                                                            if (t268 == l30) goto L223;
+                                                                                            l30 = l31 & 255u;
+                                                                                            const u32 t269 = load8(l8 + 6ull);
+                                                                                            if (l30 == t269) goto L223;
+                                                                                            const u32 t270 = load8(l8 + 7ull);
+                                                                                            if (t270 == l30) goto L223;
+                                                                                            l30 = l31 & 255u;
+                                                                                            l8 = l11 + l16;
+                                                                                            const u32 t271 = load8(l8);
+                                                                                            if (l30 == t271) goto L223;
+                                                                                            const u32 t272 = load8(l8 + 1ull);
+                                                                                            if (t272 == l30) goto L223;
+                                                                                            l30 = l31 & 255u;
+                                                                                            const u32 t273 = load8(l8 + 2ull);
+                                                                                            if (l30 == t273) goto L223;
+                                                                                            const u32 t274 = load8(l8 + 3ull);
+                                                                                            if (t274 == l30) goto L223;
+                                                                                            l30 = l31 & 255u;
+                                                                                            const u32 t275 = load8(l8 + 4ull);
+                                                                                            if (l30 == t275) goto L223;
+                                                                                            const u32 t276 = load8(l8 + 5ull);
+                                                                                            if (t276 == l30) goto L223;
+                                                                                            l30 = l31 & 255u;
+                                                                                            const u32 t277 = load8(l8 + 6ull);
+                                                                                            if (l30 == t277) goto L223;
+                                                                                            const u32 t278 = load8(l8 + 7ull);
+                                                                                            if (t278 != l30) goto L228;
+                                                                                            goto L223;
+                                                                                        }
+                                                                                        if (l14 <= 64ull) {
+                                                                                            l34 = 0u;
+                                                                                            l30 = l31 & 255u;
+                                                                                            const u32 t280 = load8(l11);
+                                                                                            if (l30 == t280) goto L223;
+                                                                                            const u32 t281 = load8(l11 + 1ull);
+                                                                                            if (t281 == l30) goto L223;
+                                                                                            l30 = l31 & 255u;
+                                                                                            const u32 t282 = load8(l11 + 2ull);
+                                                                                            if (l30 == t282) goto L223;
+                                                                                            const u32 t283 = load8(l11 + 3ull);
+                                                                                            if (t283 == l30) goto L223;
+                                                                                            l30 = l31 & 255u;
+                                                                                            const u32 t284 = load8(l11 + 4ull);
+                                                                                            if (l30 == t284) goto L223;
+                                                                                            const u32 t285 = load8(l11 + 5ull);
+                                                                                            if (t285 == l30) goto L223;
+                                                                                            l30 = l31 & 255u;
+                                                                                            const u32 t286 = load8(l11 + 6ull);
+                                                                                            if (l30 == t286) goto L223;
+                                                                                            const u32 t287 = load8(l11 + 7ull);
+                                                                                            if (t287 == l30) goto L223;
+                                                                                            l30 = l31 & 255u;
+                                                                                            const u32 t288 = load8(l11 + 8ull);
+                                                                                            if (l30 == t288) goto L223;
+                                                                                            const u32 t289 = load8(l11 + 9ull);
+                                                                                            if (t289 == l30) goto L223;
+                                                                                            l30 = l31 & 255u;
+                                                                                            const u32 t290 = load8(l11 + 10ull);
+                                                                                            if (l30 == t290) goto L223;
+                                                                                            const u32 t291 = load8(l11 + 11ull);
+                                                                                            if (t291 == l30) goto L223;
+                                                                                            l30 = l31 & 255u;
+                                                                                            const u32 t292 = load8(l11 + 12ull);
+                                                                                            if (l30 == t292) goto L223;
+                                                                                            const u32 t293 = load8(l11 + 13ull);
+                                                                                            if (t293 == l30) goto L223;
+                                                                                            l30 = l31 & 255u;
+                                                                                            const u32 t294 = load8(l11 + 14ull);
+                                                                                            if (l30 == t294) goto L223;
+                                                                                            const u32 t295 = load8(l11 + 15ull);
+                                                                                            if (t295 == l30) goto L223;
+                                                                                            l30 = l31 & 255u;
+                                                                                            const u32 t296 = load8(l11 + 16ull);
+                                                                                            if (l30 == t296) goto L223;
+                                                                                            const u32 t297 = load8(l11 + 17ull);
+                                                                                            if (t297 == l30) goto L223;
+                                                                                            l30 = l31 & 255u;
+                                                                                            const u32 t298 = load8(l11 + 18ull);
+                                                                                            if (l30 == t298) goto L223;
+                                                                                            const u32 t299 = load8(l11 + 19ull);
+                                                                                            if (t299 == l30) goto L223;
+                                                                                            l30 = l31 & 255u;
+                                                                                            const u32 t300 = load8(l11 + 20ull);
+                                                                                            if (l30 == t300) goto L223;
+                                                                                            const u32 t301 = load8(l11 + 21ull);
+                                                                                            if (t301 == l30) goto L223;
+                                                                                            l30 = l31 & 255u;
+                                                                                            const u32 t302 = load8(l11 + 22ull);
+                                                                                            if (l30 == t302) goto L223;
+                                                                                            const u32 t303 = load8(l11 + 23ull);
+                                                                                            if (t303 == l30) goto L223;
+                                                                                            l30 = l31 & 255u;
+                                                                                            const u32 t304 = load8(l11 + 24ull);
+                                                                                            if (l30 == t304) goto L223;
+                                                                                            const u32 t305 = load8(l11 + 25ull);
+                                                                                            if (t305 == l30) goto L223;
+                                                                                            l30 = l31 & 255u;
+                                                                                            const u32 t306 = load8(l11 + 26ull);
+                                                                                            if (l30 == t306) goto L223;
+                                                                                            const u32 t307 = load8(l11 + 27ull);
+                                                                                            if (t307 == l30) goto L223;
+                                                                                            l30 = l31 & 255u;
+                                                                                            const u32 t308 = load8(l11 + 28ull);
+                                                                                            if (l30 == t308) goto L223;
+                                                                                            const u32 t309 = load8(l11 + 29ull);
+                                                                                            if (t309 == l30) goto L223;
+                                                                                            l30 = l31 & 255u;
+                                                                                            const u32 t310 = load8(l11 + 30ull);
+                                                                                            if (l30 == t310) goto L223;
+                                                                                            const u32 t311 = load8(l11 + 31ull);
+                                                                                            if (t311 == l30) goto L223;
+                                                                                            l30 = l31 & 255u;
+                                                                                            l8 = l11 + l14;
+                                                                                            const u32 t312 = load8(l8 - 32ull);
+                                                                                            if (l30 == t312) goto L223;
+                                                                                            const u32 t313 = load8(l8 - 31ull);
+                                                                                            if (t313 == l30) goto L223;
+                                                                                            l30 = l31 & 255u;
+                                                                                            const u32 t314 = load8(l8 - 30ull);
+                                                                                            if (l30 == t314) goto L223;
+                                                                                            const u32 t315 = load8(l8 - 29ull);
+                                                                                            if (t315 == l30) goto L223;
+                                                                                            l30 = l31 & 255u;
+                                                                                            const u32 t316 = load8(l8 - 28ull);
+                                                                                            if (l30 == t316) goto L223;
+                                                                                            const u32 t317 = load8(l8 - 27ull);
+                                                                                            if (t317 == l30) goto L223;
+                                                                                            l30 = l31 & 255u;
+                                                                                            const u32 t318 = load8(l8 - 26ull);
+                                                                                            if (l30 == t318) goto L223;
+                                                                                            const u32 t319 = load8(l8 - 25ull);
+                                                                                            if (t319 == l30) goto L223;
+                                                                                            l30 = l31 & 255u;
+                                                                                            const u32 t320 = load8(l8 - 24ull);
+                                                                                            if (l30 == t320) goto L223;
+                                                                                            const u32 t321 = load8(l8 - 23ull);
+                                                                                            if (t321 == l30) goto L223;
+                                                                                            l30 = l31 & 255u;
+                                                                                            const u32 t322 = load8(l8 - 22ull);
+                                                                                            if (l30 == t322) goto L223;
+                                                                                            const u32 t323 = load8(l8 - 21ull);
+                                                                                            if (t323 == l30) goto L223;
+                                                                                            l30 = l31 & 255u;
+                                                                                            const u32 t324 = load8(l8 - 20ull);
+                                                                                            if (l30 == t324) goto L223;
+                                                                                            const u32 t325 = load8(l8 - 19ull);
+                                                                                            if (t325 == l30) goto L223;
+                                                                                            l30 = l31 & 255u;
+                                                                                            const u32 t326 = load8(l8 - 18ull);
+                                                                                            if (l30 == t326) goto L223;
+                                                                                            const u32 t327 = load8(l8 - 17ull);
+                                                                                            if (t327 == l30) goto L223;
+                                                                                            l30 = l31 & 255u;
+                                                                                            const u32 t328 = load8(l8 - 16ull);
+                                                                                            if (l30 == t328) goto L223;
+                                                                                            const u32 t329 = load8(l8 - 15ull);
+                                                                                            if (t329 == l30) goto L223;
+                                                                                            l30 = l31 & 255u;
+                                                                                            const u32 t330 = load8(l8 - 14ull);
+                                                                                            if (l30 == t330) goto L223;
+                                                                                            const u32 t331 = load8(l8 - 13ull);
+                                                                                            if (t331 == l30) goto L223;
+                                                                                            l30 = l31 & 255u;
+                                                                                            const u32 t332 = load8(l8 - 12ull);
+                                                                                            if (l30 == t332) goto L223;
+                                                                                            const u32 t333 = load8(l8 - 11ull);
+                                                                                            if (t333 == l30) goto L223;
+                                                                                            l30 = l31 & 255u;
+                                                                                            const u32 t334 = load8(l8 - 10ull);
+                                                                                            if (l30 == t334) goto L223;
+                                                                                            const u32 t335 = load8(l8 - 9ull);
+                                                                                            if (t335 == l30) goto L223;
+                                                                                            l30 = l31 & 255u;
+                                                                                            const u32 t336 = load8(l8 - 8ull);
+                                                                                            if (l30 == t336) goto L223;
+                                                                                            const u32 t337 = load8(l8 - 7ull);
+                                                                                            if (t337 == l30) goto L223;
+                                                                                            l30 = l31 & 255u;
+                                                                                            const u32 t338 = load8(l8 - 6ull);
+                                                                                            if (l30 == t338) goto L223;
+                                                                                            const u32 t339 = load8(l8 - 5ull);
+                                                                                            if (t339 == l30) goto L223;
+                                                                                            l30 = l31 & 255u;
+                                                                                            const u32 t340 = load8(l8 - 4ull);
+                                                                                            if (l30 == t340) goto L223;
+                                                                                            const u32 t341 = load8(l8 - 3ull);
+                                                                                            if (t341 == l30) goto L223;
+                                                                                            l30 = l31 & 255u;
+                                                                                            const u32 t342 = load8(l8 - 2ull);
+                                                                                            if (l30 == t342) goto L223;
+                                                                                            const u32 t343 = load8(l8 - 1ull);
+                                                                                            if (t343 != l30) goto L228;
+                                                                                            goto L223;
+                                                                                        }
+                                                                                        l0 = l14 & 18446744073709551552ull;
+                                                                                        l1 = 0ull;
+                                                                                        l2 = l11;
+                                                                                        {
+                                                                                            L345:;
+                                                                                            {
+                                                                                                l34 = 0u;
+                                                                                                l16 = 0ull;
+                                                                                                L346:;
+                                                                                                {
+                                                                                                    l30 = l31 & 255u;
+                                                                                                    l8 = l2 + l16;
+                                                                                                    const u32 t347 = load8(l8);
+                                                                                                    const u32 t348 = load8(l8 + 1ull);
+                                                                                                    const u32 t349 = load8(l8 + 2ull);
+                                                                                                    const u32 t350 = load8(l8 + 3ull);
+                                                                                                    l34 = (((l34 | (l30 == t347)) | (t348 == l30)) | (t349 == l30)) | (t350 == l30);
+                                                                                                    l16 = l16 + 4ull;
+                                                                                                    if (l16 != 64ull) goto L346;
+                                                                                                }
+                                                                                                if (l34 & 1u) goto L344;
+                                                                                                l2 = l2 + 64ull;
+                                                                                                l1 = l1 + 64ull;
+                                                                                                if ((l14 - l1) > 63ull) goto L345;
+                                                                                            }
+                                                                                            l1 = l0;
+                                                                                        }
+                                                                                        L344:;
+                                                                                        l16 = l14 - l1;
+                                                                                        if (l16 < 32ull) goto L229;
+                                                                                        l8 = l1 + l11;
+                                                                                        L351:;
+                                                                                        {
+                                                                                            {
+                                                                                                l30 = l31 & 255u;
+                                                                                                const u32 t353 = load8(l8);
+                                                                                                if (l30 == t353) goto L352;
+                                                                                                const u32 t354 = load8(l8 + 1ull);
+                                                                                                if (t354 == l30) goto L352;
+                                                                                                l30 = l31 & 255u;
+                                                                                                const u32 t355 = load8(l8 + 2ull);
+                                                                                                if (l30 == t355) goto L352;
+                                                                                                const u32 t356 = load8(l8 + 3ull);
+                                                                                                if (t356 == l30) goto L352;
+                                                                                                l30 = l31 & 255u;
+                                                                                                const u32 t357 = load8(l8 + 4ull);
+                                                                                                if (l30 == t357) goto L352;
+                                                                                                const u32 t358 = load8(l8 + 5ull);
+                                                                                                if (t358 == l30) goto L352;
+                                                                                                l30 = l31 & 255u;
+                                                                                                const u32 t359 = load8(l8 + 6ull);
+                                                                                                if (l30 == t359) goto L352;
+                                                                                                const u32 t360 = load8(l8 + 7ull);
+                                                                                                if (t360 == l30) goto L352;
+                                                                                                l30 = l31 & 255u;
+                                                                                                const u32 t361 = load8(l8 + 8ull);
+                                                                                                if (l30 == t361) goto L352;
+                                                                                                const u32 t362 = load8(l8 + 9ull);
+                                                                                                if (t362 == l30) goto L352;
+                                                                                                l30 = l31 & 255u;
+                                                                                                const u32 t363 = load8(l8 + 10ull);
+                                                                                                if (l30 == t363) goto L352;
+                                                                                                const u32 t364 = load8(l8 + 11ull);
+                                                                                                if (t364 == l30) goto L352;
+                                                                                                l30 = l31 & 255u;
+                                                                                                const u32 t365 = load8(l8 + 12ull);
+                                                                                                if (l30 == t365) goto L352;
+                                                                                                const u32 t366 = load8(l8 + 13ull);
+                                                                                                if (t366 == l30) goto L352;
+                                                                                                l30 = l31 & 255u;
+                                                                                                const u32 t367 = load8(l8 + 14ull);
+                                                                                                if (l30 == t367) goto L352;
+                                                                                                const u32 t368 = load8(l8 + 15ull);
+                                                                                                if (t368 == l30) goto L352;
+                                                                                                l30 = l31 & 255u;
+                                                                                                const u32 t369 = load8(l8 + 16ull);
+                                                                                                if (l30 == t369) goto L352;
+                                                                                                const u32 t370 = load8(l8 + 17ull);
+                                                                                                if (t370 == l30) goto L352;
+                                                                                                l30 = l31 & 255u;
+                                                                                                const u32 t371 = load8(l8 + 18ull);
+                                                                                                if (l30 == t371) goto L352;
+                                                                                                const u32 t372 = load8(l8 + 19ull);
+                                                                                                if (t372 == l30) goto L352;
+                                                                                                l30 = l31 & 255u;
+                                                                                                const u32 t373 = load8(l8 + 20ull);
+                                                                                                if (l30 == t373) goto L352;
+                                                                                                const u32 t374 = load8(l8 + 21ull);
+                                                                                                if (t374 == l30) goto L352;
+                                                                                                l30 = l31 & 255u;
+                                                                                                const u32 t375 = load8(l8 + 22ull);
+                                                                                                if (l30 == t375) goto L352;
+                                                                                                const u32 t376 = load8(l8 + 23ull);
+                                                                                                if (t376 == l30) goto L352;
+                                                                                                l30 = l31 & 255u;
+                                                                                                const u32 t377 = load8(l8 + 24ull);
+                                                                                                if (l30 == t377) goto L352;
+                                                                                                const u32 t378 = load8(l8 + 25ull);
+                                                                                                if (t378 == l30) goto L352;
+                                                                                                l30 = l31 & 255u;
+                                                                                                const u32 t379 = load8(l8 + 26ull);
+                                                                                                if (l30 == t379) goto L352;
+                                                                                                const u32 t380 = load8(l8 + 27ull);
+                                                                                                if (t380 == l30) goto L352;
+                                                                                                l30 = l31 & 255u;
+                                                                                                const u32 t381 = load8(l8 + 28ull);
+                                                                                                if (l30 == t381) goto L352;
+                                                                                                const u32 t382 = load8(l8 + 29ull);
+                                                                                                if (t382 == l30) goto L352;
+                                                                                                l30 = l31 & 255u;
+                                                                                                const u32 t383 = load8(l8 + 30ull);
+                                                                                                if (l30 == t383) goto L352;
+                                                                                                const u32 t384 = load8(l8 + 31ull);
+                                                                                                if (t384 == l30) goto L352;
+                                                                                                l8 = l8 + 32ull;
+                                                                                                l16 = l16 - 32ull;
+                                                                                                if (l16 > 31ull) goto L351;
+                                                                                                goto L229;
+                                                                                            }
+                                                                                            L352:;
+                                                                                        }
+                                                                                        if (l16 <= 31ull) goto L229;
+                                                                                        l34 = 0u;
+                                                                                        goto L223;
+                                                                                    }
+                                                                                    if (l14 == 0) goto L222;
+                                                                                    l34 = 1u;
+                                                                                    goto L223;
+                                                                                }
+                                                                                L229:;
+                                                                                l34 = 0u;
+                                                                                l30 = l31 & 255u;
+                                                                                l8 = l11 + l14;
+                                                                                const u32 t385 = load8(l8 - 32ull);
+                                                                                if (l30 == t385) goto L223;
+                                                                                const u32 t386 = load8(l8 - 31ull);
+                                                                                if (t386 == l30) goto L223;
+                                                                                l30 = l31 & 255u;
+                                                                                const u32 t387 = load8(l8 - 30ull);
+                                                                                if (l30 == t387) goto L223;
+                                                                                const u32 t388 = load8(l8 - 29ull);
+                                                                                if (t388 == l30) goto L223;
+                                                                                l30 = l31 & 255u;
+                                                                                const u32 t389 = load8(l8 - 28ull);
+                                                                                if (l30 == t389) goto L223;
+                                                                                const u32 t390 = load8(l8 - 27ull);
+                                                                                if (t390 == l30) goto L223;
+                                                                                l30 = l31 & 255u;
+                                                                                const u32 t391 = load8(l8 - 26ull);
+                                                                                if (l30 == t391) goto L223;
+                                                                                const u32 t392 = load8(l8 - 25ull);
+                                                                                if (t392 == l30) goto L223;
+                                                                                l30 = l31 & 255u;
+                                                                                const u32 t393 = load8(l8 - 24ull);
+                                                                                if (l30 == t393) goto L223;
+                                                                                const u32 t394 = load8(l8 - 23ull);
+                                                                                if (t394 == l30) goto L223;
+                                                                                l30 = l31 & 255u;
+                                                                                const u32 t395 = load8(l8 - 22ull);
+                                                                                if (l30 == t395) goto L223;
+                                                                                const u32 t396 = load8(l8 - 21ull);
+                                                                                if (t396 == l30) goto L223;
+                                                                                l30 = l31 & 255u;
+                                                                                const u32 t397 = load8(l8 - 20ull);
+                                                                                if (l30 == t397) goto L223;
+                                                                                const u32 t398 = load8(l8 - 19ull);
+                                                                                if (t398 == l30) goto L223;
+                                                                                l30 = l31 & 255u;
+                                                                                const u32 t399 = load8(l8 - 18ull);
+                                                                                if (l30 == t399) goto L223;
+                                                                                const u32 t400 = load8(l8 - 17ull);
+                                                                                if (t400 == l30) goto L223;
+                                                                                l30 = l31 & 255u;
+                                                                                const u32 t401 = load8(l8 - 16ull);
+                                                                                if (l30 == t401) goto L223;
+                                                                                const u32 t402 = load8(l8 - 15ull);
+                                                                                if (t402 == l30) goto L223;
+                                                                                l30 = l31 & 255u;
+                                                                                const u32 t403 = load8(l8 - 14ull);
+                                                                                if (l30 == t403) goto L223;
+                                                                                const u32 t404 = load8(l8 - 13ull);
+                                                                                if (t404 == l30) goto L223;
+                                                                                l30 = l31 & 255u;
+                                                                                const u32 t405 = load8(l8 - 12ull);
+                                                                                if (l30 == t405) goto L223;
+                                                                                const u32 t406 = load8(l8 - 11ull);
+                                                                                if (t406 == l30) goto L223;
+                                                                                l30 = l31 & 255u;
+                                                                                const u32 t407 = load8(l8 - 10ull);
+                                                                                if (l30 == t407) goto L223;
+                                                                                const u32 t408 = load8(l8 - 9ull);
+                                                                                if (t408 == l30) goto L223;
+                                                                                l30 = l31 & 255u;
+                                                                                const u32 t409 = load8(l8 - 8ull);
+                                                                                if (l30 == t409) goto L223;
+                                                                                const u32 t410 = load8(l8 - 7ull);
+                                                                                if (t410 == l30) goto L223;
+                                                                                l30 = l31 & 255u;
+                                                                                const u32 t411 = load8(l8 - 6ull);
+                                                                                if (l30 == t411) goto L223;
+                                                                                const u32 t412 = load8(l8 - 5ull);
+                                                                                if (t412 == l30) goto L223;
+                                                                                l30 = l31 & 255u;
+                                                                                const u32 t413 = load8(l8 - 4ull);
+                                                                                if (l30 == t413) goto L223;
+                                                                                const u32 t414 = load8(l8 - 3ull);
+                                                                                if (t414 == l30) goto L223;
+                                                                                l30 = l31 & 255u;
+                                                                                const u32 t415 = load8(l8 - 2ull);
+                                                                                if (l30 == t415) goto L223;
+                                                                                const u32 t416 = load8(l8 - 1ull);
+                                                                                if (t416 == l30) goto L223;
+                                                                            }
+                                                                            L228:;
+                                                                            const u32 t417 = load32(l12 + 24ull);
+                                                                            const u32 t418 = load32(l12 + 20ull);
+                                                                            const u32 t419 = load32(l12 + 16ull);
+                                                                            const u64 t420 = load32(l12 + 8ull);
+                                                                            if ((l14 + (u64)((t417 + (t418 + t419)))) <= (t420 + 1ull)) goto L222;
+                                                                            l34 = 0u;
+                                                                        }
+                                                                        L223:;
+                                                                        {
+                                                                            {
+                                                                                {
+                                                                                    {
+                                                                                        const u64 t425 = load64(l9 + 48u);
+                                                                                        const u64 t426 = load64(l9 + 56u);
+                                                                                        l8 = t425 - t426;
+                                                                                        const u32 t427 = load32(l12 + 16ull);
+                                                                                        l30 = t427;
+                                                                                        const u32 t428 = load32(l12 + 20ull);
+                                                                                        l31 = t428;
+                                                                                        if (l8 >= ((u64)(l30 + l31) - (u64)l30)) {
+                                                                                            const u32 t430 = load8(l12 + 84ull);
+                                                                                            if (t430 == 1u) goto L423;
+                                                                                            const u64 t431 = load64(l12 + 72ull);
+                                                                                            const u64 t432 = load64(l12 + 64ull);
+                                                                                            if (t431 == t432) goto L424;
+                                                                                            const u32 t433 = load32(l12 + 24ull);
+                                                                                            l30 = t433;
+                                                                                            if (l30 == 0) goto L424;
+                                                                                            const u64 t434 = load64(l12);
+                                                                                            const u32 t435 = load32(l12 + 28ull);
+                                                                                            const u32 t436 = load8((t434 + ((u64)(t435 - l30) << 3)) + 1ull);
+                                                                                            if (t436 != 41u) goto L424;
+                                                                                            const u32 t437 = load32(l12 + 32ull);
+                                                                                            l30 = t437;
+                                                                                            if (l30 == 0) goto L424;
+                                                                                            if ((u64)l31 <= l8) {
+                                                                                                if ((l6 & 255u) == 0) goto L424;
+                                                                                                if ((l34 & 255u) != 10u) goto L424;
+                                                                                            }
+                                                                                            const u32 t439 = core_machine_printing_call_len(stack, l12, l30 - (l30 != 0u));
+                                                                                            if (l8 >= (u64)t439) goto L424;
+                                                                                        }
+                                                                                        const u32 t440 = load8(l12 + 84ull);
+                                                                                        if (t440 == 1u) goto L423;
+                                                                                        const u64 t441 = load64(l12 + 72ull);
+                                                                                        const u64 t442 = load64(l12 + 64ull);
+                                                                                        if (t441 == t442) goto L424;
+                                                                                        const u32 t443 = load32(l12 + 24ull);
+                                                                                        l30 = t443;
+                                                                                        if (l30 == 0) goto L424;
+                                                                                        const u64 t444 = load64(l12);
+                                                                                        const u32 t445 = load32(l12 + 28ull);
+                                                                                        const u32 t446 = load8((t444 + ((u64)(t445 - l30) << 3)) + 1ull);
+                                                                                        if (t446 != 41u) goto L424;
+                                                                                        const u32 t447 = load32(l12 + 32ull);
+                                                                                        l30 = t447;
+                                                                                        if (l30 == 0) goto L424;
+                                                                                        const u32 t448 = core_machine_printing_call_len(stack, l12, l30 - 1u);
+                                                                                        l16 = (u64)t448;
+                                                                                        if (l8 < l16) goto L421;
+                                                                                    }
+                                                                                    L424:;
+                                                                                    const u32 t449 = load8(l12 + 84ull);
+                                                                                    if (t449 != 1u) goto L422;
+                                                                                }
+                                                                                L423:;
+                                                                                const u32 t450 = load8(l12 + 85ull);
+                                                                                l6 = t450;
+                                                                                v211 = 1u; goto L211;
+                                                                            }
+                                                                            L422:;
+                                                                            const u64 t451 = load64(l12 + 72ull);
+                                                                            const u64 t452 = load64(l12 + 64ull);
+                                                                            if (t451 == t452) {
+                                                                                store16(l12 + 84ull, (u16)769u);
+                                                                                l6 = 3u;
+                                                                                v211 = 1u; goto L211;
+                                                                            }
+                                                                            const u32 t454 = load32(l12 + 24ull);
+                                                                            l30 = t454;
+                                                                            const u32 t455 = load32(l12 + 16ull);
+                                                                            l34 = t455;
+                                                                            const u32 t456 = load32(l12 + 20ull);
+                                                                            l31 = t456;
+                                                                            store32(l9 + 184u, l31);
+                                                                            l6 = 0u;
+                                                                            store32(l9 + 168u, 0u);
+                                                                            store64(l9 + 144u, 0ull);
+                                                                            store64(l9 + 136u, 0ull);
+                                                                            core_scan_pass(stack, l9 + 136ull, l12, 1ull, l9 + 184ull, l9 + 168ull);
+                                                                            const u32 t457 = load8(l9 + 136u);
+                                                                            if (t457 == 1u) {
+                                                                                const u32 t459 = load8(l9 + 140u);
+                                                                                if (t459 == 0) {
+                                                                                    l34 = 0u;
+                                                                                    store32(l12 + 32ull, 0u);
+                                                                                    l16 = l12 + 20ull;
+                                                                                    store32(l16, 0u);
+                                                                                    const u32 t461 = load32(l12 + 28ull);
+                                                                                    l6 = t461;
+                                                                                    l14 = l12 + 24ull;
+                                                                                    const u32 t462 = load32(l14);
+                                                                                    l30 = t462;
+                                                                                    l2 = l12 + 16ull;
+                                                                                    const u32 t463 = load32(l2);
+                                                                                    if ((l6 - (l30 + t463)) <= 10u) {
+                                                                                        const u32 t465 = space_space_Space_find_way(stack, l12, 11ull);
+                                                                                        if (t465 == 0) {
+                                                                                            l6 = 2u;
+                                                                                            goto L212;
+                                                                                        }
+                                                                                        const u32 t467 = load32(l12 + 24ull);
+                                                                                        l30 = t467;
+                                                                                        const u32 t468 = load32(l12 + 28ull);
+                                                                                        l6 = t468;
+                                                                                    }
+                                                                                    const u64 t469 = load64(l12);
+                                                                                    l30 = l30 + 11u;
+                                                                                    l8 = t469 + ((u64)(l6 - l30) << 3);
+                                                                                    store64(l8 + 56u, 0ull);
+                                                                                    store64(l8 + 48u, 0ull);
+                                                                                    store64(l8 + 40u, 0ull);
+                                                                                    store64(l8 + 32u, 0ull);
+                                                                                    store64(l8 + 24u, 0ull);
+                                                                                    store64(l8 + 16u, 0ull);
+                                                                                    store64(l8 + 8u, 0ull);
+                                                                                    store64(l8, 0ull);
+                                                                                    store16(l8 + 80u, (u16)10496u);
+                                                                                    store16(l8 + 72u, (u16)10496u);
+                                                                                    store16(l8 + 64u, (u16)29440u);
+                                                                                    store32(l8 + 84ull, 0u);
+                                                                                    store32(l8 + 76ull, 0u);
+                                                                                    store32(l8 + 68ull, 0u);
+                                                                                    store8(l8 + 57ull, (u8)114u);
+                                                                                    store8(l8 + 49ull, (u8)40u);
+                                                                                    store8(l8 + 41ull, (u8)35u);
+                                                                                    store8(l8 + 33ull, (u8)44u);
+                                                                                    store8(l8 + 25ull, (u8)115u);
+                                                                                    store8(l8 + 17ull, (u8)112u);
+                                                                                    store8(l8 + 9ull, (u8)40u);
+                                                                                    store8(l8 + 1ull, (u8)35u);
+                                                                                    store32(l14, l30);
+                                                                                    const u32 t470 = load32(l16);
+                                                                                    const u32 t471 = load32(l2);
+                                                                                    l30 = t470 + (t471 + l30);
+                                                                                    goto L214;
+                                                                                }
+                                                                                const u64 t472 = load64(l9 + 144u);
+                                                                                l16 = t472;
+                                                                                l8 = l12 + 24ull;
+                                                                                const u32 t473 = load32(l8);
+                                                                                l41 = t473 - 1u;
+                                                                                store32(l8, l41);
+                                                                                const u32 t474 = load32(l12 + 20ull);
+                                                                                l31 = t474;
+                                                                                const u32 t475 = load32(l12 + 16ull);
+                                                                                l30 = t475;
+                                                                                store64(l9 + 200u, 0ull);
+                                                                                store64(l9 + 184u, 0ull);
+                                                                                store64(l9 + 192u, 0ull);
+                                                                                store64(l9 + 168u, 0ull);
+                                                                                store64(l9 + 176u, 0ull);
+                                                                                const u64 t476 = load64(l12);
+                                                                                l8 = t476;
+                                                                                l34 = (u32)l16;
+                                                                                const u32 t477 = load8((l8 + ((u64)(l30 + l34) << 3)) + 1ull);
+                                                                                l6 = t477;
+                                                                                store8(l9 + 138u, (u8)0u);
+                                                                                store16(l9 + 136u, (u16)0u);
+                                                                                {
+                                                                                    l42 = l30 + l31;
+                                                                                    l43 = l34 + 1u;
+                                                                                    l2 = (u64)(l30 + l43);
+                                                                                    l14 = (u64)l42 - l2;
+                                                                                    if (l14 < 2ull) goto L478;
+                                                                                    l2 = l8 + (l2 << 3);
+                                                                                    if (l14 != 2ull) {
+                                                                                        const u32 t480 = load8(l2 + 16ull);
+                                                                                        if (t480 != 2u) goto L478;
+                                                                                    }
+                                                                                    functions_function_function_of(stack, l9 + 136ull, l2, l2 + 8ull);
+                                                                                    const u32 t481 = load8(l9 + 136u);
+                                                                                    if (t481 != 1u) goto L478;
+                                                                                    l32 = (u32)(l16 >> 32);
+                                                                                    l6 = l6 == 0;
+                                                                                    l37 = l34 + 4u;
+                                                                                    {
+                                                                                        {
+                                                                                            {
+                                                                                                {
+                                                                                                    {
+                                                                                                        {
+                                                                                                            const u32 t488 = load8(l9 + 137u);
+                                                                                                            l33 = t488;
+                                                                                                            switch (l33 - 1u) {
+                                                                                                            case 0: goto L487;
+                                                                                                            case 1: goto L484;
+                                                                                                            case 2: goto L486;
+                                                                                                            case 3: goto L484;
+                                                                                                            case 4: goto L484;
+                                                                                                            case 5: goto L484;
+                                                                                                            case 6: goto L484;
+                                                                                                            case 7: goto L484;
+                                                                                                            case 8: goto L484;
+                                                                                                            case 9: goto L485;
+                                                                                                            case 10: goto L484;
+                                                                                                            case 11: goto L484;
+                                                                                                            case 12: goto L484;
+                                                                                                            case 13: goto L484;
+                                                                                                            case 14: goto L484;
+                                                                                                            case 15: goto L484;
+                                                                                                            case 16: goto L484;
+                                                                                                            case 17: goto L484;
+                                                                                                            case 18: goto L484;
+                                                                                                            case 19: goto L484;
+                                                                                                            case 20: goto L484;
+                                                                                                            case 21: goto L484;
+                                                                                                            case 22: goto L484;
+                                                                                                            case 23: goto L484;
+                                                                                                            default: goto L483;
+                                                                                                            }
+                                                                                                        }
+                                                                                                        L487:;
+                                                                                                        l11 = l9 + 200ull;
+                                                                                                        l0 = l12;
+                                                                                                        l1 = l9 + 80ull;
+                                                                                                        l8 = stack - 16ull;
+                                                                                                        stack = l8;
+                                                                                                        u32 v489;
+                                                                                                        {
+                                                                                                            {
+                                                                                                                {
+                                                                                                                    l6 = 4u;
+                                                                                                                    const u32 t492 = load8(l1 + 17ull);
+                                                                                                                    if (t492) { v489 = 1u; goto L489; }
+                                                                                                                    {
+                                                                                                                        const u64 t494 = load64(l1 + 8u);
+                                                                                                                        l2 = t494;
+                                                                                                                        if (l2 == 0) {
+                                                                                                                            const u32 t496 = load8(l1 + 16ull);
+                                                                                                                            if (t496) goto L493;
+                                                                                                                            store8(l1 + 17ull, (u8)1u);
+                                                                                                                            v489 = 1u; goto L489;
+                                                                                                                        }
+                                                                                                                        store64(l1 + 8u, l2 - 1ull);
+                                                                                                                        const u64 t497 = load64(l1);
+                                                                                                                        l2 = t497;
+                                                                                                                        store64(l1, l2 + 1ull);
+                                                                                                                        const u32 t498 = load8(l2);
+                                                                                                                        l6 = t498;
+                                                                                                                        store64(l8 + 8u, 0ull);
+                                                                                                                        store8(l8 + 9u, (u8)l6);
+                                                                                                                        const u32 t499 = load32(l0 + 28ull);
+                                                                                                                        l1 = l0 + 20ull;
+                                                                                                                        const u32 t500 = load32(l1);
+                                                                                                                        l32 = t500;
+                                                                                                                        const u32 t501 = load32(l0 + 16ull);
+                                                                                                                        l33 = l32 + t501;
+                                                                                                                        const u32 t502 = load32(l0 + 24ull);
+                                                                                                                        if (t499 != (l33 + t502)) {
+                                                                                                                            l2 = l0 + 32ull;
+                                                                                                                            const u32 t504 = load32(l2);
+                                                                                                                            l37 = t504;
+                                                                                                                            const u64 t505 = load64(l0);
+                                                                                                                            l0 = t505 + ((u64)l33 << 3);
+                                                                                                                            store8(l0, (u8)0u);
+                                                                                                                            store32(l0 + 4ull, 0u);
+                                                                                                                            store8(l0 + 1ull, (u8)l6);
+                                                                                                                            store32(l1, l32 + 1u);
+                                                                                                                            store32(l2, l37);
+                                                                                                                            goto L490;
+                                                                                                                        }
+                                                                                                                        const u32 t506 = space_space_Space_push_in_way(stack, l0, l8 + 8ull);
+                                                                                                                        if (t506) goto L490;
+                                                                                                                        l6 = 0u;
+                                                                                                                        v489 = 0u; goto L489;
+                                                                                                                    }
+                                                                                                                    L493:;
+                                                                                                                    l1 = l1 + 24ull;
+                                                                                                                    const u64 t507 = load64(l1);
+                                                                                                                    store64(l1, t507 + 1ull);
+                                                                                                                    v489 = 4u; goto L489;
+                                                                                                                }
+                                                                                                                trap();
+                                                                                                            }
+                                                                                                            L490:;
+                                                                                                            l6 = 1u;
+                                                                                                            v489 = 0u;
+                                                                                                        }
+                                                                                                        L489:;
+                                                                                                        l32 = v489;
+                                                                                                        store8(l11, (u8)l6);
+                                                                                                        store32(l11 + 4ull, 0u);
+                                                                                                        store8(l11 + 1ull, (u8)l32);
+                                                                                                        stack = l8 + 16ull;
+                                                                                                        goto L482;
+                                                                                                    }
+                                                                                                    L486:;
+                                                                                                    store16(l25, (u16)0u);
+                                                                                                    store8(l25 + 2u, (u8)0u);
+                                                                                                    store8(l9 + 196u, (u8)l6);
+                                                                                                    store32(l9 + 192u, l32);
+                                                                                                    store32(l9 + 188u, l31);
+                                                                                                    store32(l9 + 184u, l37);
+                                                                                                    l10 = l9 + 200ull;
+                                                                                                    l1 = l12;
+                                                                                                    l11 = l9 + 184ull;
+                                                                                                    l8 = l9 + 40ull;
+                                                                                                    l0 = stack - 32ull;
+                                                                                                    stack = l0;
+                                                                                                    {
+                                                                                                        l2 = l0;
+                                                                                                        {
+                                                                                                            const u64 t510 = load64(l11 + 8u);
+                                                                                                            store64(l2 + 24u, t510);
+                                                                                                            const u64 t511 = load64(l11);
+                                                                                                            store64(l2 + 16u, t511);
+                                                                                                            functions_arguments_Arguments_next(stack, l2 + 8ull, l2 + 16ull, l1);
+                                                                                                            l33 = 3u;
+                                                                                                            u32 v512;
+                                                                                                            {
+                                                                                                                const u32 t513 = load32(l2 + 12u);
+                                                                                                                l6 = t513;
+                                                                                                                const u32 t514 = load32(l2 + 8u);
+                                                                                                                l32 = t514;
+                                                                                                                if (l6 == l32) { v512 = 0u; goto L512; }
+                                                                                                                const u64 t515 = load64(l1);
+                                                                                                                const u32 t516 = load32(l1 + 16ull);
+                                                                                                                const u32 t517 = l32;
+                                                                                                                l32 = t516;
+                                                                                                                l14 = (u64)(t517 + l32);
+                                                                                                                l11 = t515 + (l14 << 3);
+                                                                                                                {
+                                                                                                                    l13 = (u64)(l6 + l32);
+                                                                                                                    l1 = l13 - l14;
+                                                                                                                    if (l1 <= 15ull) {
+                                                                                                                        {
+                                                                                                                            L521:;
+                                                                                                                            {
+                                                                                                                                l6 = 0u;
+                                                                                                                                const u32 t522 = load8(l11);
+                                                                                                                                if (t522 == 0) {
+                                                                                                                                    const u32 t524 = load8(l11 + 1ull);
+                                                                                                                                    l6 = t524;
+                                                                                                                                }
+                                                                                                                                {
+                                                                                                                                    l0 = l8 + 16ull;
+                                                                                                                                    const u64 t526 = load64(l0);
+                                                                                                                                    l14 = t526;
+                                                                                                                                    const u64 t527 = load64(l8 + 8ull);
+                                                                                                                                    if (l14 < t527) {
+                                                                                                                                        const u64 t529 = load64(l8);
+                                                                                                                                        store8(t529 + l14, (u8)l6);
+                                                                                                                                        const u64 t530 = load64(l0);
+                                                                                                                                        store64(l0, t530 + 1ull);
+                                                                                                                                        goto L525;
+                                                                                                                                    }
+                                                                                                                                    l0 = l8 + 24ull;
+                                                                                                                                    const u32 t531 = load8(l0);
+                                                                                                                                    if (t531 == 1u) goto L520;
+                                                                                                                                    store8(l8 + 25ull, (u8)l6);
+                                                                                                                                    store8(l0, (u8)1u);
+                                                                                                                                }
+                                                                                                                                L525:;
+                                                                                                                                l11 = l11 + 8ull;
+                                                                                                                                l1 = l1 - 1ull;
+                                                                                                                                if ((l1 == 0) == 0) goto L521;
+                                                                                                                            }
+                                                                                                                            v512 = 0u; goto L512;
+                                                                                                                        }
+                                                                                                                        L520:;
+                                                                                                                        l8 = l8 + 32ull;
+                                                                                                                        const u64 t532 = load64(l8);
+                                                                                                                        store64(l8, t532 + 1ull);
+                                                                                                                        goto L518;
+                                                                                                                    }
+                                                                                                                    l0 = l8 + 16ull;
+                                                                                                                    const u64 t533 = load64(l0);
+                                                                                                                    const u64 t534 = load64(l8);
+                                                                                                                    const u64 t535 = load64(l8 + 8ull);
+                                                                                                                    const u64 t536 = c_filling_put_characters(stack, l11, l1, t533, t534, t535);
+                                                                                                                    l17 = t536;
+                                                                                                                    const u64 t537 = load64(l0);
+                                                                                                                    const u64 t538 = l0;
+                                                                                                                    l0 = l17 + t537;
+                                                                                                                    store64(t538, l0);
+                                                                                                                    if (l1 == l17) { v512 = 0u; goto L512; }
+                                                                                                                    l11 = l11 + (l17 << 3);
+                                                                                                                    l1 = (l14 + l17) - l13;
+                                                                                                                    {
+                                                                                                                        L540:;
+                                                                                                                        {
+                                                                                                                            l6 = 0u;
+                                                                                                                            const u32 t541 = load8(l11);
+                                                                                                                            if (t541 == 0) {
+                                                                                                                                const u32 t543 = load8(l11 + 1ull);
+                                                                                                                                l6 = t543;
+                                                                                                                            }
+                                                                                                                            {
+                                                                                                                                const u64 t545 = load64(l8 + 8ull);
+                                                                                                                                if (t545 > l0) {
+                                                                                                                                    const u64 t547 = load64(l8);
+                                                                                                                                    store8(t547 + l0, (u8)l6);
+                                                                                                                                    l0 = l8 + 16ull;
+                                                                                                                                    const u64 t548 = load64(l0);
+                                                                                                                                    const u64 t549 = l0;
+                                                                                                                                    l0 = t548 + 1ull;
+                                                                                                                                    store64(t549, l0);
+                                                                                                                                    goto L544;
+                                                                                                                                }
+                                                                                                                                l14 = l8 + 24ull;
+                                                                                                                                const u32 t550 = load8(l14);
+                                                                                                                                if (t550 == 1u) goto L539;
+                                                                                                                                store8(l8 + 25ull, (u8)l6);
+                                                                                                                                store8(l14, (u8)1u);
+                                                                                                                            }
+                                                                                                                            L544:;
+                                                                                                                            l11 = l11 + 8ull;
+                                                                                                                            l1 = l1 + 1ull;
+                                                                                                                            if ((l1 == 0) == 0) goto L540;
+                                                                                                                        }
+                                                                                                                        v512 = 0u; goto L512;
+                                                                                                                    }
+                                                                                                                    L539:;
+                                                                                                                    l8 = l8 + 32ull;
+                                                                                                                    const u64 t551 = load64(l8);
+                                                                                                                    store64(l8, t551 + 1ull);
+                                                                                                                }
+                                                                                                                L518:;
+                                                                                                                l33 = 4u;
+                                                                                                                v512 = 5u;
+                                                                                                            }
+                                                                                                            L512:;
+                                                                                                            l6 = v512;
+                                                                                                            store8(l10, (u8)l33);
+                                                                                                            store32(l10 + 4ull, 0u);
+                                                                                                            store8(l10 + 1ull, (u8)l6);
+                                                                                                            stack = l2 + 32ull;
+                                                                                                            goto L508;
+                                                                                                        }
+                                                                                                        trap();
+                                                                                                    }
+                                                                                                    L508:;
+                                                                                                    goto L482;
+                                                                                                }
+                                                                                                L485:;
+                                                                                                store16(l26, (u16)0u);
+                                                                                                store8(l26 + 2u, (u8)0u);
+                                                                                                store8(l9 + 180u, (u8)l6);
+                                                                                                store32(l9 + 176u, l32);
+                                                                                                store32(l9 + 172u, l31);
+                                                                                                store32(l9 + 168u, l37);
+                                                                                                l17 = l9 + 200ull;
+                                                                                                l0 = l12;
+                                                                                                l8 = l9 + 168ull;
+                                                                                                l11 = l9 + 40ull;
+                                                                                                l1 = stack - 80ull;
+                                                                                                stack = l1;
+                                                                                                u32 v552;
+                                                                                                {
+                                                                                                    {
+                                                                                                        {
+                                                                                                            {
+                                                                                                                {
+                                                                                                                    {
+                                                                                                                        {
+                                                                                                                            const u64 t559 = load64(l8 + 8u);
+                                                                                                                            store64(l1 + 32u, t559);
+                                                                                                                            const u64 t560 = load64(l8);
+                                                                                                                            store64(l1 + 24u, t560);
+                                                                                                                            functions_arguments_Arguments_next(stack, l1 + 16ull, l1 + 24ull, l0);
+                                                                                                                            const u32 t561 = load32(l1 + 20u);
+                                                                                                                            l32 = t561;
+                                                                                                                            const u32 t562 = load32(l1 + 16u);
+                                                                                                                            l6 = t562;
+                                                                                                                            store64(l1 + 72u, 0ull);
+                                                                                                                            store64(l1 + 64u, 0ull);
+                                                                                                                            store64(l1 + 56u, 0ull);
+                                                                                                                            store64(l1 + 48u, 0ull);
+                                                                                                                            store64(l1 + 40u, 0ull);
+                                                                                                                            u32 v563;
+                                                                                                                            {
+                                                                                                                                const u32 t564 = load32(l0 + 40ull);
+                                                                                                                                l33 = t564;
+                                                                                                                                if (l33 >= 8u) {
+                                                                                                                                    forms_work_Work_find_among_more(stack, l1, l0, l6, l32);
+                                                                                                                                    const u32 t566 = load32(l1 + 4u);
+                                                                                                                                    l6 = t566;
+                                                                                                                                    const u32 t567 = load8(l1);
+                                                                                                                                    v563 = t567; goto L563;
+                                                                                                                                }
+                                                                                                                                {
+                                                                                                                                    if (l33 == 0) goto L568;
+                                                                                                                                    const u64 t569 = load64(l0);
+                                                                                                                                    l14 = t569;
+                                                                                                                                    const u64 t570 = load32(l14 + 4ull);
+                                                                                                                                    const u32 t571 = load32(l0 + 16ull);
+                                                                                                                                    l33 = t571;
+                                                                                                                                    l8 = (u64)(l33 + l32);
+                                                                                                                                    l2 = (u64)(l6 + l33);
+                                                                                                                                    if (t570 != (l8 - l2)) goto L568;
+                                                                                                                                    l10 = 17ull - (l2 << 3);
+                                                                                                                                    l2 = (l8 ^ 18446744073709551615ull) + l2;
+                                                                                                                                    l8 = l14 + (l8 << 3);
+                                                                                                                                    L572:;
+                                                                                                                                    {
+                                                                                                                                        l2 = l2 + 1ull;
+                                                                                                                                        if (l2 == 0) goto L557;
+                                                                                                                                        l14 = l8 - 7ull;
+                                                                                                                                        l13 = l8 + l10;
+                                                                                                                                        l8 = l8 - 8ull;
+                                                                                                                                        const u32 t573 = load8(l13);
+                                                                                                                                        const u32 t574 = load8(l14);
+                                                                                                                                        if (t573 == t574) goto L572;
+                                                                                                                                    }
+                                                                                                                                }
+                                                                                                                                L568:;
+                                                                                                                                forms_work_Work_find_among_few(stack, l1 + 8ull, l0, l6, l32);
+                                                                                                                                const u32 t575 = load32(l1 + 12u);
+                                                                                                                                l6 = t575;
+                                                                                                                                const u32 t576 = load8(l1 + 8u);
+                                                                                                                                v563 = t576;
+                                                                                                                            }
+                                                                                                                            L563:;
+                                                                                                                            if ((v563 & 255u) != 1u) goto L555;
+                                                                                                                            goto L556;
+                                                                                                                        }
+                                                                                                                        trap();
+                                                                                                                    }
+                                                                                                                    L557:;
+                                                                                                                    store64(l0 + 44ull, 0ull);
+                                                                                                                    l6 = 0u;
+                                                                                                                }
+                                                                                                                L556:;
+                                                                                                                forms_work_Work_stored(stack, l1 + 40ull, l0, l6);
+                                                                                                                const u64 t577 = load64(l1 + 64u);
+                                                                                                                l8 = t577;
+                                                                                                                const u32 t578 = load32(l1 + 72u);
+                                                                                                                l32 = t578;
+                                                                                                                const u32 t579 = core_display_show_items2(stack, l1 + 40ull, 0u, l32, l11);
+                                                                                                                if (t579 & 255u) goto L553;
+                                                                                                                l0 = l11 + 16ull;
+                                                                                                                const u64 t580 = load64(l0);
+                                                                                                                l2 = t580;
+                                                                                                                l14 = l11 + 8ull;
+                                                                                                                const u64 t581 = load64(l14);
+                                                                                                                if (l2 >= t581) {
+                                                                                                                    l8 = l11 + 24ull;
+                                                                                                                    const u32 t583 = load8(l8);
+                                                                                                                    if (t583 == 1u) goto L554;
+                                                                                                                    store16(l8, (u16)15361u);
+                                                                                                                    goto L554;
+                                                                                                                }
+                                                                                                                const u64 t584 = load64(l11);
+                                                                                                                store8(t584 + l2, (u8)60u);
+                                                                                                                const u64 t585 = load64(l0);
+                                                                                                                l2 = t585 + 1ull;
+                                                                                                                store64(l0, l2);
+                                                                                                                {
+                                                                                                                    const u64 t587 = load64(l14);
+                                                                                                                    l0 = t587;
+                                                                                                                    if (l0 <= l2) {
+                                                                                                                        l14 = l11 + 24ull;
+                                                                                                                        const u32 t589 = load8(l14);
+                                                                                                                        if (t589 == 1u) goto L554;
+                                                                                                                        store16(l14, (u16)24065u);
+                                                                                                                        goto L586;
+                                                                                                                    }
+                                                                                                                    const u64 t590 = load64(l11);
+                                                                                                                    store8(t590 + l2, (u8)94u);
+                                                                                                                    l2 = l11 + 16ull;
+                                                                                                                    const u64 t591 = load64(l2);
+                                                                                                                    const u64 t592 = l2;
+                                                                                                                    l2 = t591 + 1ull;
+                                                                                                                    store64(t592, l2);
+                                                                                                                    const u64 t593 = load64(l11 + 8ull);
+                                                                                                                    l0 = t593;
+                                                                                                                }
+                                                                                                                L586:;
+                                                                                                                {
+                                                                                                                    if (l0 <= l2) {
+                                                                                                                        l2 = l11 + 24ull;
+                                                                                                                        const u32 t596 = load8(l2);
+                                                                                                                        if (t596 == 1u) goto L554;
+                                                                                                                        store16(l2, (u16)15873u);
+                                                                                                                        goto L594;
+                                                                                                                    }
+                                                                                                                    const u64 t597 = load64(l11);
+                                                                                                                    store8(t597 + l2, (u8)62u);
+                                                                                                                    l2 = l11 + 16ull;
+                                                                                                                    const u64 t598 = load64(l2);
+                                                                                                                    store64(l2, t598 + 1ull);
+                                                                                                                }
+                                                                                                                L594:;
+                                                                                                                const u32 t599 = core_display_show_items2(stack, l1 + 40ull, l32, (u32)l8, l11);
+                                                                                                                if (t599 & 255u) goto L553;
+                                                                                                            }
+                                                                                                            L555:;
+                                                                                                            l6 = 3u;
+                                                                                                            v552 = 0u; goto L552;
+                                                                                                        }
+                                                                                                        L554:;
+                                                                                                        l8 = l11 + 32ull;
+                                                                                                        const u64 t600 = load64(l8);
+                                                                                                        store64(l8, t600 + 1ull);
+                                                                                                    }
+                                                                                                    L553:;
+                                                                                                    l6 = 4u;
+                                                                                                    v552 = 5u;
+                                                                                                }
+                                                                                                L552:;
+                                                                                                l32 = v552;
+                                                                                                store8(l17, (u8)l6);
+                                                                                                store32(l17 + 4ull, 0u);
+                                                                                                store8(l17 + 1ull, (u8)l32);
+                                                                                                stack = l1 + 80ull;
+                                                                                                goto L482;
+                                                                                            }
+                                                                                            L484:;
+                                                                                            const u32 t601 = load8(l9 + 138u);
+                                                                                            l36 = t601;
+                                                                                            l35 = 0u;
+                                                                                            store16(l27, (u16)0u);
+                                                                                            store8(l27 + 2u, (u8)0u);
+                                                                                            store8(l9 + 124u, (u8)l6);
+                                                                                            store32(l9 + 120u, l32);
+                                                                                            store32(l9 + 116u, l31);
+                                                                                            store32(l9 + 112u, l37);
+                                                                                            store64(l9 + 208u, 0ull);
+                                                                                            {
+                                                                                                if ((l33 - 5u) < 20u) goto L602;
+                                                                                                l32 = 0u;
+                                                                                                {
+                                                                                                    switch (l33 - 3u) {
+                                                                                                    case 0: goto L602;
+                                                                                                    case 1: goto L217;
+                                                                                                    default: goto L603;
                                                                                                     }
                                                                                                 }
-                                                                                                L63:;
-                                                                                                const u32 t64 = load16(l27 + 84u);
-                                                                                                store16(l47, (u16)t64);
-                                                                                                const u32 t65 = load8(l27 + 86u);
-                                                                                                store8(l47 + 2u, (u8)t65);
-                                                                                                store8(l27 + 124u, (u8)l12);
-                                                                                                store32(l27 + 120u, l14);
-                                                                                                store32(l27 + 116u, l8);
-                                                                                                store32(l27 + 112u, l10);
-                                                                                                functions_arguments_Arguments_next(e, l27 + 8ull, l27 + 112ull, l28);
-                                                                                                const u32 t66 = load32(l27 + 8u);
-                                                                                                l8 = t66;
-                                                                                                const u32 t67 = load32(l27 + 12u);
-                                                                                                if (l8 == t67) goto L44;
-                                                                                                l30 = l31 + ((u64)(l8 + l11) << 3);
-                                                                                                const u32 t68 = load8(l30);
-                                                                                                const u64 t69 = l41;
-                                                                                                u32 v70;
-                                                                                                if (t68) {
-                                                                                                    v70 = 0u;
-                                                                                                } else {
-                                                                                                    const u32 t71 = load8(l30 + 1ull);
-                                                                                                    v70 = t71;
+                                                                                                L603:;
+                                                                                                l2 = l9 + 208ull;
+                                                                                                l1 = l9 + 112ull;
+                                                                                                l0 = stack - 32ull;
+                                                                                                stack = l0;
+                                                                                                {
+                                                                                                    {
+                                                                                                        const u64 t606 = load64(l1 + 8u);
+                                                                                                        store64(l0 + 24u, t606);
+                                                                                                        const u64 t607 = load64(l1);
+                                                                                                        store64(l0 + 16u, t607);
+                                                                                                        functions_arguments_Arguments_next(stack, l0 + 8ull, l0 + 16ull, l12);
+                                                                                                        const u32 t608 = load32(l0 + 8u);
+                                                                                                        l6 = t608;
+                                                                                                        const u32 t609 = load32(l0 + 12u);
+                                                                                                        if (l6 != t609) {
+                                                                                                            const u64 t611 = load64(l12);
+                                                                                                            const u32 t612 = load32(l12 + 16ull);
+                                                                                                            l1 = t611 + ((u64)(t612 + l6) << 3);
+                                                                                                            const u32 t613 = load8(l1);
+                                                                                                            const u64 t614 = l23;
+                                                                                                            u32 v615;
+                                                                                                            if (t613) {
+                                                                                                                v615 = 0u;
+                                                                                                            } else {
+                                                                                                                const u32 t616 = load8(l1 + 1ull);
+                                                                                                                v615 = t616;
+                                                                                                            }
+                                                                                                            store8(t614, (u8)v615);
+                                                                                                        }
+                                                                                                        store16(l2, (u16)3u);
+                                                                                                        store32(l2 + 4ull, 0u);
+                                                                                                        stack = l0 + 32ull;
+                                                                                                        goto L604;
+                                                                                                    }
+                                                                                                    trap();
                                                                                                 }
-                                                                                                store8(t69, (u8)v70);
-                                                                                                goto L44;
+                                                                                                L604:;
+                                                                                                const u32 t617 = load32(l9 + 212u);
+                                                                                                l35 = t617;
+                                                                                                const u32 t618 = load8(l9 + 209u);
+                                                                                                l32 = t618;
+                                                                                                const u32 t619 = load8(l9 + 208u);
+                                                                                                l33 = t619;
+                                                                                                goto L217;
                                                                                             }
-                                                                                            L62:;
-                                                                                            const u32 t72 = load16(l27 + 84u);
-                                                                                            store16(l32, (u16)t72);
-                                                                                            const u32 t73 = load8(l27 + 86u);
-                                                                                            store8(l32 + 2u, (u8)t73);
-                                                                                            store8(l27 + 108u, (u8)l12);
-                                                                                            store32(l27 + 104u, l14);
-                                                                                            store32(l27 + 100u, l8);
-                                                                                            store32(l27 + 96u, l10);
-                                                                                            store64(l27 + 88u, 0ull);
+                                                                                            L602:;
+                                                                                            store64(l9 + 216u, 0ull);
                                                                                             {
                                                                                                 {
                                                                                                     {
@@ -20438,2458 +22250,670 @@ static void engine_turn(struct engine *e, u64 l0, u64 l1, u64 l2, u64 l3, u64 l4
                                                                                                                                                             {
                                                                                                                                                                 {
                                                                                                                                                                     {
-                                                                                                                                                                        switch (l15 - 5u) {
-                                                                                                                                                                        case 0: goto L80;
-                                                                                                                                                                        case 1: goto L79;
-                                                                                                                                                                        case 2: goto L77;
-                                                                                                                                                                        case 3: goto L76;
-                                                                                                                                                                        case 4: goto L75;
-                                                                                                                                                                        case 6: goto L78;
-                                                                                                                                                                        case 7: goto L85;
-                                                                                                                                                                        case 8: goto L84;
-                                                                                                                                                                        case 9: goto L83;
-                                                                                                                                                                        case 10: goto L82;
-                                                                                                                                                                        case 11: goto L81;
-                                                                                                                                                                        case 12: goto L74;
-                                                                                                                                                                        case 13: goto L92;
-                                                                                                                                                                        case 14: goto L91;
-                                                                                                                                                                        case 15: goto L90;
-                                                                                                                                                                        case 16: goto L89;
-                                                                                                                                                                        case 17: goto L88;
-                                                                                                                                                                        case 18: goto L87;
-                                                                                                                                                                        case 19: goto L86;
-                                                                                                                                                                        default: goto L45;
+                                                                                                                                                                        {
+                                                                                                                                                                            switch (l33 - 5u) {
+                                                                                                                                                                            case 0: goto L626;
+                                                                                                                                                                            case 1: goto L625;
+                                                                                                                                                                            case 2: goto L623;
+                                                                                                                                                                            case 3: goto L622;
+                                                                                                                                                                            case 4: goto L621;
+                                                                                                                                                                            case 6: goto L624;
+                                                                                                                                                                            case 7: goto L631;
+                                                                                                                                                                            case 8: goto L630;
+                                                                                                                                                                            case 9: goto L629;
+                                                                                                                                                                            case 10: goto L628;
+                                                                                                                                                                            case 11: goto L627;
+                                                                                                                                                                            case 12: goto L639;
+                                                                                                                                                                            case 13: goto L638;
+                                                                                                                                                                            case 14: goto L637;
+                                                                                                                                                                            case 15: goto L636;
+                                                                                                                                                                            case 16: goto L635;
+                                                                                                                                                                            case 17: goto L634;
+                                                                                                                                                                            case 18: goto L633;
+                                                                                                                                                                            case 19: goto L632;
+                                                                                                                                                                            default: goto L620;
+                                                                                                                                                                            }
                                                                                                                                                                         }
+                                                                                                                                                                        L639:;
+                                                                                                                                                                        functions_comparing_equal(stack, l9 + 216ull, l12, l9 + 112ull);
+                                                                                                                                                                        goto L218;
                                                                                                                                                                     }
-                                                                                                                                                                    L92:;
-                                                                                                                                                                    functions_comparing_greater(e, l27 + 88ull, l28, l27 + 96ull);
-                                                                                                                                                                    goto L47;
+                                                                                                                                                                    L638:;
+                                                                                                                                                                    functions_comparing_greater(stack, l9 + 216ull, l12, l9 + 112ull);
+                                                                                                                                                                    goto L218;
                                                                                                                                                                 }
-                                                                                                                                                                L91:;
-                                                                                                                                                                functions_arithmetic_arithmetic(e, l27 + 88ull, l28, l9, l27 + 96ull);
-                                                                                                                                                                goto L47;
+                                                                                                                                                                L637:;
+                                                                                                                                                                functions_arithmetic_arithmetic(stack, l9 + 216ull, l12, l36, l9 + 112ull);
+                                                                                                                                                                goto L218;
                                                                                                                                                             }
-                                                                                                                                                            L90:;
-                                                                                                                                                            functions_bit_strings_union(e, l27 + 88ull, l28, l27 + 96ull);
-                                                                                                                                                            goto L47;
+                                                                                                                                                            L636:;
+                                                                                                                                                            functions_bit_strings_union(stack, l9 + 216ull, l12, l9 + 112ull);
+                                                                                                                                                            goto L218;
                                                                                                                                                         }
-                                                                                                                                                        L89:;
-                                                                                                                                                        functions_bit_strings_intersection(e, l27 + 88ull, l28, l27 + 96ull);
-                                                                                                                                                        goto L47;
+                                                                                                                                                        L635:;
+                                                                                                                                                        functions_bit_strings_intersection(stack, l9 + 216ull, l12, l9 + 112ull);
+                                                                                                                                                        goto L218;
                                                                                                                                                     }
-                                                                                                                                                    L88:;
-                                                                                                                                                    store64(l27 + 152u, 0ull);
-                                                                                                                                                    const u64 t93 = load64(l27 + 96u);
-                                                                                                                                                    store64(l27 + 136u, t93);
-                                                                                                                                                    const u64 t94 = load64(l27 + 104u);
-                                                                                                                                                    store64(l27 + 144u, t94);
-                                                                                                                                                    store64(l27 + 124u, 0ull);
-                                                                                                                                                    functions_arguments_Arguments_next(e, l27 + 16ull, l27 + 136ull, l28);
-                                                                                                                                                    const u32 t95 = load32(l27 + 16u);
-                                                                                                                                                    l12 = t95;
-                                                                                                                                                    const u32 t96 = load32(l27 + 20u);
-                                                                                                                                                    l14 = t96;
-                                                                                                                                                    l30 = (u64)(l14 + l11);
-                                                                                                                                                    l34 = (u64)(l12 + l11) - l30;
-                                                                                                                                                    l30 = (l31 + (l30 << 3)) - 8ull;
-                                                                                                                                                    l6 = l14;
-                                                                                                                                                    L97:;
+                                                                                                                                                    L634:;
+                                                                                                                                                    l8 = l9 + 216ull;
+                                                                                                                                                    l2 = l9 + 112ull;
+                                                                                                                                                    l1 = stack - 64ull;
+                                                                                                                                                    stack = l1;
                                                                                                                                                     {
+                                                                                                                                                        l0 = l1;
                                                                                                                                                         {
-                                                                                                                                                            l15 = l6;
-                                                                                                                                                            if (l34 == 0) goto L98;
-                                                                                                                                                            const u32 t99 = load8(l30);
-                                                                                                                                                            if (t99) goto L98;
-                                                                                                                                                            l34 = l34 + 1ull;
-                                                                                                                                                            l6 = l15 - 1u;
-                                                                                                                                                            l31 = l30 + 1ull;
-                                                                                                                                                            l30 = l30 - 8ull;
-                                                                                                                                                            const u32 t100 = load8(l31);
-                                                                                                                                                            if ((t100 & 248u) == 48u) goto L97;
+                                                                                                                                                            store64(l0 + 32u, 0ull);
+                                                                                                                                                            store64(l0 + 56u, 0ull);
+                                                                                                                                                            const u64 t642 = load64(l2);
+                                                                                                                                                            store64(l0 + 40u, t642);
+                                                                                                                                                            const u64 t643 = load64(l2 + 8u);
+                                                                                                                                                            store64(l0 + 48u, t643);
+                                                                                                                                                            functions_arguments_Arguments_next(stack, l0 + 8ull, l0 + 40ull, l12);
+                                                                                                                                                            const u32 t644 = load32(l12 + 16ull);
+                                                                                                                                                            l32 = t644;
+                                                                                                                                                            const u32 t645 = load32(l0 + 8u);
+                                                                                                                                                            l37 = t645;
+                                                                                                                                                            const u32 t646 = load32(l0 + 12u);
+                                                                                                                                                            l33 = t646;
+                                                                                                                                                            l2 = (u64)(l32 + l33);
+                                                                                                                                                            l1 = (u64)(l32 + l37) - l2;
+                                                                                                                                                            const u64 t647 = load64(l12);
+                                                                                                                                                            l2 = (t647 + (l2 << 3)) - 8ull;
+                                                                                                                                                            l6 = l33;
+                                                                                                                                                            L648:;
+                                                                                                                                                            {
+                                                                                                                                                                {
+                                                                                                                                                                    l32 = l6;
+                                                                                                                                                                    if (l1 == 0) goto L649;
+                                                                                                                                                                    const u32 t650 = load8(l2);
+                                                                                                                                                                    if (t650) goto L649;
+                                                                                                                                                                    l1 = l1 + 1ull;
+                                                                                                                                                                    l6 = l32 - 1u;
+                                                                                                                                                                    l11 = l2 + 1ull;
+                                                                                                                                                                    l2 = l2 - 8ull;
+                                                                                                                                                                    const u32 t651 = load8(l11);
+                                                                                                                                                                    if ((t651 & 248u) == 48u) goto L648;
+                                                                                                                                                                }
+                                                                                                                                                                L649:;
+                                                                                                                                                            }
+                                                                                                                                                            store32(l0 + 28u, l33);
+                                                                                                                                                            store32(l0 + 24u, l32);
+                                                                                                                                                            store32(l0 + 20u, 2u);
+                                                                                                                                                            functions_bit_strings_give_bits(stack, l0 + 56ull, l12, l37, l32, l0 + 20ull);
+                                                                                                                                                            const u32 t652 = load16(l0 + 56u);
+                                                                                                                                                            store16(l8, (u16)t652);
+                                                                                                                                                            const u32 t653 = load32(l0 + 60u);
+                                                                                                                                                            store32(l8 + 4ull, t653);
+                                                                                                                                                            stack = l0 + 64ull;
+                                                                                                                                                            goto L640;
                                                                                                                                                         }
-                                                                                                                                                        L98:;
+                                                                                                                                                        trap();
                                                                                                                                                     }
-                                                                                                                                                    store32(l27 + 120u, l14);
-                                                                                                                                                    store32(l27 + 116u, l15);
-                                                                                                                                                    store32(l27 + 112u, 2u);
-                                                                                                                                                    functions_bit_strings_give_bits(e, l27 + 152ull, l28, l12, l15, l27 + 112ull);
-                                                                                                                                                    const u32 t101 = load16(l27 + 152u);
-                                                                                                                                                    store16(l27 + 88u, (u16)t101);
-                                                                                                                                                    const u32 t102 = load32(l27 + 156u);
-                                                                                                                                                    store32(l27 + 92u, t102);
-                                                                                                                                                    goto L47;
+                                                                                                                                                    L640:;
+                                                                                                                                                    goto L218;
                                                                                                                                                 }
-                                                                                                                                                L87:;
-                                                                                                                                                functions_bit_strings_shift(e, l27 + 88ull, l28, l27 + 96ull);
-                                                                                                                                                goto L47;
+                                                                                                                                                L633:;
+                                                                                                                                                functions_bit_strings_shift(stack, l9 + 216ull, l12, l9 + 112ull);
+                                                                                                                                                goto L218;
                                                                                                                                             }
-                                                                                                                                            L86:;
-                                                                                                                                            functions_bit_strings_rotate(e, l27 + 88ull, l28, l27 + 96ull);
-                                                                                                                                            goto L47;
+                                                                                                                                            L632:;
+                                                                                                                                            functions_bit_strings_rotate(stack, l9 + 216ull, l12, l9 + 112ull);
+                                                                                                                                            goto L218;
                                                                                                                                         }
-                                                                                                                                        L85:;
-                                                                                                                                        functions_form_parts_call_segment(e, l27 + 88ull, l28, l27 + 96ull);
-                                                                                                                                        goto L47;
+                                                                                                                                        L631:;
+                                                                                                                                        functions_form_parts_call_segment(stack, l9 + 216ull, l12, l9 + 112ull);
+                                                                                                                                        goto L218;
                                                                                                                                     }
-                                                                                                                                    L84:;
-                                                                                                                                    functions_form_parts_call_character(e, l27 + 88ull, l28, l27 + 96ull);
-                                                                                                                                    goto L47;
+                                                                                                                                    L630:;
+                                                                                                                                    functions_form_parts_call_character(stack, l9 + 216ull, l12, l9 + 112ull);
+                                                                                                                                    goto L218;
                                                                                                                                 }
-                                                                                                                                L83:;
-                                                                                                                                functions_form_parts_call_number(e, l27 + 88ull, l28, l27 + 96ull);
-                                                                                                                                goto L47;
+                                                                                                                                L629:;
+                                                                                                                                functions_form_parts_call_number(stack, l9 + 216ull, l12, l9 + 112ull);
+                                                                                                                                goto L218;
                                                                                                                             }
-                                                                                                                            L82:;
-                                                                                                                            functions_form_parts_initial_part(e, l27 + 88ull, l28, l27 + 96ull);
-                                                                                                                            goto L47;
+                                                                                                                            L628:;
+                                                                                                                            functions_form_parts_initial_part(stack, l9 + 216ull, l12, l9 + 112ull);
+                                                                                                                            goto L218;
                                                                                                                         }
-                                                                                                                        L81:;
-                                                                                                                        functions_form_parts_call_restore(e, l27 + 88ull, l28, l27 + 96ull);
-                                                                                                                        goto L47;
+                                                                                                                        L627:;
+                                                                                                                        functions_form_parts_call_restore(stack, l9 + 216ull, l12, l9 + 112ull);
+                                                                                                                        goto L218;
                                                                                                                     }
-                                                                                                                    L80:;
-                                                                                                                    functions_form_calls_define_string(e, l27 + 88ull, l28, l27 + 96ull);
-                                                                                                                    goto L47;
+                                                                                                                    L626:;
+                                                                                                                    functions_form_calls_define_string(stack, l9 + 216ull, l12, l9 + 112ull);
+                                                                                                                    goto L218;
                                                                                                                 }
-                                                                                                                L79:;
-                                                                                                                functions_form_calls_segment_string(e, l27 + 88ull, l28, l27 + 96ull);
-                                                                                                                goto L47;
+                                                                                                                L625:;
+                                                                                                                functions_form_calls_segment_string(stack, l9 + 216ull, l12, l9 + 112ull);
+                                                                                                                goto L218;
                                                                                                             }
-                                                                                                            L78:;
-                                                                                                            const u64 t103 = load64(l27 + 104u);
-                                                                                                            store64(l27 + 120u, t103);
-                                                                                                            const u64 t104 = load64(l27 + 96u);
-                                                                                                            store64(l27 + 112u, t104);
-                                                                                                            const u32 t105 = load8(l27 + 124u);
-                                                                                                            l14 = t105;
-                                                                                                            functions_arguments_Arguments_next(e, l27 + 48ull, l27 + 112ull, l28);
-                                                                                                            const u32 t106 = load32(l27 + 52u);
-                                                                                                            l15 = t106;
-                                                                                                            const u32 t107 = load32(l27 + 48u);
-                                                                                                            l6 = t107;
-                                                                                                            u32 v108;
+                                                                                                            L624:;
+                                                                                                            const u64 t654 = load64(l9 + 120u);
+                                                                                                            store64(l9 + 144u, t654);
+                                                                                                            const u64 t655 = load64(l9 + 112u);
+                                                                                                            store64(l9 + 136u, t655);
+                                                                                                            const u32 t656 = load8(l9 + 148u);
+                                                                                                            l33 = t656;
+                                                                                                            functions_arguments_Arguments_next(stack, l9 + 32ull, l9 + 136ull, l12);
+                                                                                                            const u32 t657 = load32(l9 + 36u);
+                                                                                                            l6 = t657;
+                                                                                                            const u32 t658 = load32(l9 + 32u);
+                                                                                                            l35 = t658;
+                                                                                                            u32 v659;
                                                                                                             {
-                                                                                                                const u32 t109 = load32(l28 + 40ull);
-                                                                                                                l12 = t109;
-                                                                                                                if (l12 >= 8u) {
-                                                                                                                    forms_work_Work_find_among_more(e, l27 + 32ull, l28, l6, l15);
-                                                                                                                    const u32 t111 = load8(l27 + 32u);
-                                                                                                                    l15 = t111;
-                                                                                                                    const u32 t112 = load32(l27 + 36u);
-                                                                                                                    v108 = t112; goto L108;
+                                                                                                                const u32 t660 = load32(l12 + 40ull);
+                                                                                                                l32 = t660;
+                                                                                                                if (l32 >= 8u) {
+                                                                                                                    forms_work_Work_find_among_more(stack, l9 + 16ull, l12, l35, l6);
+                                                                                                                    const u32 t662 = load32(l9 + 20u);
+                                                                                                                    l35 = t662;
+                                                                                                                    const u32 t663 = load8(l9 + 16u);
+                                                                                                                    v659 = t663; goto L659;
                                                                                                                 }
                                                                                                                 {
-                                                                                                                    if (l12 == 0) goto L113;
-                                                                                                                    const u64 t114 = load32(l31 + 4ull);
-                                                                                                                    l30 = (u64)(l11 + l15);
-                                                                                                                    l34 = (u64)(l6 + l11);
-                                                                                                                    if (t114 != (l30 - l34)) goto L113;
-                                                                                                                    l1 = 17ull - (l34 << 3);
-                                                                                                                    l34 = (l30 ^ 18446744073709551615ull) + l34;
-                                                                                                                    l30 = l31 + (l30 << 3);
-                                                                                                                    L115:;
+                                                                                                                    if (l32 == 0) goto L664;
+                                                                                                                    const u64 t665 = load32(l8 + 4ull);
+                                                                                                                    l14 = (u64)(l6 + l30);
+                                                                                                                    l2 = (u64)(l30 + l35);
+                                                                                                                    if (t665 != (l14 - l2)) goto L664;
+                                                                                                                    l1 = 17ull - (l2 << 3);
+                                                                                                                    l2 = (l14 ^ 18446744073709551615ull) + l2;
+                                                                                                                    l8 = l8 + (l14 << 3);
+                                                                                                                    L666:;
                                                                                                                     {
-                                                                                                                        l34 = l34 + 1ull;
-                                                                                                                        if (l34 == 0) goto L50;
-                                                                                                                        l31 = l30 - 7ull;
-                                                                                                                        l35 = l1 + l30;
-                                                                                                                        l30 = l30 - 8ull;
-                                                                                                                        const u32 t116 = load8(l35);
-                                                                                                                        const u32 t117 = load8(l31);
-                                                                                                                        if (t116 == t117) goto L115;
+                                                                                                                        l2 = l2 + 1ull;
+                                                                                                                        if (l2 == 0) goto L221;
+                                                                                                                        l14 = l8 - 7ull;
+                                                                                                                        l11 = l1 + l8;
+                                                                                                                        l8 = l8 - 8ull;
+                                                                                                                        const u32 t667 = load8(l11);
+                                                                                                                        const u32 t668 = load8(l14);
+                                                                                                                        if (t667 == t668) goto L666;
                                                                                                                     }
                                                                                                                 }
-                                                                                                                L113:;
-                                                                                                                forms_work_Work_find_among_few(e, l27 + 40ull, l28, l6, l15);
-                                                                                                                const u32 t118 = load8(l27 + 40u);
-                                                                                                                l15 = t118;
-                                                                                                                const u32 t119 = load32(l27 + 44u);
-                                                                                                                v108 = t119;
+                                                                                                                L664:;
+                                                                                                                forms_work_Work_find_among_few(stack, l9 + 24ull, l12, l35, l6);
+                                                                                                                const u32 t669 = load32(l9 + 28u);
+                                                                                                                l35 = t669;
+                                                                                                                const u32 t670 = load8(l9 + 24u);
+                                                                                                                v659 = t670;
                                                                                                             }
-                                                                                                            L108:;
-                                                                                                            l6 = v108;
-                                                                                                            if ((l15 & 255u) != 1u) goto L49;
-                                                                                                            goto L48;
+                                                                                                            L659:;
+                                                                                                            if ((v659 & 255u) != 1u) goto L220;
+                                                                                                            goto L219;
                                                                                                         }
-                                                                                                        L77:;
-                                                                                                        functions_form_calls_delete_definition(e, l27 + 88ull, l28, l27 + 96ull);
-                                                                                                        goto L47;
+                                                                                                        L623:;
+                                                                                                        functions_form_calls_delete_definition(stack, l9 + 216ull, l12, l9 + 112ull);
+                                                                                                        goto L218;
                                                                                                     }
-                                                                                                    L76:;
-                                                                                                    functions_form_calls_delete_all(e, l27 + 88ull, l28);
-                                                                                                    goto L47;
+                                                                                                    L622:;
+                                                                                                    functions_form_calls_delete_all(stack, l9 + 216ull, l12);
+                                                                                                    goto L218;
                                                                                                 }
-                                                                                                L75:;
-                                                                                                functions_form_calls_list_names(e, l27 + 88ull, l28, l27 + 96ull);
-                                                                                                goto L47;
+                                                                                                L621:;
+                                                                                                functions_form_calls_list_names(stack, l9 + 216ull, l12, l9 + 112ull);
+                                                                                                goto L218;
                                                                                             }
-                                                                                            L74:;
-                                                                                            functions_comparing_equal(e, l27 + 88ull, l28, l27 + 96ull);
-                                                                                            goto L47;
-                                                                                        }
-                                                                                        L52:;
-                                                                                        store32(l36 + 20u, 0u);
-                                                                                        store32(l36 + 16u, l21);
-                                                                                        l28 = l3 - l33;
-                                                                                        store64(l36, l28);
-                                                                                        store64(l36 + 8u, l28 + l38);
-                                                                                        goto L10;
-                                                                                    }
-                                                                                    L51:;
-                                                                                    l30 = l3 - l33;
-                                                                                    l28 = l30 + l38;
-                                                                                    l11 = 0u;
-                                                                                    goto L46;
-                                                                                }
-                                                                                L50:;
-                                                                                store64(l28 + 44ull, 0ull);
-                                                                                l6 = 0u;
-                                                                                goto L48;
-                                                                            }
-                                                                            L49:;
-                                                                            store32(l27 + 92u, 0u);
-                                                                            store16(l27 + 88u, (u16)1u);
-                                                                            goto L47;
-                                                                        }
-                                                                        L48:;
-                                                                        const u32 t120 = load32(l27 + 116u);
-                                                                        l15 = t120;
-                                                                        const u32 t121 = load32(l27 + 112u);
-                                                                        l12 = t121;
-                                                                        {
-                                                                            if ((l14 & 1u) == 0) goto L122;
-                                                                            if (l12 <= l15) goto L122;
-                                                                            const u32 t123 = load32(l28 + 44ull);
-                                                                            const u32 t124 = load32(l28 + 48ull);
-                                                                            const u32 t125 = store_store_place_of(e, l28, t123, t124, l6);
-                                                                            l14 = t125;
-                                                                            l10 = 0u;
-                                                                            const u64 t126 = load64(l28);
-                                                                            l34 = t126;
-                                                                            l30 = l34 + ((u64)l14 << 3);
-                                                                            const u32 t127 = load32(l30 + 12ull);
-                                                                            l18 = t127;
-                                                                            const u32 t128 = load32(l30 + 20ull);
-                                                                            l9 = t128;
-                                                                            if (l18 != l9) {
-                                                                                const u32 t130 = load32(l30 + 4ull);
-                                                                                l23 = (l14 + t130) + 3u;
-                                                                                l10 = l23 + l9;
-                                                                                u32 v131;
-                                                                                {
-                                                                                    l14 = l18 - l9;
-                                                                                    const u32 t132 = load32(l28 + 28ull);
-                                                                                    l20 = t132;
-                                                                                    const u32 t133 = load32(l28 + 20ull);
-                                                                                    const u32 t134 = load32(l28 + 24ull);
-                                                                                    l19 = t134;
-                                                                                    const u32 t135 = load32(l28 + 16ull);
-                                                                                    if (l14 > (l20 - (t133 + (l19 + t135)))) {
-                                                                                        store_fill_load_items_in_way(e, l27 + 24ull, l28, l10, l18 + l23);
-                                                                                        const u32 t137 = load8(l27 + 24u);
-                                                                                        l9 = t137;
-                                                                                        const u32 t138 = load32(l27 + 28u);
-                                                                                        v131 = t138; goto L131;
-                                                                                    }
-                                                                                    l0 = (u64)l14;
-                                                                                    l35 = (u64)l10;
-                                                                                    {
-                                                                                        {
-                                                                                            {
-                                                                                                {
-                                                                                                    {
-                                                                                                        {
-                                                                                                            if (l14 >= 8u) {
-                                                                                                                if (l14 == 8u) goto L143;
-                                                                                                                l30 = l34 + (l35 << 3);
-                                                                                                                l31 = l0;
-                                                                                                                goto L144;
-                                                                                                            }
-                                                                                                            if (l14 >= 4u) {
-                                                                                                                l9 = 0u;
-                                                                                                                l30 = l34 + (l35 << 3);
-                                                                                                                const u32 t147 = load8(l30 + 24ull);
-                                                                                                                const u32 t148 = load8(l30 + 16ull);
-                                                                                                                const u32 t149 = load8(l30 + 8ull);
-                                                                                                                const u32 t150 = load8(l30);
-                                                                                                                if (((t147 + t148) | (t149 + t150)) & 255u) { v131 = 0u; goto L131; }
-                                                                                                                l31 = l0 + l35;
-                                                                                                                l30 = l34 + (l31 << 3);
-                                                                                                                const u32 t151 = load8(l30 - 8ull);
-                                                                                                                const u32 t152 = load8(l30 - 16ull);
-                                                                                                                const u32 t153 = load8(l30 - 24ull);
-                                                                                                                const u32 t154 = load8(l30 - 32ull);
-                                                                                                                if (((t151 + t152) | (t153 + t154)) & 255u) { v131 = 0u; goto L131; }
-                                                                                                                l10 = l14 + l19;
-                                                                                                                l30 = (u64)(l20 - l10);
-                                                                                                                core_slice_edits_slice_T_copy_from_slice(e, l34 + (l30 << 3), l34 + (l35 << 3), 4ull);
-                                                                                                                const u64 t155 = l30 - l35;
-                                                                                                                l30 = l31 - 4ull;
-                                                                                                                core_slice_edits_slice_T_copy_from_slice(e, l34 + ((t155 + l30) << 3), l34 + (l30 << 3), 4ull);
-                                                                                                                goto L140;
-                                                                                                            }
-                                                                                                            l30 = l34 + (l35 << 3);
-                                                                                                            const u32 t156 = load8(l30);
-                                                                                                            l18 = t156;
-                                                                                                            if (l14 < 2u) goto L142;
-                                                                                                            l9 = 0u;
-                                                                                                            const u32 t157 = load8(l30 + 8ull);
-                                                                                                            if (t157 | (l18 & 255u)) { v131 = 0u; goto L131; }
-                                                                                                            l31 = l0 + l35;
-                                                                                                            l30 = l34 + (l31 << 3);
-                                                                                                            const u32 t158 = load8(l30 - 8ull);
-                                                                                                            const u32 t159 = load8(l30 - 16ull);
-                                                                                                            if (t158 | t159) { v131 = 0u; goto L131; }
-                                                                                                            l10 = l14 + l19;
-                                                                                                            l30 = (u64)(l20 - l10);
-                                                                                                            core_slice_edits_slice_T_copy_from_slice(e, l34 + (l30 << 3), l34 + (l35 << 3), 2ull);
-                                                                                                            const u64 t160 = l30 - l35;
-                                                                                                            l30 = l31 - 2ull;
-                                                                                                            core_slice_edits_slice_T_copy_from_slice(e, l34 + ((t160 + l30) << 3), l34 + (l30 << 3), 2ull);
-                                                                                                            goto L140;
-                                                                                                        }
-                                                                                                        L144:;
-                                                                                                        L161:;
-                                                                                                        {
-                                                                                                            const u32 t162 = load8(l30 + 56ull);
-                                                                                                            const u32 t163 = load8(l30 + 48ull);
-                                                                                                            const u32 t164 = load8(l30 + 40ull);
-                                                                                                            const u32 t165 = load8(l30 + 32ull);
-                                                                                                            const u32 t166 = load8(l30 + 24ull);
-                                                                                                            const u32 t167 = load8(l30 + 16ull);
-                                                                                                            const u32 t168 = load8(l30 + 8ull);
-                                                                                                            const u32 t169 = load8(l30);
-                                                                                                            if ((t162 | ((t163 + (t164 + (t165 + (t166 + (t167 + (t168 + t169)))))) & 255u)) == 0) {
-                                                                                                                l30 = l30 + 64ull;
-                                                                                                                l31 = l31 - 8ull;
-                                                                                                                if (l31 >= 9ull) goto L161;
-                                                                                                                goto L143;
-                                                                                                            }
-                                                                                                        }
-                                                                                                        l9 = 0u;
-                                                                                                        v131 = 0u; goto L131;
-                                                                                                    }
-                                                                                                    L143:;
-                                                                                                    l9 = 0u;
-                                                                                                    l31 = l0 + l35;
-                                                                                                    l30 = l34 + (l31 << 3);
-                                                                                                    const u32 t171 = load8(l30 - 56ull);
-                                                                                                    const u32 t172 = load8(l30 - 64ull);
-                                                                                                    const u32 t173 = load8(l30 - 48ull);
-                                                                                                    const u32 t174 = load8(l30 - 40ull);
-                                                                                                    const u32 t175 = load8(l30 - 32ull);
-                                                                                                    const u32 t176 = load8(l30 - 24ull);
-                                                                                                    const u32 t177 = load8(l30 - 16ull);
-                                                                                                    const u32 t178 = load8(l30 - 8ull);
-                                                                                                    if ((((((((t171 + t172) + t173) + t174) + t175) + t176) + t177) & 255u) | t178) { v131 = 0u; goto L131; }
-                                                                                                    l10 = l14 + l19;
-                                                                                                    l43 = (u64)(l20 - l10);
-                                                                                                    if (l14 > 24u) goto L141;
-                                                                                                    if (l14 != 8u) {
-                                                                                                        l30 = l34 + (l43 << 3);
-                                                                                                        l31 = l34 + (l35 << 3);
-                                                                                                        l1 = l0;
-                                                                                                        L180:;
-                                                                                                        {
-                                                                                                            core_slice_edits_slice_T_copy_from_slice(e, l30, l31, 8ull);
-                                                                                                            l30 = l30 + 64ull;
-                                                                                                            l31 = l31 + 64ull;
-                                                                                                            l1 = l1 - 8ull;
-                                                                                                            if (l1 > 8ull) goto L180;
-                                                                                                        }
-                                                                                                    }
-                                                                                                    l30 = l0 - 8ull;
-                                                                                                    core_slice_edits_slice_T_copy_from_slice(e, l34 + ((l30 + l43) << 3), l34 + ((l30 + l35) << 3), 8ull);
-                                                                                                    store32(l28 + 24ull, l10);
-                                                                                                    goto L139;
-                                                                                                }
-                                                                                                L142:;
-                                                                                                l9 = 0u;
-                                                                                                if (l18 & 255u) { v131 = 0u; goto L131; }
-                                                                                                l10 = l14 + l19;
-                                                                                                if (l14 != 1u) goto L140;
-                                                                                                l30 = l34 + ((u64)(l20 - l10) << 3);
-                                                                                                l31 = l34 + (l35 << 3);
-                                                                                                const u32 t181 = load16(l31);
-                                                                                                store16(l30, (u16)t181);
-                                                                                                const u32 t182 = load32(l31 + 4ull);
-                                                                                                store32(l30 + 4ull, t182);
-                                                                                                goto L140;
-                                                                                            }
-                                                                                            L141:;
-                                                                                            space_copies_copy_long(e, l34, l35, l31, l43);
-                                                                                        }
-                                                                                        L140:;
-                                                                                        store32(l28 + 24ull, l10);
-                                                                                    }
-                                                                                    L139:;
-                                                                                    l9 = 1u;
-                                                                                    v131 = l14;
-                                                                                }
-                                                                                L131:;
-                                                                                l10 = v131;
-                                                                                if ((l9 & 255u) != 1u) goto L122;
-                                                                            }
-                                                                            store32(l27 + 92u, l10);
-                                                                            store16(l27 + 88u, (u16)2u);
-                                                                            goto L47;
-                                                                        }
-                                                                        L122:;
-                                                                        const u32 t183 = forms_work_Work_fill_body(e, l28, l6, l12, l15);
-                                                                        l15 = t183;
-                                                                        store32(l27 + 92u, 0u);
-                                                                        store8(l27 + 89u, (u8)0u);
-                                                                        store8(l27 + 88u, (u8)l15);
-                                                                    }
-                                                                    L47:;
-                                                                    const u32 t184 = load32(l27 + 92u);
-                                                                    l6 = t184;
-                                                                    {
-                                                                        const u64 t186 = load8(l27 + 88u);
-                                                                        switch ((u32)t186 - 1u) {
-                                                                        case 0: goto L45;
-                                                                        case 1: goto L44;
-                                                                        case 2: goto L44;
-                                                                        case 3: goto L185;
-                                                                        default: goto L12;
-                                                                        }
-                                                                    }
-                                                                    L185:;
-                                                                    const u32 t187 = load32(l28 + 24ull);
-                                                                    const u32 t188 = load32(l28 + 20ull);
-                                                                    const u32 t189 = load32(l28 + 16ull);
-                                                                    l17 = t187 + (t188 + t189);
-                                                                    l30 = l3 - l33;
-                                                                    l28 = l30 + l38;
-                                                                    const u32 t190 = load8(l27 + 89u);
-                                                                    l11 = t190;
-                                                                    l8 = 1u << (l11 & 31);
-                                                                    if (l8 & 3u) goto L46;
-                                                                    if (l8 & 12u) goto L11;
-                                                                    l21 = (l17 > l21) ? l17 : l21;
-                                                                    goto L11;
-                                                                }
-                                                                L46:;
-                                                                l21 = (l17 > l21) ? l17 : l21;
-                                                                l28 = l28 + 1ull;
-                                                                goto L11;
-                                                            }
-                                                            L45:;
-                                                            const u32 t191 = load32(l28 + 20ull);
-                                                            l15 = t191;
-                                                            core_delivery_deliver(e, l28, l16, l8);
-                                                            v26 = l15 + (l11 + l22); goto L26;
-                                                        }
-                                                        L44:;
-                                                        const u64 t192 = load64(l28);
-                                                        const u64 t193 = load32(l28 + 16ull);
-                                                        l30 = t192 + (t193 << 3);
-                                                        {
-                                                            {
-                                                                const u32 t196 = load32(l28 + 32ull);
-                                                                l11 = t196;
-                                                                l8 = l11 <= l16;
-                                                                if (l8) goto L195;
-                                                                if ((l11 - l16) != 1u) goto L195;
-                                                                const u32 t197 = load32((l30 + ((l39 << 3) & 34359738360ull)) + 4ull);
-                                                                l11 = t197;
-                                                                l8 = l11 ? (l13 - l11) : 0u;
-                                                                goto L194;
-                                                            }
-                                                            L195:;
-                                                            if (l8) {
-                                                                l8 = l11;
-                                                                goto L194;
-                                                            }
-                                                            L199:;
-                                                            {
-                                                                const u32 t200 = load32((l30 + ((u64)(l11 - 1u) << 3)) + 4ull);
-                                                                l8 = t200;
-                                                                l11 = l11 - l8;
-                                                                l8 = l8 ? l11 : 0u;
-                                                                if (l8 > l16) goto L199;
-                                                            }
-                                                        }
-                                                        L194:;
-                                                        store32(l28 + 20ull, l16);
-                                                        store32(l28 + 32ull, l8);
-                                                        v26 = l6 + l17;
-                                                    }
-                                                    L26:;
-                                                    l11 = v26;
-                                                    store32(l27 + 76u, 0u);
-                                                    const u32 t201 = load32(l28 + 20ull);
-                                                    l8 = t201;
-                                                    store32(l27 + 80u, l8);
-                                                    const u32 t202 = load32(l28 + 24ull);
-                                                    const u32 t203 = load32(l28 + 16ull);
-                                                    l8 = t202 + (l8 + t203);
-                                                    l21 = (l11 > l21) ? l11 : l21;
-                                                    v22 = l33 - 1ull;
-                                                }
-                                                L22:;
-                                                l33 = v22;
-                                                if (l33 != 0ull) goto L21;
-                                            }
-                                        }
-                                        store32(l36 + 20u, 0u);
-                                        store32(l36 + 16u, l21);
-                                        store64(l36, l3);
-                                        store64(l36 + 8u, l3 + l38);
-                                        goto L10;
-                                    }
-                                    trap();
-                                }
-                                L12:;
-                                l30 = l3 - l33;
-                                l28 = l30 + l38;
-                                l11 = 2u;
-                            }
-                            L11:;
-                            store16(l36 + 22u, (u16)0u);
-                            store8(l36 + 21u, (u8)l11);
-                            store8(l36 + 20u, (u8)1u);
-                            store32(l36 + 16u, l21);
-                            store64(l36 + 8u, l28);
-                            store64(l36, l30);
-                        }
-                        L10:;
-                        e->stack_pointer = l27 + 160ull;
-                        const u64 t204 = load64(l26 + 112u);
-                        store64(l42, t204);
-                        const u32 t205 = load32(l26 + 120u);
-                        store32(l2, t205);
-                        const u32 t206 = load16(l26 + 124u);
-                        store16(l5, (u16)t206);
-                        const u64 t207 = load64(l26 + 104u);
-                        v6 = t207;
-                    } else {
-                        v6 = 0ull;
-                    }
-                    l42 = v6 + l4;
-                    if (l42 == l7) goto L3;
-                    {
-                        if (l25) goto L208;
-                        const u64 t209 = load64(l26 + 80u);
-                        l31 = t209;
-                        const u64 t210 = load64(l26 + 72u);
-                        l3 = t210;
-                        {
-                            {
-                                const u32 t213 = core_machine_Machine_awaits(e, l29);
-                                switch ((t213 & 255u) - 1u) {
-                                case 0: goto L212;
-                                case 1: goto L211;
-                                default: goto L208;
-                                }
-                            }
-                            L212:;
-                            const u32 t214 = load8(l41);
-                            l9 = t214;
-                            {
-                                if (l31 <= 3ull) {
-                                    if (l31 == 0) goto L215;
-                                    l8 = l9 & 255u;
-                                    const u32 t217 = load8(l3);
-                                    if (l8 == t217) goto L208;
-                                    const u32 t218 = load8(l3 + (l31 >> 1));
-                                    if (t218 == l8) goto L208;
-                                    const u32 t219 = load8((l3 + l31) - 1ull);
-                                    if (t219 == (l9 & 255u)) goto L208;
-                                    goto L215;
-                                }
-                                if (l31 <= 8ull) {
-                                    l8 = l9 & 255u;
-                                    const u32 t221 = load8(l3);
-                                    if (l8 == t221) goto L208;
-                                    const u32 t222 = load8(l3 + 1ull);
-                                    if (t222 == l8) goto L208;
-                                    l8 = l9 & 255u;
-                                    const u32 t223 = load8(l3 + 2ull);
-                                    if (l8 == t223) goto L208;
-                                    const u32 t224 = load8(l3 + 3ull);
-                                    if (t224 == l8) goto L208;
-                                    l8 = l9 & 255u;
-                                    l4 = l3 + l31;
-                                    const u32 t225 = load8(l4 - 4ull);
-                                    if (l8 == t225) goto L208;
-                                    const u32 t226 = load8(l4 - 3ull);
-                                    if (t226 == l8) goto L208;
-                                    l8 = l9 & 255u;
-                                    const u32 t227 = load8(l4 - 2ull);
-                                    if (l8 == t227) goto L208;
-                                    const u32 t228 = load8(l4 - 1ull);
-                                    if (t228 == l8) goto L208;
-                                    goto L215;
-                                }
-                                if (l31 <= 32ull) {
-                                    l8 = l9 & 255u;
-                                    const u32 t230 = load8(l3);
-                                    if (l8 == t230) goto L208;
-                                    const u32 t231 = load8(l3 + 1ull);
-                                    if (t231 == l8) goto L208;
-                                    l8 = l9 & 255u;
-                                    const u32 t232 = load8(l3 + 2ull);
-                                    if (l8 == t232) goto L208;
-                                    const u32 t233 = load8(l3 + 3ull);
-                                    if (t233 == l8) goto L208;
-                                    l8 = l9 & 255u;
-                                    const u32 t234 = load8(l3 + 4ull);
-                                    if (l8 == t234) goto L208;
-                                    const u32 t235 = load8(l3 + 5ull);
-                                    if (t235 == l8) goto L208;
-                                    l8 = l9 & 255u;
-                                    const u32 t236 = load8(l3 + 6ull);
-                                    if (l8 == t236) goto L208;
-                                    const u32 t237 = load8(l3 + 7ull);
-                                    if (t237 == l8) goto L208;
-                                    l8 = l9 & 255u;
-                                    l2 = l31 - 8ull;
-                                    l4 = l3 + ((l2 < 8ull) ? l2 : 8ull);
-                                    const u32 t238 = load8(l4);
-                                    if (l8 == t238) goto L208;
-                                    const u32 t239 = load8(l4 + 1ull);
-                                    if (t239 == l8) goto L208;
-                                    l8 = l9 & 255u;
-                                    const u32 t240 = load8(l4 + 2ull);
-                                    if (l8 == t240) goto L208;
-                                    const u32 t241 = load8(l4 + 3ull);
-                                    if (t241 == l8) goto L208;
-                                    l8 = l9 & 255u;
-                                    const u32 t242 = load8(l4 + 4ull);
-                                    if (l8 == t242) goto L208;
-                                    const u32 t243 = load8(l4 + 5ull);
-                                    if (t243 == l8) goto L208;
-                                    l8 = l9 & 255u;
-                                    const u32 t244 = load8(l4 + 6ull);
-                                    if (l8 == t244) goto L208;
-                                    const u32 t245 = load8(l4 + 7ull);
-                                    if (t245 == l8) goto L208;
-                                    l8 = l9 & 255u;
-                                    l4 = l3 + ((l2 < 16ull) ? l2 : 16ull);
-                                    const u32 t246 = load8(l4);
-                                    if (l8 == t246) goto L208;
-                                    const u32 t247 = load8(l4 + 1ull);
-                                    if (t247 == l8) goto L208;
-                                    l8 = l9 & 255u;
-                                    const u32 t248 = load8(l4 + 2ull);
-                                    if (l8 == t248) goto L208;
-                                    const u32 t249 = load8(l4 + 3ull);
-                                    if (t249 == l8) goto L208;
-                                    l8 = l9 & 255u;
-                                    const u32 t250 = load8(l4 + 4ull);
-                                    if (l8 == t250) goto L208;
-                                    const u32 t251 = load8(l4 + 5ull);
-                                    if (t251 == l8) goto L208;
-                                    l8 = l9 & 255u;
-                                    const u32 t252 = load8(l4 + 6ull);
-                                    if (l8 == t252) goto L208;
-                                    const u32 t253 = load8(l4 + 7ull);
-                                    if (t253 == l8) goto L208;
-                                    l8 = l9 & 255u;
-                                    l4 = l2 + l3;
-                                    const u32 t254 = load8(l4);
-                                    if (l8 == t254) goto L208;
-                                    const u32 t255 = load8(l4 + 1ull);
-                                    if (t255 == l8) goto L208;
-                                    l8 = l9 & 255u;
-                                    const u32 t256 = load8(l4 + 2ull);
-                                    if (l8 == t256) goto L208;
-                                    const u32 t257 = load8(l4 + 3ull);
-                                    if (t257 == l8) goto L208;
-                                    l8 = l9 & 255u;
-                                    const u32 t258 = load8(l4 + 4ull);
-                                    if (l8 == t258) goto L208;
-                                    const u32 t259 = load8(l4 + 5ull);
-                                    if (t259 == l8) goto L208;
-                                    l8 = l9 & 255u;
-                                    const u32 t260 = load8(l4 + 6ull);
-                                    if (l8 == t260) goto L208;
-                                    const u32 t261 = load8(l4 + 7ull);
-                                    if (t261 == l8) goto L208;
-                                    goto L215;
-                                }
-                                if (l31 <= 64ull) {
-                                    l8 = l9 & 255u;
-                                    const u32 t263 = load8(l3);
-                                    if (l8 == t263) goto L208;
-                                    const u32 t264 = load8(l3 + 1ull);
-                                    if (t264 == l8) goto L208;
-                                    l8 = l9 & 255u;
-                                    const u32 t265 = load8(l3 + 2ull);
-                                    if (l8 == t265) goto L208;
-                                    const u32 t266 = load8(l3 + 3ull);
-                                    if (t266 == l8) goto L208;
-                                    l8 = l9 & 255u;
-                                    const u32 t267 = load8(l3 + 4ull);
-                                    if (l8 == t267) goto L208;
-                                    const u32 t268 = load8(l3 + 5ull);
-                                    if (t268 == l8) goto L208;
-                                    l8 = l9 & 255u;
-                                    const u32 t269 = load8(l3 + 6ull);
-                                    if (l8 == t269) goto L208;
-                                    const u32 t270 = load8(l3 + 7ull);
-                                    if (t270 == l8) goto L208;
-                                    l8 = l9 & 255u;
-                                    const u32 t271 = load8(l3 + 8ull);
-                                    if (l8 == t271) goto L208;
-                                    const u32 t272 = load8(l3 + 9ull);
-                                    if (t272 == l8) goto L208;
-                                    l8 = l9 & 255u;
-                                    const u32 t273 = load8(l3 + 10ull);
-                                    if (l8 == t273) goto L208;
-                                    const u32 t274 = load8(l3 + 11ull);
-                                    if (t274 == l8) goto L208;
-                                    l8 = l9 & 255u;
-                                    const u32 t275 = load8(l3 + 12ull);
-                                    if (l8 == t275) goto L208;
-                                    const u32 t276 = load8(l3 + 13ull);
-                                    if (t276 == l8) goto L208;
-                                    l8 = l9 & 255u;
-                                    const u32 t277 = load8(l3 + 14ull);
-                                    if (l8 == t277) goto L208;
-                                    const u32 t278 = load8(l3 + 15ull);
-                                    if (t278 == l8) goto L208;
-                                    l8 = l9 & 255u;
-                                    const u32 t279 = load8(l3 + 16ull);
-                                    if (l8 == t279) goto L208;
-                                    const u32 t280 = load8(l3 + 17ull);
-                                    if (t280 == l8) goto L208;
-                                    l8 = l9 & 255u;
-                                    const u32 t281 = load8(l3 + 18ull);
-                                    if (l8 == t281) goto L208;
-                                    const u32 t282 = load8(l3 + 19ull);
-                                    if (t282 == l8) goto L208;
-                                    l8 = l9 & 255u;
-                                    const u32 t283 = load8(l3 + 20ull);
-                                    if (l8 == t283) goto L208;
-                                    const u32 t284 = load8(l3 + 21ull);
-                                    if (t284 == l8) goto L208;
-                                    l8 = l9 & 255u;
-                                    const u32 t285 = load8(l3 + 22ull);
-                                    if (l8 == t285) goto L208;
-                                    const u32 t286 = load8(l3 + 23ull);
-                                    if (t286 == l8) goto L208;
-                                    l8 = l9 & 255u;
-                                    const u32 t287 = load8(l3 + 24ull);
-                                    if (l8 == t287) goto L208;
-                                    const u32 t288 = load8(l3 + 25ull);
-                                    if (t288 == l8) goto L208;
-                                    l8 = l9 & 255u;
-                                    const u32 t289 = load8(l3 + 26ull);
-                                    if (l8 == t289) goto L208;
-                                    const u32 t290 = load8(l3 + 27ull);
-                                    if (t290 == l8) goto L208;
-                                    l8 = l9 & 255u;
-                                    const u32 t291 = load8(l3 + 28ull);
-                                    if (l8 == t291) goto L208;
-                                    const u32 t292 = load8(l3 + 29ull);
-                                    if (t292 == l8) goto L208;
-                                    l8 = l9 & 255u;
-                                    const u32 t293 = load8(l3 + 30ull);
-                                    if (l8 == t293) goto L208;
-                                    const u32 t294 = load8(l3 + 31ull);
-                                    if (t294 == l8) goto L208;
-                                    l8 = l9 & 255u;
-                                    l4 = l3 + l31;
-                                    const u32 t295 = load8(l4 - 32ull);
-                                    if (l8 == t295) goto L208;
-                                    const u32 t296 = load8(l4 - 31ull);
-                                    if (t296 == l8) goto L208;
-                                    l8 = l9 & 255u;
-                                    const u32 t297 = load8(l4 - 30ull);
-                                    if (l8 == t297) goto L208;
-                                    const u32 t298 = load8(l4 - 29ull);
-                                    if (t298 == l8) goto L208;
-                                    l8 = l9 & 255u;
-                                    const u32 t299 = load8(l4 - 28ull);
-                                    if (l8 == t299) goto L208;
-                                    const u32 t300 = load8(l4 - 27ull);
-                                    if (t300 == l8) goto L208;
-                                    l8 = l9 & 255u;
-                                    const u32 t301 = load8(l4 - 26ull);
-                                    if (l8 == t301) goto L208;
-                                    const u32 t302 = load8(l4 - 25ull);
-                                    if (t302 == l8) goto L208;
-                                    l8 = l9 & 255u;
-                                    const u32 t303 = load8(l4 - 24ull);
-                                    if (l8 == t303) goto L208;
-                                    const u32 t304 = load8(l4 - 23ull);
-                                    if (t304 == l8) goto L208;
-                                    l8 = l9 & 255u;
-                                    const u32 t305 = load8(l4 - 22ull);
-                                    if (l8 == t305) goto L208;
-                                    const u32 t306 = load8(l4 - 21ull);
-                                    if (t306 == l8) goto L208;
-                                    l8 = l9 & 255u;
-                                    const u32 t307 = load8(l4 - 20ull);
-                                    if (l8 == t307) goto L208;
-                                    const u32 t308 = load8(l4 - 19ull);
-                                    if (t308 == l8) goto L208;
-                                    l8 = l9 & 255u;
-                                    const u32 t309 = load8(l4 - 18ull);
-                                    if (l8 == t309) goto L208;
-                                    const u32 t310 = load8(l4 - 17ull);
-                                    if (t310 == l8) goto L208;
-                                    l8 = l9 & 255u;
-                                    const u32 t311 = load8(l4 - 16ull);
-                                    if (l8 == t311) goto L208;
-                                    const u32 t312 = load8(l4 - 15ull);
-                                    if (t312 == l8) goto L208;
-                                    l8 = l9 & 255u;
-                                    const u32 t313 = load8(l4 - 14ull);
-                                    if (l8 == t313) goto L208;
-                                    const u32 t314 = load8(l4 - 13ull);
-                                    if (t314 == l8) goto L208;
-                                    l8 = l9 & 255u;
-                                    const u32 t315 = load8(l4 - 12ull);
-                                    if (l8 == t315) goto L208;
-                                    const u32 t316 = load8(l4 - 11ull);
-                                    if (t316 == l8) goto L208;
-                                    l8 = l9 & 255u;
-                                    const u32 t317 = load8(l4 - 10ull);
-                                    if (l8 == t317) goto L208;
-                                    const u32 t318 = load8(l4 - 9ull);
-                                    if (t318 == l8) goto L208;
-                                    l8 = l9 & 255u;
-                                    const u32 t319 = load8(l4 - 8ull);
-                                    if (l8 == t319) goto L208;
-                                    const u32 t320 = load8(l4 - 7ull);
-                                    if (t320 == l8) goto L208;
-                                    l8 = l9 & 255u;
-                                    const u32 t321 = load8(l4 - 6ull);
-                                    if (l8 == t321) goto L208;
-                                    const u32 t322 = load8(l4 - 5ull);
-                                    if (t322 == l8) goto L208;
-                                    l8 = l9 & 255u;
-                                    const u32 t323 = load8(l4 - 4ull);
-                                    if (l8 == t323) goto L208;
-                                    const u32 t324 = load8(l4 - 3ull);
-                                    if (t324 == l8) goto L208;
-                                    l8 = l9 & 255u;
-                                    const u32 t325 = load8(l4 - 2ull);
-                                    if (l8 == t325) goto L208;
-                                    const u32 t326 = load8(l4 - 1ull);
-                                    if (t326 != l8) goto L215;
-                                    goto L208;
-                                }
-                                l0 = l31 & 18446744073709551552ull;
-                                l1 = 0ull;
-                                l5 = l3;
-                                {
-                                    L328:;
-                                    {
-                                        l6 = 0u;
-                                        l2 = 0ull;
-                                        L329:;
-                                        {
-                                            l8 = l9 & 255u;
-                                            l4 = l2 + l5;
-                                            const u32 t330 = load8(l4);
-                                            const u32 t331 = load8(l4 + 1ull);
-                                            const u32 t332 = load8(l4 + 2ull);
-                                            const u32 t333 = load8(l4 + 3ull);
-                                            l6 = (((l6 | (l8 == t330)) | (t331 == l8)) | (t332 == l8)) | (t333 == l8);
-                                            l2 = l2 + 4ull;
-                                            if (l2 != 64ull) goto L329;
-                                        }
-                                        if (l6 & 1u) goto L327;
-                                        l5 = l5 + 64ull;
-                                        l1 = l1 + 64ull;
-                                        if ((l31 - l1) > 63ull) goto L328;
-                                    }
-                                    l1 = l0;
-                                }
-                                L327:;
-                                {
-                                    l2 = l31 - l1;
-                                    if (l2 < 32ull) goto L334;
-                                    l4 = l1 + l3;
-                                    L335:;
-                                    {
-                                        {
-                                            l8 = l9 & 255u;
-                                            const u32 t337 = load8(l4);
-                                            if (l8 == t337) goto L336;
-                                            const u32 t338 = load8(l4 + 1ull);
-                                            if (t338 == l8) goto L336;
-                                            l8 = l9 & 255u;
-                                            const u32 t339 = load8(l4 + 2ull);
-                                            if (l8 == t339) goto L336;
-                                            const u32 t340 = load8(l4 + 3ull);
-                                            if (t340 == l8) goto L336;
-                                            l8 = l9 & 255u;
-                                            const u32 t341 = load8(l4 + 4ull);
-                                            if (l8 == t341) goto L336;
-                                            const u32 t342 = load8(l4 + 5ull);
-                                            if (t342 == l8) goto L336;
-                                            l8 = l9 & 255u;
-                                            const u32 t343 = load8(l4 + 6ull);
-                                            if (l8 == t343) goto L336;
-                                            const u32 t344 = load8(l4 + 7ull);
-                                            if (t344 == l8) goto L336;
-                                            l8 = l9 & 255u;
-                                            const u32 t345 = load8(l4 + 8ull);
-                                            if (l8 == t345) goto L336;
-                                            const u32 t346 = load8(l4 + 9ull);
-                                            if (t346 == l8) goto L336;
-                                            l8 = l9 & 255u;
-                                            const u32 t347 = load8(l4 + 10ull);
-                                            if (l8 == t347) goto L336;
-                                            const u32 t348 = load8(l4 + 11ull);
-                                            if (t348 == l8) goto L336;
-                                            l8 = l9 & 255u;
-                                            const u32 t349 = load8(l4 + 12ull);
-                                            if (l8 == t349) goto L336;
-                                            const u32 t350 = load8(l4 + 13ull);
-                                            if (t350 == l8) goto L336;
-                                            l8 = l9 & 255u;
-                                            const u32 t351 = load8(l4 + 14ull);
-                                            if (l8 == t351) goto L336;
-                                            const u32 t352 = load8(l4 + 15ull);
-                                            if (t352 == l8) goto L336;
-                                            l8 = l9 & 255u;
-                                            const u32 t353 = load8(l4 + 16ull);
-                                            if (l8 == t353) goto L336;
-                                            const u32 t354 = load8(l4 + 17ull);
-                                            if (t354 == l8) goto L336;
-                                            l8 = l9 & 255u;
-                                            const u32 t355 = load8(l4 + 18ull);
-                                            if (l8 == t355) goto L336;
-                                            const u32 t356 = load8(l4 + 19ull);
-                                            if (t356 == l8) goto L336;
-                                            l8 = l9 & 255u;
-                                            const u32 t357 = load8(l4 + 20ull);
-                                            if (l8 == t357) goto L336;
-                                            const u32 t358 = load8(l4 + 21ull);
-                                            if (t358 == l8) goto L336;
-                                            l8 = l9 & 255u;
-                                            const u32 t359 = load8(l4 + 22ull);
-                                            if (l8 == t359) goto L336;
-                                            const u32 t360 = load8(l4 + 23ull);
-                                            if (t360 == l8) goto L336;
-                                            l8 = l9 & 255u;
-                                            const u32 t361 = load8(l4 + 24ull);
-                                            if (l8 == t361) goto L336;
-                                            const u32 t362 = load8(l4 + 25ull);
-                                            if (t362 == l8) goto L336;
-                                            l8 = l9 & 255u;
-                                            const u32 t363 = load8(l4 + 26ull);
-                                            if (l8 == t363) goto L336;
-                                            const u32 t364 = load8(l4 + 27ull);
-                                            if (t364 == l8) goto L336;
-                                            l8 = l9 & 255u;
-                                            const u32 t365 = load8(l4 + 28ull);
-                                            if (l8 == t365) goto L336;
-                                            const u32 t366 = load8(l4 + 29ull);
-                                            if (t366 == l8) goto L336;
-                                            l8 = l9 & 255u;
-                                            const u32 t367 = load8(l4 + 30ull);
-                                            if (l8 == t367) goto L336;
-                                            const u32 t368 = load8(l4 + 31ull);
-                                            if (t368 == l8) goto L336;
-                                            l4 = l4 + 32ull;
-                                            l2 = l2 - 32ull;
-                                            if (l2 > 31ull) goto L335;
-                                            goto L334;
-                                        }
-                                        L336:;
-                                    }
-                                    if (l2 > 31ull) goto L208;
-                                }
-                                L334:;
-                                l8 = l9 & 255u;
-                                l4 = l3 + l31;
-                                const u32 t369 = load8(l4 - 32ull);
-                                if (l8 == t369) goto L208;
-                                const u32 t370 = load8(l4 - 31ull);
-                                if (t370 == l8) goto L208;
-                                l8 = l9 & 255u;
-                                const u32 t371 = load8(l4 - 30ull);
-                                if (l8 == t371) goto L208;
-                                const u32 t372 = load8(l4 - 29ull);
-                                if (t372 == l8) goto L208;
-                                l8 = l9 & 255u;
-                                const u32 t373 = load8(l4 - 28ull);
-                                if (l8 == t373) goto L208;
-                                const u32 t374 = load8(l4 - 27ull);
-                                if (t374 == l8) goto L208;
-                                l8 = l9 & 255u;
-                                const u32 t375 = load8(l4 - 26ull);
-                                if (l8 == t375) goto L208;
-                                const u32 t376 = load8(l4 - 25ull);
-                                if (t376 == l8) goto L208;
-                                l8 = l9 & 255u;
-                                const u32 t377 = load8(l4 - 24ull);
-                                if (l8 == t377) goto L208;
-                                const u32 t378 = load8(l4 - 23ull);
-                                if (t378 == l8) goto L208;
-                                l8 = l9 & 255u;
-                                const u32 t379 = load8(l4 - 22ull);
-                                if (l8 == t379) goto L208;
-                                const u32 t380 = load8(l4 - 21ull);
-                                if (t380 == l8) goto L208;
-                                l8 = l9 & 255u;
-                                const u32 t381 = load8(l4 - 20ull);
-                                if (l8 == t381) goto L208;
-                                const u32 t382 = load8(l4 - 19ull);
-                                if (t382 == l8) goto L208;
-                                l8 = l9 & 255u;
-                                const u32 t383 = load8(l4 - 18ull);
-                                if (l8 == t383) goto L208;
-                                const u32 t384 = load8(l4 - 17ull);
-                                if (t384 == l8) goto L208;
-                                l8 = l9 & 255u;
-                                const u32 t385 = load8(l4 - 16ull);
-                                if (l8 == t385) goto L208;
-                                const u32 t386 = load8(l4 - 15ull);
-                                if (t386 == l8) goto L208;
-                                l8 = l9 & 255u;
-                                const u32 t387 = load8(l4 - 14ull);
-                                if (l8 == t387) goto L208;
-                                const u32 t388 = load8(l4 - 13ull);
-                                if (t388 == l8) goto L208;
-                                l8 = l9 & 255u;
-                                const u32 t389 = load8(l4 - 12ull);
-                                if (l8 == t389) goto L208;
-                                const u32 t390 = load8(l4 - 11ull);
-                                if (t390 == l8) goto L208;
-                                l8 = l9 & 255u;
-                                const u32 t391 = load8(l4 - 10ull);
-                                if (l8 == t391) goto L208;
-                                const u32 t392 = load8(l4 - 9ull);
-                                if (t392 == l8) goto L208;
-                                l8 = l9 & 255u;
-                                const u32 t393 = load8(l4 - 8ull);
-                                if (l8 == t393) goto L208;
-                                const u32 t394 = load8(l4 - 7ull);
-                                if (t394 == l8) goto L208;
-                                l8 = l9 & 255u;
-                                const u32 t395 = load8(l4 - 6ull);
-                                if (l8 == t395) goto L208;
-                                const u32 t396 = load8(l4 - 5ull);
-                                if (t396 == l8) goto L208;
-                                l8 = l9 & 255u;
-                                const u32 t397 = load8(l4 - 4ull);
-                                if (l8 == t397) goto L208;
-                                const u32 t398 = load8(l4 - 3ull);
-                                if (t398 == l8) goto L208;
-                                l8 = l9 & 255u;
-                                const u32 t399 = load8(l4 - 2ull);
-                                if (l8 == t399) goto L208;
-                                const u32 t400 = load8(l4 - 1ull);
-                                if (t400 == l8) goto L208;
-                            }
-                            L215:;
-                            const u32 t401 = load32(l29 + 24ull);
-                            const u32 t402 = load32(l29 + 20ull);
-                            const u32 t403 = load32(l29 + 16ull);
-                            const u64 t404 = load32(l29 + 8ull);
-                            if ((l31 + (u64)((t401 + (t402 + t403)))) > (t404 + 1ull)) goto L208;
-                            l24 = 7u;
-                            goto L3;
-                        }
-                        L211:;
-                        if ((l31 == 0) == 0) goto L208;
-                        l24 = 7u;
-                        goto L3;
-                    }
-                    L208:;
-                    const u32 t405 = load8(l29 + 84ull);
-                    l8 = t405;
-                    u32 v406;
-                    {
-                        {
-                            u32 v408;
-                            {
-                                {
-                                    {
-                                        {
-                                            {
-                                                {
-                                                    {
-                                                        {
-                                                            {
-                                                                {
-                                                                    {
-                                                                        u32 v419;
-                                                                        {
-                                                                            const u64 t420 = load64(l26 + 40u);
-                                                                            const u64 t421 = load64(l26 + 48u);
-                                                                            l4 = t420 - t421;
-                                                                            const u32 t422 = load32(l29 + 16ull);
-                                                                            l6 = t422;
-                                                                            const u32 t423 = load32(l29 + 20ull);
-                                                                            l9 = t423;
-                                                                            l2 = (u64)(l6 + l9);
-                                                                            if (l4 >= (l2 - (u64)l6)) {
-                                                                                if ((l8 & 255u) == 1u) goto L417;
-                                                                                const u64 t425 = load64(l29 + 72ull);
-                                                                                l5 = t425;
-                                                                                const u64 t426 = load64(l29 + 64ull);
-                                                                                l31 = t426;
-                                                                                if (l5 == l31) goto L418;
-                                                                                const u32 t427 = load32(l29 + 24ull);
-                                                                                l8 = t427;
-                                                                                if (l8 == 0) goto L418;
-                                                                                const u64 t428 = load64(l29);
-                                                                                l3 = t428;
-                                                                                const u32 t429 = load32(l29 + 28ull);
-                                                                                const u32 t430 = load8((l3 + ((u64)(t429 - l8) << 3)) + 1ull);
-                                                                                if (t430 != 41u) goto L418;
-                                                                                const u32 t431 = load32(l29 + 32ull);
-                                                                                l8 = t431;
-                                                                                if (l8 == 0) goto L418;
-                                                                                l8 = l8 - (l8 != 0u);
-                                                                                if ((u64)l9 <= l4) {
-                                                                                    store8(l26 + 130u, (u8)0u);
-                                                                                    store16(l26 + 128u, (u16)0u);
-                                                                                    l1 = (u64)(((l6 + l8) + 1u));
-                                                                                    l2 = l2 - l1;
-                                                                                    if (l2 < 2ull) goto L418;
-                                                                                    l3 = l3 + (l1 << 3);
-                                                                                    if (l2 != 2ull) {
-                                                                                        const u32 t434 = load8(l3 + 16ull);
-                                                                                        if (t434 != 2u) goto L418;
-                                                                                    }
-                                                                                    functions_function_function_of(e, l26 + 128ull, l3, l3 + 8ull);
-                                                                                    const u32 t435 = load8(l26 + 128u);
-                                                                                    if (t435 != 1u) goto L418;
-                                                                                    const u32 t436 = load8(l26 + 129u);
-                                                                                    if (t436 != 10u) goto L418;
-                                                                                }
-                                                                                const u32 t437 = core_machine_printing_call_len(e, l29, l8);
-                                                                                l6 = t437;
-                                                                                const u32 t438 = load8(l29 + 84ull);
-                                                                                l8 = t438;
-                                                                                if (l4 >= (u64)l6) { v419 = l8; goto L419; }
-                                                                            }
-                                                                            if ((l8 & 255u) == 1u) goto L417;
-                                                                            const u64 t439 = load64(l29 + 72ull);
-                                                                            l5 = t439;
-                                                                            const u64 t440 = load64(l29 + 64ull);
-                                                                            l31 = t440;
-                                                                            if (l5 == l31) goto L418;
-                                                                            const u32 t441 = load32(l29 + 24ull);
-                                                                            l8 = t441;
-                                                                            if (l8 == 0) goto L418;
-                                                                            const u64 t442 = load64(l29);
-                                                                            const u32 t443 = load32(l29 + 28ull);
-                                                                            const u32 t444 = load8((t442 + ((u64)(t443 - l8) << 3)) + 1ull);
-                                                                            if (t444 != 41u) goto L418;
-                                                                            const u32 t445 = load32(l29 + 32ull);
-                                                                            l8 = t445;
-                                                                            if (l8 == 0) goto L418;
-                                                                            const u32 t446 = core_machine_printing_call_len(e, l29, l8 - 1u);
-                                                                            l2 = (u64)t446;
-                                                                            if (l2 > l4) {
-                                                                                l24 = 8u;
-                                                                                l48 = l2;
-                                                                                goto L3;
-                                                                            }
-                                                                            const u32 t448 = load8(l29 + 84ull);
-                                                                            v419 = t448;
-                                                                        }
-                                                                        L419:;
-                                                                        if ((v419 & 255u) == 1u) goto L417;
-                                                                        const u64 t449 = load64(l29 + 64ull);
-                                                                        l31 = t449;
-                                                                        const u64 t450 = load64(l29 + 72ull);
-                                                                        l5 = t450;
-                                                                    }
-                                                                    L418:;
-                                                                    if (l5 == l31) {
-                                                                        store16(l29 + 84ull, (u16)769u);
-                                                                        l6 = 3u;
-                                                                        v406 = 1u; goto L406;
-                                                                    }
-                                                                    const u32 t452 = load32(l29 + 24ull);
-                                                                    l8 = t452;
-                                                                    const u32 t453 = load32(l29 + 16ull);
-                                                                    l9 = t453;
-                                                                    const u32 t454 = load32(l29 + 20ull);
-                                                                    l20 = t454;
-                                                                    store32(l26 + 168u, l20);
-                                                                    l6 = 0u;
-                                                                    store32(l26 + 152u, 0u);
-                                                                    store64(l26 + 136u, 0ull);
-                                                                    store64(l26 + 128u, 0ull);
-                                                                    core_scan_pass(e, l26 + 128ull, l29, 1ull, l26 + 168ull, l26 + 152ull);
-                                                                    const u32 t455 = load8(l26 + 128u);
-                                                                    if (t455 == 1u) {
-                                                                        const u32 t457 = load8(l26 + 132u);
-                                                                        if (t457 == 0) {
-                                                                            l9 = 0u;
-                                                                            store32(l29 + 32ull, 0u);
-                                                                            l2 = l29 + 20ull;
-                                                                            store32(l2, 0u);
-                                                                            const u32 t459 = load32(l29 + 28ull);
-                                                                            l6 = t459;
-                                                                            l31 = l29 + 24ull;
-                                                                            const u32 t460 = load32(l31);
-                                                                            l8 = t460;
-                                                                            l5 = l29 + 16ull;
-                                                                            const u32 t461 = load32(l5);
-                                                                            if ((l6 - (l8 + t461)) <= 10u) {
-                                                                                const u32 t463 = space_space_Space_find_way(e, l29, 11ull);
-                                                                                if (t463 == 0) {
-                                                                                    l6 = 2u;
-                                                                                    goto L407;
-                                                                                }
-                                                                                const u32 t465 = load32(l29 + 24ull);
-                                                                                l8 = t465;
-                                                                                const u32 t466 = load32(l29 + 28ull);
-                                                                                l6 = t466;
-                                                                            }
-                                                                            const u64 t467 = load64(l29);
-                                                                            l8 = l8 + 11u;
-                                                                            l4 = t467 + ((u64)(l6 - l8) << 3);
-                                                                            store64(l4 + 56u, 0ull);
-                                                                            store64(l4 + 48u, 0ull);
-                                                                            store64(l4 + 40u, 0ull);
-                                                                            store64(l4 + 32u, 0ull);
-                                                                            store64(l4 + 24u, 0ull);
-                                                                            store64(l4 + 16u, 0ull);
-                                                                            store64(l4 + 8u, 0ull);
-                                                                            store64(l4, 0ull);
-                                                                            store16(l4 + 80u, (u16)10496u);
-                                                                            store16(l4 + 72u, (u16)10496u);
-                                                                            store16(l4 + 64u, (u16)29440u);
-                                                                            store32(l4 + 84ull, 0u);
-                                                                            store32(l4 + 76ull, 0u);
-                                                                            store32(l4 + 68ull, 0u);
-                                                                            store8(l4 + 57ull, (u8)114u);
-                                                                            store8(l4 + 49ull, (u8)40u);
-                                                                            store8(l4 + 41ull, (u8)35u);
-                                                                            store8(l4 + 33ull, (u8)44u);
-                                                                            store8(l4 + 25ull, (u8)115u);
-                                                                            store8(l4 + 17ull, (u8)112u);
-                                                                            store8(l4 + 9ull, (u8)40u);
-                                                                            store8(l4 + 1ull, (u8)35u);
-                                                                            store32(l31, l8);
-                                                                            const u32 t468 = load32(l2);
-                                                                            const u32 t469 = load32(l5);
-                                                                            l8 = t468 + (t469 + l8);
-                                                                            goto L409;
-                                                                        }
-                                                                        const u64 t470 = load64(l26 + 136u);
-                                                                        l2 = t470;
-                                                                        l4 = l29 + 24ull;
-                                                                        const u32 t471 = load32(l4);
-                                                                        l23 = t471 - 1u;
-                                                                        store32(l4, l23);
-                                                                        const u32 t472 = load32(l29 + 20ull);
-                                                                        l20 = t472;
-                                                                        const u32 t473 = load32(l29 + 16ull);
-                                                                        l8 = t473;
-                                                                        store64(l26 + 184u, 0ull);
-                                                                        store64(l26 + 168u, 0ull);
-                                                                        store64(l26 + 176u, 0ull);
-                                                                        store64(l26 + 152u, 0ull);
-                                                                        store64(l26 + 160u, 0ull);
-                                                                        const u64 t474 = load64(l29);
-                                                                        l4 = t474;
-                                                                        l9 = (u32)l2;
-                                                                        const u32 t475 = load8((l4 + ((u64)(l8 + l9) << 3)) + 1ull);
-                                                                        l6 = t475;
-                                                                        store8(l26 + 130u, (u8)0u);
-                                                                        store16(l26 + 128u, (u16)0u);
-                                                                        {
-                                                                            l14 = l8 + l20;
-                                                                            l15 = l9 + 1u;
-                                                                            l5 = (u64)(l8 + l15);
-                                                                            l31 = (u64)l14 - l5;
-                                                                            if (l31 < 2ull) goto L476;
-                                                                            l5 = l4 + (l5 << 3);
-                                                                            if (l31 != 2ull) {
-                                                                                const u32 t478 = load8(l5 + 16ull);
-                                                                                if (t478 != 2u) goto L476;
-                                                                            }
-                                                                            functions_function_function_of(e, l26 + 128ull, l5, l5 + 8ull);
-                                                                            const u32 t479 = load8(l26 + 128u);
-                                                                            if (t479 != 1u) goto L476;
-                                                                            l13 = (u32)(l2 >> 32);
-                                                                            l6 = l6 == 0;
-                                                                            l16 = l9 + 4u;
-                                                                            {
-                                                                                {
-                                                                                    {
-                                                                                        {
-                                                                                            {
-                                                                                                {
-                                                                                                    const u32 t486 = load8(l26 + 129u);
-                                                                                                    l12 = t486;
-                                                                                                    switch (l12 - 1u) {
-                                                                                                    case 0: goto L485;
-                                                                                                    case 1: goto L482;
-                                                                                                    case 2: goto L484;
-                                                                                                    case 3: goto L482;
-                                                                                                    case 4: goto L482;
-                                                                                                    case 5: goto L482;
-                                                                                                    case 6: goto L482;
-                                                                                                    case 7: goto L482;
-                                                                                                    case 8: goto L482;
-                                                                                                    case 9: goto L483;
-                                                                                                    case 10: goto L482;
-                                                                                                    case 11: goto L482;
-                                                                                                    case 12: goto L482;
-                                                                                                    case 13: goto L482;
-                                                                                                    case 14: goto L482;
-                                                                                                    case 15: goto L482;
-                                                                                                    case 16: goto L482;
-                                                                                                    case 17: goto L482;
-                                                                                                    case 18: goto L482;
-                                                                                                    case 19: goto L482;
-                                                                                                    case 20: goto L482;
-                                                                                                    case 21: goto L482;
-                                                                                                    case 22: goto L482;
-                                                                                                    case 23: goto L482;
-                                                                                                    default: goto L481;
-                                                                                                    }
-                                                                                                }
-                                                                                                L485:;
-                                                                                                l1 = l26 + 184ull;
-                                                                                                l0 = l29;
-                                                                                                l5 = l26 + 72ull;
-                                                                                                l3 = e->stack_pointer - 16ull;
-                                                                                                e->stack_pointer = l3;
-                                                                                                u32 v487;
-                                                                                                {
-                                                                                                    {
-                                                                                                        if ((i64)(l3 - e->stack) >= (i64)16ull) {
-                                                                                                            l11 = 4u;
-                                                                                                            const u32 t490 = load8(l5 + 17ull);
-                                                                                                            if (t490) { v487 = 1u; goto L487; }
-                                                                                                            {
-                                                                                                                const u64 t492 = load64(l5 + 8u);
-                                                                                                                l4 = t492;
-                                                                                                                if (l4 == 0) {
-                                                                                                                    const u32 t494 = load8(l5 + 16ull);
-                                                                                                                    if (t494) goto L491;
-                                                                                                                    store8(l5 + 17ull, (u8)1u);
-                                                                                                                    v487 = 1u; goto L487;
-                                                                                                                }
-                                                                                                                store64(l5 + 8u, l4 - 1ull);
-                                                                                                                const u64 t495 = load64(l5);
-                                                                                                                l4 = t495;
-                                                                                                                store64(l5, l4 + 1ull);
-                                                                                                                const u32 t496 = load8(l4);
-                                                                                                                l11 = t496;
-                                                                                                                store64(l3 + 8u, 0ull);
-                                                                                                                store8(l3 + 9u, (u8)l11);
-                                                                                                                const u32 t497 = load32(l0 + 28ull);
-                                                                                                                l5 = l0 + 20ull;
-                                                                                                                const u32 t498 = load32(l5);
-                                                                                                                l10 = t498;
-                                                                                                                const u32 t499 = load32(l0 + 16ull);
-                                                                                                                l13 = l10 + t499;
-                                                                                                                const u32 t500 = load32(l0 + 24ull);
-                                                                                                                if (t497 != (l13 + t500)) {
-                                                                                                                    l4 = l0 + 32ull;
-                                                                                                                    const u32 t502 = load32(l4);
-                                                                                                                    l6 = t502;
-                                                                                                                    const u64 t503 = load64(l0);
-                                                                                                                    l0 = t503 + ((u64)l13 << 3);
-                                                                                                                    store8(l0, (u8)0u);
-                                                                                                                    store32(l0 + 4ull, 0u);
-                                                                                                                    store8(l0 + 1ull, (u8)l11);
-                                                                                                                    store32(l5, l10 + 1u);
-                                                                                                                    store32(l4, l6);
-                                                                                                                    goto L488;
-                                                                                                                }
-                                                                                                                const u32 t504 = space_space_Space_push_in_way(e, l0, l3 + 8ull);
-                                                                                                                if (t504) goto L488;
-                                                                                                                l11 = 0u;
-                                                                                                                v487 = 0u; goto L487;
-                                                                                                            }
-                                                                                                            L491:;
-                                                                                                            l5 = l5 + 24ull;
-                                                                                                            const u64 t505 = load64(l5);
-                                                                                                            store64(l5, t505 + 1ull);
-                                                                                                            v487 = 4u; goto L487;
-                                                                                                        }
-                                                                                                        trap();
-                                                                                                    }
-                                                                                                    L488:;
-                                                                                                    l11 = 1u;
-                                                                                                    v487 = 0u;
-                                                                                                }
-                                                                                                L487:;
-                                                                                                l10 = v487;
-                                                                                                store8(l1, (u8)l11);
-                                                                                                store32(l1 + 4ull, 0u);
-                                                                                                store8(l1 + 1ull, (u8)l10);
-                                                                                                e->stack_pointer = l3 + 16ull;
-                                                                                                goto L480;
-                                                                                            }
-                                                                                            L484:;
-                                                                                            store16(l44, (u16)0u);
-                                                                                            store8(l44 + 2u, (u8)0u);
-                                                                                            store8(l26 + 180u, (u8)l6);
-                                                                                            store32(l26 + 176u, l13);
-                                                                                            store32(l26 + 172u, l20);
-                                                                                            store32(l26 + 168u, l16);
-                                                                                            l5 = l26 + 184ull;
-                                                                                            l1 = l29;
-                                                                                            l28 = l26 + 168ull;
-                                                                                            l32 = l26 + 32ull;
-                                                                                            l3 = e->stack_pointer - 32ull;
-                                                                                            e->stack_pointer = l3;
-                                                                                            {
-                                                                                                l0 = l3;
-                                                                                                if ((i64)(l0 - e->stack) >= (i64)16ull) {
-                                                                                                    const u64 t508 = load64(l28 + 8u);
-                                                                                                    store64(l0 + 24u, t508);
-                                                                                                    const u64 t509 = load64(l28);
-                                                                                                    store64(l0 + 16u, t509);
-                                                                                                    functions_arguments_Arguments_next(e, l0 + 8ull, l0 + 16ull, l1);
-                                                                                                    l6 = 3u;
-                                                                                                    u32 v510;
-                                                                                                    {
-                                                                                                        const u32 t511 = load32(l0 + 12u);
-                                                                                                        l10 = t511;
-                                                                                                        const u32 t512 = load32(l0 + 8u);
-                                                                                                        l13 = t512;
-                                                                                                        if (l10 == l13) { v510 = 0u; goto L510; }
-                                                                                                        const u64 t513 = load64(l1);
-                                                                                                        const u32 t514 = load32(l1 + 16ull);
-                                                                                                        const u32 t515 = l13;
-                                                                                                        l13 = t514;
-                                                                                                        l31 = (u64)(t515 + l13);
-                                                                                                        l28 = t513 + (l31 << 3);
-                                                                                                        {
-                                                                                                            l4 = (u64)(l10 + l13);
-                                                                                                            l1 = l4 - l31;
-                                                                                                            if (l1 <= 15ull) {
-                                                                                                                {
-                                                                                                                    L519:;
-                                                                                                                    {
-                                                                                                                        l10 = 0u;
-                                                                                                                        const u32 t520 = load8(l28);
-                                                                                                                        if (t520 == 0) {
-                                                                                                                            const u32 t522 = load8(l28 + 1ull);
-                                                                                                                            l10 = t522;
-                                                                                                                        }
-                                                                                                                        {
-                                                                                                                            l3 = l32 + 16ull;
-                                                                                                                            const u64 t524 = load64(l3);
-                                                                                                                            l31 = t524;
-                                                                                                                            const u64 t525 = load64(l32 + 8ull);
-                                                                                                                            if (l31 < t525) {
-                                                                                                                                const u64 t527 = load64(l32);
-                                                                                                                                store8(t527 + l31, (u8)l10);
-                                                                                                                                const u64 t528 = load64(l3);
-                                                                                                                                store64(l3, t528 + 1ull);
-                                                                                                                                goto L523;
-                                                                                                                            }
-                                                                                                                            l3 = l32 + 24ull;
-                                                                                                                            const u32 t529 = load8(l3);
-                                                                                                                            if (t529 == 1u) goto L518;
-                                                                                                                            store8(l32 + 25ull, (u8)l10);
-                                                                                                                            store8(l3, (u8)1u);
-                                                                                                                        }
-                                                                                                                        L523:;
-                                                                                                                        l28 = l28 + 8ull;
-                                                                                                                        l1 = l1 - 1ull;
-                                                                                                                        if ((l1 == 0) == 0) goto L519;
-                                                                                                                    }
-                                                                                                                    v510 = 0u; goto L510;
-                                                                                                                }
-                                                                                                                L518:;
-                                                                                                                l32 = l32 + 32ull;
-                                                                                                                const u64 t530 = load64(l32);
-                                                                                                                store64(l32, t530 + 1ull);
-                                                                                                                goto L516;
-                                                                                                            }
-                                                                                                            l3 = l32 + 16ull;
-                                                                                                            const u64 t531 = load64(l3);
-                                                                                                            const u64 t532 = load64(l32);
-                                                                                                            const u64 t533 = load64(l32 + 8ull);
-                                                                                                            const u64 t534 = c_filling_put_characters(e, l28, l1, t531, t532, t533);
-                                                                                                            l33 = t534;
-                                                                                                            const u64 t535 = load64(l3);
-                                                                                                            const u64 t536 = l3;
-                                                                                                            l3 = l33 + t535;
-                                                                                                            store64(t536, l3);
-                                                                                                            if (l1 == l33) { v510 = 0u; goto L510; }
-                                                                                                            l28 = l28 + (l33 << 3);
-                                                                                                            l1 = (l31 + l33) - l4;
-                                                                                                            {
-                                                                                                                L538:;
-                                                                                                                {
-                                                                                                                    l10 = 0u;
-                                                                                                                    const u32 t539 = load8(l28);
-                                                                                                                    if (t539 == 0) {
-                                                                                                                        const u32 t541 = load8(l28 + 1ull);
-                                                                                                                        l10 = t541;
-                                                                                                                    }
-                                                                                                                    {
-                                                                                                                        const u64 t543 = load64(l32 + 8ull);
-                                                                                                                        if (t543 > l3) {
-                                                                                                                            const u64 t545 = load64(l32);
-                                                                                                                            store8(t545 + l3, (u8)l10);
-                                                                                                                            l3 = l32 + 16ull;
-                                                                                                                            const u64 t546 = load64(l3);
-                                                                                                                            const u64 t547 = l3;
-                                                                                                                            l3 = t546 + 1ull;
-                                                                                                                            store64(t547, l3);
-                                                                                                                            goto L542;
-                                                                                                                        }
-                                                                                                                        l31 = l32 + 24ull;
-                                                                                                                        const u32 t548 = load8(l31);
-                                                                                                                        if (t548 == 1u) goto L537;
-                                                                                                                        store8(l32 + 25ull, (u8)l10);
-                                                                                                                        store8(l31, (u8)1u);
-                                                                                                                    }
-                                                                                                                    L542:;
-                                                                                                                    l28 = l28 + 8ull;
-                                                                                                                    l1 = l1 + 1ull;
-                                                                                                                    if ((l1 == 0) == 0) goto L538;
-                                                                                                                }
-                                                                                                                v510 = 0u; goto L510;
-                                                                                                            }
-                                                                                                            L537:;
-                                                                                                            l32 = l32 + 32ull;
-                                                                                                            const u64 t549 = load64(l32);
-                                                                                                            store64(l32, t549 + 1ull);
-                                                                                                        }
-                                                                                                        L516:;
-                                                                                                        l6 = 4u;
-                                                                                                        v510 = 5u;
-                                                                                                    }
-                                                                                                    L510:;
-                                                                                                    l10 = v510;
-                                                                                                    store8(l5, (u8)l6);
-                                                                                                    store32(l5 + 4ull, 0u);
-                                                                                                    store8(l5 + 1ull, (u8)l10);
-                                                                                                    e->stack_pointer = l0 + 32ull;
-                                                                                                    goto L506;
-                                                                                                }
-                                                                                                trap();
-                                                                                            }
-                                                                                            L506:;
-                                                                                            goto L480;
+                                                                                            L620:;
+                                                                                            store8(l9 + 216u, (u8)1u);
+                                                                                            goto L218;
                                                                                         }
                                                                                         L483:;
-                                                                                        store16(l45, (u16)0u);
-                                                                                        store8(l45 + 2u, (u8)0u);
-                                                                                        store8(l26 + 164u, (u8)l6);
-                                                                                        store32(l26 + 160u, l13);
-                                                                                        store32(l26 + 156u, l20);
-                                                                                        store32(l26 + 152u, l16);
-                                                                                        l4 = l26 + 184ull;
-                                                                                        l0 = l29;
-                                                                                        l31 = l26 + 152ull;
-                                                                                        l33 = l26 + 32ull;
-                                                                                        l32 = e->stack_pointer - 80ull;
-                                                                                        e->stack_pointer = l32;
-                                                                                        u32 v550;
+                                                                                        l11 = l9 + 200ull;
+                                                                                        l0 = l12;
+                                                                                        const u32 t671 = load8(l12 + 56ull);
+                                                                                        l32 = t671;
+                                                                                        l1 = l9 + 80ull;
+                                                                                        l8 = stack - 16ull;
+                                                                                        stack = l8;
                                                                                         {
                                                                                             {
+                                                                                                l17 = l0 + 20ull;
+                                                                                                const u32 t674 = load32(l17);
+                                                                                                l33 = t674;
+                                                                                                devices_slice_source_SliceSourceSource_take_held(stack, l1, l32, l0);
+                                                                                                const u64 t675 = l11;
+                                                                                                u32 v676;
                                                                                                 {
                                                                                                     {
                                                                                                         {
+                                                                                                            const u32 t679 = load8(l1 + 17ull);
+                                                                                                            if (t679) goto L678;
+                                                                                                            L680:;
                                                                                                             {
-                                                                                                                if ((i64)(l32 - e->stack) >= (i64)16ull) {
-                                                                                                                    const u64 t557 = load64(l31 + 8u);
-                                                                                                                    store64(l32 + 32u, t557);
-                                                                                                                    const u64 t558 = load64(l31);
-                                                                                                                    store64(l32 + 24u, t558);
-                                                                                                                    functions_arguments_Arguments_next(e, l32 + 16ull, l32 + 24ull, l0);
-                                                                                                                    const u32 t559 = load32(l32 + 20u);
-                                                                                                                    l13 = t559;
-                                                                                                                    const u32 t560 = load32(l32 + 16u);
-                                                                                                                    l10 = t560;
-                                                                                                                    store64(l32 + 72u, 0ull);
-                                                                                                                    store64(l32 + 64u, 0ull);
-                                                                                                                    store64(l32 + 56u, 0ull);
-                                                                                                                    store64(l32 + 48u, 0ull);
-                                                                                                                    store64(l32 + 40u, 0ull);
-                                                                                                                    u32 v561;
-                                                                                                                    {
-                                                                                                                        const u32 t562 = load32(l0 + 40ull);
-                                                                                                                        l6 = t562;
-                                                                                                                        if (l6 >= 8u) {
-                                                                                                                            forms_work_Work_find_among_more(e, l32, l0, l10, l13);
-                                                                                                                            const u32 t564 = load32(l32 + 4u);
-                                                                                                                            l10 = t564;
-                                                                                                                            const u32 t565 = load8(l32);
-                                                                                                                            v561 = t565; goto L561;
-                                                                                                                        }
-                                                                                                                        {
-                                                                                                                            if (l6 == 0) goto L566;
-                                                                                                                            const u64 t567 = load64(l0);
-                                                                                                                            l5 = t567;
-                                                                                                                            const u64 t568 = load32(l5 + 4ull);
-                                                                                                                            const u32 t569 = load32(l0 + 16ull);
-                                                                                                                            l6 = t569;
-                                                                                                                            l31 = (u64)(l6 + l13);
-                                                                                                                            l28 = (u64)(l6 + l10);
-                                                                                                                            if (t568 != (l31 - l28)) goto L566;
-                                                                                                                            l3 = 17ull - (l28 << 3);
-                                                                                                                            l28 = (l31 ^ 18446744073709551615ull) + l28;
-                                                                                                                            l31 = l5 + (l31 << 3);
-                                                                                                                            L570:;
-                                                                                                                            {
-                                                                                                                                l28 = l28 + 1ull;
-                                                                                                                                if (l28 == 0) goto L555;
-                                                                                                                                l5 = l31 - 7ull;
-                                                                                                                                l1 = l3 + l31;
-                                                                                                                                l31 = l31 - 8ull;
-                                                                                                                                const u32 t571 = load8(l1);
-                                                                                                                                const u32 t572 = load8(l5);
-                                                                                                                                if (t571 == t572) goto L570;
-                                                                                                                            }
-                                                                                                                        }
-                                                                                                                        L566:;
-                                                                                                                        forms_work_Work_find_among_few(e, l32 + 8ull, l0, l10, l13);
-                                                                                                                        const u32 t573 = load32(l32 + 12u);
-                                                                                                                        l10 = t573;
-                                                                                                                        const u32 t574 = load8(l32 + 8u);
-                                                                                                                        v561 = t574;
-                                                                                                                    }
-                                                                                                                    L561:;
-                                                                                                                    if ((v561 & 255u) != 1u) goto L553;
-                                                                                                                    goto L554;
+                                                                                                                const u64 t681 = load64(l1 + 8u);
+                                                                                                                l2 = t681;
+                                                                                                                if (l2 == 0) {
+                                                                                                                    const u32 t683 = load8(l1 + 16ull);
+                                                                                                                    if (t683) goto L677;
+                                                                                                                    store8(l1 + 17ull, (u8)1u);
+                                                                                                                    goto L678;
                                                                                                                 }
-                                                                                                                trap();
+                                                                                                                store64(l1 + 8u, l2 - 1ull);
+                                                                                                                const u64 t684 = load64(l1);
+                                                                                                                l2 = t684;
+                                                                                                                store64(l1, l2 + 1ull);
+                                                                                                                const u32 t685 = load8(l2);
+                                                                                                                l6 = t685;
+                                                                                                                if (l6 == l32) {
+                                                                                                                    l6 = 0u;
+                                                                                                                    v676 = 1u; goto L676;
+                                                                                                                }
+                                                                                                                store64(l8 + 8u, 0ull);
+                                                                                                                store8(l8 + 9u, (u8)l6);
+                                                                                                                {
+                                                                                                                    const u32 t688 = load32(l0 + 28ull);
+                                                                                                                    l2 = l0 + 20ull;
+                                                                                                                    const u32 t689 = load32(l2);
+                                                                                                                    l37 = t689;
+                                                                                                                    const u32 t690 = load32(l0 + 16ull);
+                                                                                                                    l35 = l37 + t690;
+                                                                                                                    const u32 t691 = load32(l0 + 24ull);
+                                                                                                                    if (t688 == (l35 + t691)) {
+                                                                                                                        const u32 t693 = space_space_Space_push_in_way(stack, l0, l8 + 8ull);
+                                                                                                                        if (t693) goto L687;
+                                                                                                                        l6 = 0u;
+                                                                                                                        v676 = 0u; goto L676;
+                                                                                                                    }
+                                                                                                                    l10 = l0 + 32ull;
+                                                                                                                    const u32 t694 = load32(l10);
+                                                                                                                    l36 = t694;
+                                                                                                                    const u64 t695 = load64(l0);
+                                                                                                                    l14 = t695 + ((u64)l35 << 3);
+                                                                                                                    store8(l14, (u8)0u);
+                                                                                                                    store32(l14 + 4ull, 0u);
+                                                                                                                    store8(l14 + 1ull, (u8)l6);
+                                                                                                                    store32(l2, l37 + 1u);
+                                                                                                                    store32(l10, l36);
+                                                                                                                }
+                                                                                                                L687:;
+                                                                                                                devices_slice_source_SliceSourceSource_take_held(stack, l1, l32, l0);
+                                                                                                                const u32 t696 = load8(l1 + 17ull);
+                                                                                                                if (t696 == 0) goto L680;
                                                                                                             }
-                                                                                                            L555:;
-                                                                                                            store64(l0 + 44ull, 0ull);
-                                                                                                            l10 = 0u;
                                                                                                         }
-                                                                                                        L554:;
-                                                                                                        forms_work_Work_stored(e, l32 + 40ull, l0, l10);
-                                                                                                        const u64 t575 = load64(l32 + 64u);
-                                                                                                        l31 = t575;
-                                                                                                        const u32 t576 = load32(l32 + 72u);
-                                                                                                        l13 = t576;
-                                                                                                        const u32 t577 = core_display_show_items2(e, l32 + 40ull, 0u, l13, l33);
-                                                                                                        if (t577 & 255u) goto L551;
-                                                                                                        l0 = l33 + 16ull;
-                                                                                                        const u64 t578 = load64(l0);
-                                                                                                        l28 = t578;
-                                                                                                        l5 = l33 + 8ull;
-                                                                                                        const u64 t579 = load64(l5);
-                                                                                                        if (l28 >= t579) {
-                                                                                                            l31 = l33 + 24ull;
-                                                                                                            const u32 t581 = load8(l31);
-                                                                                                            if (t581 == 1u) goto L552;
-                                                                                                            store16(l31, (u16)15361u);
-                                                                                                            goto L552;
-                                                                                                        }
-                                                                                                        const u64 t582 = load64(l33);
-                                                                                                        store8(t582 + l28, (u8)60u);
-                                                                                                        const u64 t583 = load64(l0);
-                                                                                                        l28 = t583 + 1ull;
-                                                                                                        store64(l0, l28);
-                                                                                                        {
-                                                                                                            const u64 t585 = load64(l5);
-                                                                                                            l0 = t585;
-                                                                                                            if (l0 <= l28) {
-                                                                                                                l5 = l33 + 24ull;
-                                                                                                                const u32 t587 = load8(l5);
-                                                                                                                if (t587 == 1u) goto L552;
-                                                                                                                store16(l5, (u16)24065u);
-                                                                                                                goto L584;
-                                                                                                            }
-                                                                                                            const u64 t588 = load64(l33);
-                                                                                                            store8(t588 + l28, (u8)94u);
-                                                                                                            l28 = l33 + 16ull;
-                                                                                                            const u64 t589 = load64(l28);
-                                                                                                            const u64 t590 = l28;
-                                                                                                            l28 = t589 + 1ull;
-                                                                                                            store64(t590, l28);
-                                                                                                            const u64 t591 = load64(l33 + 8ull);
-                                                                                                            l0 = t591;
-                                                                                                        }
-                                                                                                        L584:;
-                                                                                                        {
-                                                                                                            if (l0 <= l28) {
-                                                                                                                l28 = l33 + 24ull;
-                                                                                                                const u32 t594 = load8(l28);
-                                                                                                                if (t594 == 1u) goto L552;
-                                                                                                                store16(l28, (u16)15873u);
-                                                                                                                goto L592;
-                                                                                                            }
-                                                                                                            const u64 t595 = load64(l33);
-                                                                                                            store8(t595 + l28, (u8)62u);
-                                                                                                            l28 = l33 + 16ull;
-                                                                                                            const u64 t596 = load64(l28);
-                                                                                                            store64(l28, t596 + 1ull);
-                                                                                                        }
-                                                                                                        L592:;
-                                                                                                        const u32 t597 = core_display_show_items2(e, l32 + 40ull, l13, (u32)l31, l33);
-                                                                                                        if (t597 & 255u) goto L551;
+                                                                                                        L678:;
+                                                                                                        const u32 t697 = load32(l17);
+                                                                                                        l6 = t697 == l33;
+                                                                                                        v676 = l6 ? 4u : 1u; goto L676;
                                                                                                     }
-                                                                                                    L553:;
-                                                                                                    l10 = 3u;
-                                                                                                    v550 = 0u; goto L550;
+                                                                                                    L677:;
+                                                                                                    l0 = l1 + 24ull;
+                                                                                                    const u64 t698 = load64(l0);
+                                                                                                    store64(l0, t698 + 1ull);
+                                                                                                    l6 = 4u;
+                                                                                                    v676 = 4u;
                                                                                                 }
-                                                                                                L552:;
-                                                                                                l31 = l33 + 32ull;
-                                                                                                const u64 t598 = load64(l31);
-                                                                                                store64(l31, t598 + 1ull);
-                                                                                            }
-                                                                                            L551:;
-                                                                                            l10 = 4u;
-                                                                                            v550 = 5u;
-                                                                                        }
-                                                                                        L550:;
-                                                                                        l13 = v550;
-                                                                                        store8(l4, (u8)l10);
-                                                                                        store32(l4 + 4ull, 0u);
-                                                                                        store8(l4 + 1ull, (u8)l13);
-                                                                                        e->stack_pointer = l32 + 80ull;
-                                                                                        goto L480;
-                                                                                    }
-                                                                                    L482:;
-                                                                                    const u32 t599 = load8(l26 + 130u);
-                                                                                    l18 = t599;
-                                                                                    l17 = 0u;
-                                                                                    store16(l46, (u16)0u);
-                                                                                    store8(l46 + 2u, (u8)0u);
-                                                                                    store8(l26 + 116u, (u8)l6);
-                                                                                    store32(l26 + 112u, l13);
-                                                                                    store32(l26 + 108u, l20);
-                                                                                    store32(l26 + 104u, l16);
-                                                                                    store64(l26 + 192u, 0ull);
-                                                                                    {
-                                                                                        if ((l12 - 5u) < 20u) goto L600;
-                                                                                        l13 = 0u;
-                                                                                        {
-                                                                                            switch (l12 - 3u) {
-                                                                                            case 0: goto L600;
-                                                                                            case 1: goto L412;
-                                                                                            default: goto L601;
-                                                                                            }
-                                                                                        }
-                                                                                        L601:;
-                                                                                        l0 = l26 + 192ull;
-                                                                                        l1 = l26 + 104ull;
-                                                                                        l3 = e->stack_pointer - 32ull;
-                                                                                        e->stack_pointer = l3;
-                                                                                        {
-                                                                                            if ((i64)(l3 - e->stack) >= (i64)16ull) {
-                                                                                                const u64 t604 = load64(l1 + 8u);
-                                                                                                store64(l3 + 24u, t604);
-                                                                                                const u64 t605 = load64(l1);
-                                                                                                store64(l3 + 16u, t605);
-                                                                                                functions_arguments_Arguments_next(e, l3 + 8ull, l3 + 16ull, l29);
-                                                                                                const u32 t606 = load32(l3 + 8u);
-                                                                                                l6 = t606;
-                                                                                                const u32 t607 = load32(l3 + 12u);
-                                                                                                if (l6 != t607) {
-                                                                                                    const u64 t609 = load64(l29);
-                                                                                                    const u32 t610 = load32(l29 + 16ull);
-                                                                                                    l1 = t609 + ((u64)(t610 + l6) << 3);
-                                                                                                    const u32 t611 = load8(l1);
-                                                                                                    const u64 t612 = l41;
-                                                                                                    u32 v613;
-                                                                                                    if (t611) {
-                                                                                                        v613 = 0u;
-                                                                                                    } else {
-                                                                                                        const u32 t614 = load8(l1 + 1ull);
-                                                                                                        v613 = t614;
-                                                                                                    }
-                                                                                                    store8(t612, (u8)v613);
-                                                                                                }
-                                                                                                store16(l0, (u16)3u);
-                                                                                                store32(l0 + 4ull, 0u);
-                                                                                                e->stack_pointer = l3 + 32ull;
-                                                                                                goto L602;
+                                                                                                L676:;
+                                                                                                store8(t675, (u8)v676);
+                                                                                                store32(l11 + 4ull, 0u);
+                                                                                                store8(l11 + 1ull, (u8)l6);
+                                                                                                stack = l8 + 16ull;
+                                                                                                goto L672;
                                                                                             }
                                                                                             trap();
                                                                                         }
-                                                                                        L602:;
-                                                                                        const u32 t615 = load32(l26 + 196u);
-                                                                                        l17 = t615;
-                                                                                        const u32 t616 = load8(l26 + 193u);
-                                                                                        l13 = t616;
-                                                                                        const u32 t617 = load8(l26 + 192u);
-                                                                                        l12 = t617;
-                                                                                        goto L412;
+                                                                                        L672:;
                                                                                     }
-                                                                                    L600:;
-                                                                                    store64(l26 + 200u, 0ull);
-                                                                                    {
-                                                                                        {
-                                                                                            {
-                                                                                                {
-                                                                                                    {
-                                                                                                        {
-                                                                                                            {
-                                                                                                                {
-                                                                                                                    {
-                                                                                                                        {
-                                                                                                                            {
-                                                                                                                                {
-                                                                                                                                    {
-                                                                                                                                        {
-                                                                                                                                            {
-                                                                                                                                                {
-                                                                                                                                                    {
-                                                                                                                                                        {
-                                                                                                                                                            {
-                                                                                                                                                                {
-                                                                                                                                                                    switch (l12 - 5u) {
-                                                                                                                                                                    case 0: goto L624;
-                                                                                                                                                                    case 1: goto L623;
-                                                                                                                                                                    case 2: goto L621;
-                                                                                                                                                                    case 3: goto L620;
-                                                                                                                                                                    case 4: goto L619;
-                                                                                                                                                                    case 6: goto L622;
-                                                                                                                                                                    case 7: goto L629;
-                                                                                                                                                                    case 8: goto L628;
-                                                                                                                                                                    case 9: goto L627;
-                                                                                                                                                                    case 10: goto L626;
-                                                                                                                                                                    case 11: goto L625;
-                                                                                                                                                                    case 12: goto L637;
-                                                                                                                                                                    case 13: goto L636;
-                                                                                                                                                                    case 14: goto L635;
-                                                                                                                                                                    case 15: goto L634;
-                                                                                                                                                                    case 16: goto L633;
-                                                                                                                                                                    case 17: goto L632;
-                                                                                                                                                                    case 18: goto L631;
-                                                                                                                                                                    case 19: goto L630;
-                                                                                                                                                                    default: goto L618;
-                                                                                                                                                                    }
-                                                                                                                                                                }
-                                                                                                                                                                L637:;
-                                                                                                                                                                functions_comparing_equal(e, l26 + 200ull, l29, l26 + 104ull);
-                                                                                                                                                                goto L413;
-                                                                                                                                                            }
-                                                                                                                                                            L636:;
-                                                                                                                                                            functions_comparing_greater(e, l26 + 200ull, l29, l26 + 104ull);
-                                                                                                                                                            goto L413;
-                                                                                                                                                        }
-                                                                                                                                                        L635:;
-                                                                                                                                                        functions_arithmetic_arithmetic(e, l26 + 200ull, l29, l18, l26 + 104ull);
-                                                                                                                                                        goto L413;
-                                                                                                                                                    }
-                                                                                                                                                    L634:;
-                                                                                                                                                    functions_bit_strings_union(e, l26 + 200ull, l29, l26 + 104ull);
-                                                                                                                                                    goto L413;
-                                                                                                                                                }
-                                                                                                                                                L633:;
-                                                                                                                                                functions_bit_strings_intersection(e, l26 + 200ull, l29, l26 + 104ull);
-                                                                                                                                                goto L413;
-                                                                                                                                            }
-                                                                                                                                            L632:;
-                                                                                                                                            l4 = l26 + 200ull;
-                                                                                                                                            l5 = l26 + 104ull;
-                                                                                                                                            l0 = e->stack_pointer - 64ull;
-                                                                                                                                            e->stack_pointer = l0;
-                                                                                                                                            {
-                                                                                                                                                l1 = l0;
-                                                                                                                                                if ((i64)(l1 - e->stack) >= (i64)16ull) {
-                                                                                                                                                    store64(l1 + 32u, 0ull);
-                                                                                                                                                    store64(l1 + 56u, 0ull);
-                                                                                                                                                    const u64 t640 = load64(l5);
-                                                                                                                                                    store64(l1 + 40u, t640);
-                                                                                                                                                    const u64 t641 = load64(l5 + 8u);
-                                                                                                                                                    store64(l1 + 48u, t641);
-                                                                                                                                                    functions_arguments_Arguments_next(e, l1 + 8ull, l1 + 40ull, l29);
-                                                                                                                                                    const u32 t642 = load32(l29 + 16ull);
-                                                                                                                                                    l10 = t642;
-                                                                                                                                                    const u32 t643 = load32(l1 + 8u);
-                                                                                                                                                    l11 = t643;
-                                                                                                                                                    const u32 t644 = load32(l1 + 12u);
-                                                                                                                                                    l13 = t644;
-                                                                                                                                                    l5 = (u64)(l10 + l13);
-                                                                                                                                                    l0 = (u64)(l10 + l11) - l5;
-                                                                                                                                                    const u64 t645 = load64(l29);
-                                                                                                                                                    l5 = (t645 + (l5 << 3)) - 8ull;
-                                                                                                                                                    l6 = l13;
-                                                                                                                                                    L646:;
-                                                                                                                                                    {
-                                                                                                                                                        {
-                                                                                                                                                            l10 = l6;
-                                                                                                                                                            if (l0 == 0) goto L647;
-                                                                                                                                                            const u32 t648 = load8(l5);
-                                                                                                                                                            if (t648) goto L647;
-                                                                                                                                                            l0 = l0 + 1ull;
-                                                                                                                                                            l6 = l10 - 1u;
-                                                                                                                                                            l3 = l5 + 1ull;
-                                                                                                                                                            l5 = l5 - 8ull;
-                                                                                                                                                            const u32 t649 = load8(l3);
-                                                                                                                                                            if ((t649 & 248u) == 48u) goto L646;
-                                                                                                                                                        }
-                                                                                                                                                        L647:;
-                                                                                                                                                    }
-                                                                                                                                                    store32(l1 + 28u, l13);
-                                                                                                                                                    store32(l1 + 24u, l10);
-                                                                                                                                                    store32(l1 + 20u, 2u);
-                                                                                                                                                    functions_bit_strings_give_bits(e, l1 + 56ull, l29, l11, l10, l1 + 20ull);
-                                                                                                                                                    const u32 t650 = load16(l1 + 56u);
-                                                                                                                                                    store16(l4, (u16)t650);
-                                                                                                                                                    const u32 t651 = load32(l1 + 60u);
-                                                                                                                                                    store32(l4 + 4ull, t651);
-                                                                                                                                                    e->stack_pointer = l1 + 64ull;
-                                                                                                                                                    goto L638;
-                                                                                                                                                }
-                                                                                                                                                trap();
-                                                                                                                                            }
-                                                                                                                                            L638:;
-                                                                                                                                            goto L413;
-                                                                                                                                        }
-                                                                                                                                        L631:;
-                                                                                                                                        functions_bit_strings_shift(e, l26 + 200ull, l29, l26 + 104ull);
-                                                                                                                                        goto L413;
-                                                                                                                                    }
-                                                                                                                                    L630:;
-                                                                                                                                    functions_bit_strings_rotate(e, l26 + 200ull, l29, l26 + 104ull);
-                                                                                                                                    goto L413;
-                                                                                                                                }
-                                                                                                                                L629:;
-                                                                                                                                functions_form_parts_call_segment(e, l26 + 200ull, l29, l26 + 104ull);
-                                                                                                                                goto L413;
-                                                                                                                            }
-                                                                                                                            L628:;
-                                                                                                                            functions_form_parts_call_character(e, l26 + 200ull, l29, l26 + 104ull);
-                                                                                                                            goto L413;
-                                                                                                                        }
-                                                                                                                        L627:;
-                                                                                                                        functions_form_parts_call_number(e, l26 + 200ull, l29, l26 + 104ull);
-                                                                                                                        goto L413;
-                                                                                                                    }
-                                                                                                                    L626:;
-                                                                                                                    functions_form_parts_initial_part(e, l26 + 200ull, l29, l26 + 104ull);
-                                                                                                                    goto L413;
-                                                                                                                }
-                                                                                                                L625:;
-                                                                                                                functions_form_parts_call_restore(e, l26 + 200ull, l29, l26 + 104ull);
-                                                                                                                goto L413;
-                                                                                                            }
-                                                                                                            L624:;
-                                                                                                            functions_form_calls_define_string(e, l26 + 200ull, l29, l26 + 104ull);
-                                                                                                            goto L413;
-                                                                                                        }
-                                                                                                        L623:;
-                                                                                                        functions_form_calls_segment_string(e, l26 + 200ull, l29, l26 + 104ull);
-                                                                                                        goto L413;
-                                                                                                    }
-                                                                                                    L622:;
-                                                                                                    const u64 t652 = load64(l26 + 112u);
-                                                                                                    store64(l26 + 136u, t652);
-                                                                                                    const u64 t653 = load64(l26 + 104u);
-                                                                                                    store64(l26 + 128u, t653);
-                                                                                                    const u32 t654 = load8(l26 + 140u);
-                                                                                                    l12 = t654;
-                                                                                                    functions_arguments_Arguments_next(e, l26 + 24ull, l26 + 128ull, l29);
-                                                                                                    const u32 t655 = load32(l26 + 28u);
-                                                                                                    l6 = t655;
-                                                                                                    const u32 t656 = load32(l26 + 24u);
-                                                                                                    l17 = t656;
-                                                                                                    u32 v657;
-                                                                                                    {
-                                                                                                        const u32 t658 = load32(l29 + 40ull);
-                                                                                                        l13 = t658;
-                                                                                                        if (l13 >= 8u) {
-                                                                                                            forms_work_Work_find_among_more(e, l26 + 8ull, l29, l17, l6);
-                                                                                                            const u32 t660 = load32(l26 + 12u);
-                                                                                                            l17 = t660;
-                                                                                                            const u32 t661 = load8(l26 + 8u);
-                                                                                                            v657 = t661; goto L657;
-                                                                                                        }
-                                                                                                        {
-                                                                                                            if (l13 == 0) goto L662;
-                                                                                                            const u64 t663 = load32(l4 + 4ull);
-                                                                                                            l31 = (u64)(l6 + l8);
-                                                                                                            l5 = (u64)(l8 + l17);
-                                                                                                            if (t663 != (l31 - l5)) goto L662;
-                                                                                                            l1 = 17ull - (l5 << 3);
-                                                                                                            l5 = (l31 ^ 18446744073709551615ull) + l5;
-                                                                                                            l4 = l4 + (l31 << 3);
-                                                                                                            L664:;
-                                                                                                            {
-                                                                                                                l5 = l5 + 1ull;
-                                                                                                                if (l5 == 0) goto L416;
-                                                                                                                l31 = l4 - 7ull;
-                                                                                                                l3 = l1 + l4;
-                                                                                                                l4 = l4 - 8ull;
-                                                                                                                const u32 t665 = load8(l3);
-                                                                                                                const u32 t666 = load8(l31);
-                                                                                                                if (t665 == t666) goto L664;
-                                                                                                            }
-                                                                                                        }
-                                                                                                        L662:;
-                                                                                                        forms_work_Work_find_among_few(e, l26 + 16ull, l29, l17, l6);
-                                                                                                        const u32 t667 = load32(l26 + 20u);
-                                                                                                        l17 = t667;
-                                                                                                        const u32 t668 = load8(l26 + 16u);
-                                                                                                        v657 = t668;
-                                                                                                    }
-                                                                                                    L657:;
-                                                                                                    if ((v657 & 255u) != 1u) goto L415;
-                                                                                                    goto L414;
-                                                                                                }
-                                                                                                L621:;
-                                                                                                functions_form_calls_delete_definition(e, l26 + 200ull, l29, l26 + 104ull);
-                                                                                                goto L413;
-                                                                                            }
-                                                                                            L620:;
-                                                                                            functions_form_calls_delete_all(e, l26 + 200ull, l29);
-                                                                                            goto L413;
-                                                                                        }
-                                                                                        L619:;
-                                                                                        functions_form_calls_list_names(e, l26 + 200ull, l29, l26 + 104ull);
-                                                                                        goto L413;
-                                                                                    }
-                                                                                    L618:;
-                                                                                    store8(l26 + 200u, (u8)1u);
-                                                                                    goto L413;
+                                                                                    L482:;
+                                                                                    const u32 t699 = load32(l9 + 204u);
+                                                                                    l35 = t699;
+                                                                                    const u32 t700 = load8(l9 + 201u);
+                                                                                    l32 = t700;
+                                                                                    const u32 t701 = load8(l9 + 200u);
+                                                                                    l33 = t701;
+                                                                                    goto L217;
                                                                                 }
-                                                                                L481:;
-                                                                                l5 = l26 + 184ull;
-                                                                                l0 = l29;
-                                                                                const u32 t669 = load8(l29 + 56ull);
-                                                                                l22 = t669;
-                                                                                l28 = l26 + 72ull;
-                                                                                l33 = e->stack_pointer - 16ull;
-                                                                                e->stack_pointer = l33;
-                                                                                {
-                                                                                    if ((i64)(l33 - e->stack) >= (i64)16ull) {
-                                                                                        l3 = l0 + 20ull;
-                                                                                        const u32 t672 = load32(l3);
-                                                                                        l11 = t672;
-                                                                                        devices_slice_source_SliceSourceSource_take_held(e, l28, l22, l0);
-                                                                                        const u64 t673 = l5;
-                                                                                        u32 v674;
-                                                                                        {
-                                                                                            {
-                                                                                                {
-                                                                                                    const u32 t677 = load8(l28 + 17ull);
-                                                                                                    if (t677) goto L676;
-                                                                                                    L678:;
-                                                                                                    {
-                                                                                                        const u64 t679 = load64(l28 + 8u);
-                                                                                                        l31 = t679;
-                                                                                                        if (l31 == 0) {
-                                                                                                            const u32 t681 = load8(l28 + 16ull);
-                                                                                                            if (t681) goto L675;
-                                                                                                            store8(l28 + 17ull, (u8)1u);
-                                                                                                            goto L676;
-                                                                                                        }
-                                                                                                        store64(l28 + 8u, l31 - 1ull);
-                                                                                                        const u64 t682 = load64(l28);
-                                                                                                        l31 = t682;
-                                                                                                        store64(l28, l31 + 1ull);
-                                                                                                        const u32 t683 = load8(l31);
-                                                                                                        l19 = t683;
-                                                                                                        if (l19 == l22) {
-                                                                                                            l19 = 0u;
-                                                                                                            v674 = 1u; goto L674;
-                                                                                                        }
-                                                                                                        store64(l33 + 8u, 0ull);
-                                                                                                        store8(l33 + 9u, (u8)l19);
-                                                                                                        {
-                                                                                                            const u32 t686 = load32(l0 + 28ull);
-                                                                                                            l31 = l0 + 20ull;
-                                                                                                            const u32 t687 = load32(l31);
-                                                                                                            l10 = t687;
-                                                                                                            const u32 t688 = load32(l0 + 16ull);
-                                                                                                            l13 = l10 + t688;
-                                                                                                            const u32 t689 = load32(l0 + 24ull);
-                                                                                                            if (t686 == (l13 + t689)) {
-                                                                                                                const u32 t691 = space_space_Space_push_in_way(e, l0, l33 + 8ull);
-                                                                                                                if (t691) goto L685;
-                                                                                                                l19 = 0u;
-                                                                                                                v674 = 0u; goto L674;
-                                                                                                            }
-                                                                                                            l1 = l0 + 32ull;
-                                                                                                            const u32 t692 = load32(l1);
-                                                                                                            l6 = t692;
-                                                                                                            const u64 t693 = load64(l0);
-                                                                                                            l4 = t693 + ((u64)l13 << 3);
-                                                                                                            store8(l4, (u8)0u);
-                                                                                                            store32(l4 + 4ull, 0u);
-                                                                                                            store8(l4 + 1ull, (u8)l19);
-                                                                                                            store32(l31, l10 + 1u);
-                                                                                                            store32(l1, l6);
-                                                                                                        }
-                                                                                                        L685:;
-                                                                                                        devices_slice_source_SliceSourceSource_take_held(e, l28, l22, l0);
-                                                                                                        const u32 t694 = load8(l28 + 17ull);
-                                                                                                        if (t694 == 0) goto L678;
-                                                                                                    }
-                                                                                                }
-                                                                                                L676:;
-                                                                                                const u32 t695 = load32(l3);
-                                                                                                l19 = t695 == l11;
-                                                                                                v674 = l19 ? 4u : 1u; goto L674;
-                                                                                            }
-                                                                                            L675:;
-                                                                                            l0 = l28 + 24ull;
-                                                                                            const u64 t696 = load64(l0);
-                                                                                            store64(l0, t696 + 1ull);
-                                                                                            l19 = 4u;
-                                                                                            v674 = 4u;
-                                                                                        }
-                                                                                        L674:;
-                                                                                        store8(t673, (u8)v674);
-                                                                                        store32(l5 + 4ull, 0u);
-                                                                                        store8(l5 + 1ull, (u8)l19);
-                                                                                        e->stack_pointer = l33 + 16ull;
-                                                                                        goto L670;
-                                                                                    }
-                                                                                    trap();
-                                                                                }
-                                                                                L670:;
+                                                                                L478:;
+                                                                                l35 = 0u;
+                                                                                goto L216;
                                                                             }
-                                                                            L480:;
-                                                                            const u32 t697 = load32(l26 + 188u);
-                                                                            l17 = t697;
-                                                                            const u32 t698 = load8(l26 + 185u);
-                                                                            l13 = t698;
-                                                                            const u32 t699 = load8(l26 + 184u);
-                                                                            l12 = t699;
-                                                                            goto L412;
+                                                                            l8 = l12 + 72ull;
+                                                                            const u64 t702 = load64(l8);
+                                                                            store64(l8, t702 + 1ull);
+                                                                            l8 = l12 + 80ull;
+                                                                            l30 = (l31 + l34) + l30;
+                                                                            const u32 t703 = load32(l8);
+                                                                            l34 = t703;
+                                                                            store32(l8, (l30 > l34) ? l30 : l34);
+                                                                            v211 = 0u; goto L211;
                                                                         }
-                                                                        L476:;
-                                                                        l17 = 0u;
-                                                                        goto L411;
+                                                                        L421:;
+                                                                        l45 = 8u;
+                                                                        l5 = l16;
+                                                                        goto L3;
                                                                     }
-                                                                    l4 = l29 + 72ull;
-                                                                    const u64 t700 = load64(l4);
-                                                                    store64(l4, t700 + 1ull);
-                                                                    l4 = l29 + 80ull;
-                                                                    l8 = (l9 + l20) + l8;
-                                                                    const u32 t701 = load32(l4);
-                                                                    l9 = t701;
-                                                                    store32(l4, (l8 > l9) ? l8 : l9);
-                                                                    v406 = 0u; goto L406;
+                                                                    L222:;
+                                                                    l45 = 7u;
+                                                                    goto L3;
                                                                 }
-                                                                L417:;
-                                                                const u32 t702 = load8(l29 + 85ull);
-                                                                l6 = t702;
-                                                                v406 = 1u; goto L406;
+                                                                L221:;
+                                                                store64(l12 + 44ull, 0ull);
+                                                                l35 = 0u;
+                                                                goto L219;
                                                             }
-                                                            L416:;
-                                                            store64(l29 + 44ull, 0ull);
-                                                            l17 = 0u;
-                                                            goto L414;
+                                                            L220:;
+                                                            store32(l9 + 220u, 0u);
+                                                            store16(l9 + 216u, (u16)1u);
+                                                            goto L218;
                                                         }
-                                                        L415:;
-                                                        store32(l26 + 204u, 0u);
-                                                        store16(l26 + 200u, (u16)1u);
-                                                        goto L413;
-                                                    }
-                                                    L414:;
-                                                    const u32 t703 = load32(l26 + 132u);
-                                                    l6 = t703;
-                                                    const u32 t704 = load32(l26 + 128u);
-                                                    l13 = t704;
-                                                    {
-                                                        if ((l12 & 1u) == 0) goto L705;
-                                                        if (l6 >= l13) goto L705;
-                                                        const u32 t706 = load32(l29 + 44ull);
-                                                        const u32 t707 = load32(l29 + 48ull);
-                                                        const u32 t708 = store_store_place_of(e, l29, t706, t707, l17);
-                                                        l12 = t708;
-                                                        l16 = 0u;
-                                                        const u64 t709 = load64(l29);
-                                                        l31 = t709;
-                                                        l4 = l31 + ((u64)l12 << 3);
-                                                        const u32 t710 = load32(l4 + 12ull);
-                                                        l19 = t710;
-                                                        const u32 t711 = load32(l4 + 20ull);
-                                                        l18 = t711;
-                                                        if (l19 != l18) {
-                                                            const u32 t713 = load32(l4 + 4ull);
-                                                            l10 = (l12 + t713) + 3u;
-                                                            l16 = l10 + l18;
-                                                            u32 v714;
-                                                            {
-                                                                l12 = l19 - l18;
-                                                                const u32 t715 = load32(l29 + 28ull);
-                                                                l22 = t715;
-                                                                const u32 t716 = load32(l29 + 20ull);
-                                                                const u32 t717 = load32(l29 + 24ull);
-                                                                l11 = t717;
-                                                                const u32 t718 = load32(l29 + 16ull);
-                                                                if (l12 > (l22 - (t716 + (l11 + t718)))) {
-                                                                    store_fill_load_items_in_way(e, l26, l29, l16, l10 + l19);
-                                                                    const u32 t720 = load8(l26);
-                                                                    l18 = t720;
-                                                                    const u32 t721 = load32(l26 + 4u);
-                                                                    v714 = t721; goto L714;
-                                                                }
-                                                                l0 = (u64)l12;
-                                                                l3 = (u64)l16;
+                                                        L219:;
+                                                        const u32 t704 = load32(l9 + 140u);
+                                                        l6 = t704;
+                                                        const u32 t705 = load32(l9 + 136u);
+                                                        l32 = t705;
+                                                        {
+                                                            if ((l33 & 1u) == 0) goto L706;
+                                                            if (l6 >= l32) goto L706;
+                                                            const u32 t707 = load32(l12 + 44ull);
+                                                            const u32 t708 = load32(l12 + 48ull);
+                                                            const u32 t709 = store_store_place_of(stack, l12, t707, t708, l35);
+                                                            l33 = t709;
+                                                            l37 = 0u;
+                                                            const u64 t710 = load64(l12);
+                                                            l14 = t710;
+                                                            l8 = l14 + ((u64)l33 << 3);
+                                                            const u32 t711 = load32(l8 + 12ull);
+                                                            l38 = t711;
+                                                            const u32 t712 = load32(l8 + 20ull);
+                                                            l36 = t712;
+                                                            if (l38 != l36) {
+                                                                const u32 t714 = load32(l8 + 4ull);
+                                                                l44 = (l33 + t714) + 3u;
+                                                                l37 = l44 + l36;
+                                                                u32 v715;
                                                                 {
+                                                                    l33 = l38 - l36;
+                                                                    const u32 t716 = load32(l12 + 28ull);
+                                                                    l39 = t716;
+                                                                    const u32 t717 = load32(l12 + 20ull);
+                                                                    const u32 t718 = load32(l12 + 24ull);
+                                                                    l40 = t718;
+                                                                    const u32 t719 = load32(l12 + 16ull);
+                                                                    if (l33 > (l39 - (t717 + (l40 + t719)))) {
+                                                                        store_fill_load_items_in_way(stack, l9 + 8ull, l12, l37, l38 + l44);
+                                                                        const u32 t721 = load8(l9 + 8u);
+                                                                        l36 = t721;
+                                                                        const u32 t722 = load32(l9 + 12u);
+                                                                        v715 = t722; goto L715;
+                                                                    }
+                                                                    l0 = (u64)l33;
+                                                                    l11 = (u64)l37;
                                                                     {
                                                                         {
                                                                             {
                                                                                 {
                                                                                     {
-                                                                                        if (l12 >= 8u) {
-                                                                                            if (l12 == 8u) goto L726;
-                                                                                            l4 = l31 + (l3 << 3);
-                                                                                            l5 = l0;
-                                                                                            goto L727;
+                                                                                        {
+                                                                                            if (l33 >= 8u) {
+                                                                                                if (l33 == 8u) goto L727;
+                                                                                                l8 = l14 + (l11 << 3);
+                                                                                                l2 = l0;
+                                                                                                goto L728;
+                                                                                            }
+                                                                                            if (l33 >= 4u) {
+                                                                                                l36 = 0u;
+                                                                                                l8 = l14 + (l11 << 3);
+                                                                                                const u32 t731 = load8(l8 + 24ull);
+                                                                                                const u32 t732 = load8(l8 + 16ull);
+                                                                                                const u32 t733 = load8(l8 + 8ull);
+                                                                                                const u32 t734 = load8(l8);
+                                                                                                if (((t731 + t732) | (t733 + t734)) & 255u) { v715 = 0u; goto L715; }
+                                                                                                l1 = l0 + l11;
+                                                                                                l2 = l14 + (l1 << 3);
+                                                                                                const u32 t735 = load8(l2 - 8ull);
+                                                                                                const u32 t736 = load8(l2 - 16ull);
+                                                                                                const u32 t737 = load8(l2 - 24ull);
+                                                                                                const u32 t738 = load8(l2 - 32ull);
+                                                                                                if (((t735 + t736) | (t737 + t738)) & 255u) { v715 = 0u; goto L715; }
+                                                                                                l37 = l33 + l40;
+                                                                                                l2 = (u64)(l39 - l37);
+                                                                                                core_slice_edits_slice_T_copy_from_slice(stack, l14 + (l2 << 3), l8, 4ull);
+                                                                                                l8 = l1 - 4ull;
+                                                                                                core_slice_edits_slice_T_copy_from_slice(stack, l14 + ((l8 + (l2 - l11)) << 3), l14 + (l8 << 3), 4ull);
+                                                                                                goto L724;
+                                                                                            }
+                                                                                            l8 = l14 + (l11 << 3);
+                                                                                            const u32 t739 = load8(l8);
+                                                                                            l38 = t739;
+                                                                                            if (l33 < 2u) goto L726;
+                                                                                            l36 = 0u;
+                                                                                            const u32 t740 = load8(l8 + 8ull);
+                                                                                            if (t740 | (l38 & 255u)) { v715 = 0u; goto L715; }
+                                                                                            l1 = l0 + l11;
+                                                                                            l2 = l14 + (l1 << 3);
+                                                                                            const u32 t741 = load8(l2 - 8ull);
+                                                                                            const u32 t742 = load8(l2 - 16ull);
+                                                                                            if (t741 | t742) { v715 = 0u; goto L715; }
+                                                                                            l37 = l33 + l40;
+                                                                                            l2 = (u64)(l39 - l37);
+                                                                                            core_slice_edits_slice_T_copy_from_slice(stack, l14 + (l2 << 3), l8, 2ull);
+                                                                                            l8 = l1 - 2ull;
+                                                                                            core_slice_edits_slice_T_copy_from_slice(stack, l14 + ((l8 + (l2 - l11)) << 3), l14 + (l8 << 3), 2ull);
+                                                                                            goto L724;
                                                                                         }
-                                                                                        if (l12 >= 4u) {
-                                                                                            l18 = 0u;
-                                                                                            l4 = l31 + (l3 << 3);
-                                                                                            const u32 t730 = load8(l4 + 24ull);
-                                                                                            const u32 t731 = load8(l4 + 16ull);
-                                                                                            const u32 t732 = load8(l4 + 8ull);
-                                                                                            const u32 t733 = load8(l4);
-                                                                                            if (((t730 + t731) | (t732 + t733)) & 255u) { v714 = 0u; goto L714; }
-                                                                                            l1 = l0 + l3;
-                                                                                            l5 = l31 + (l1 << 3);
-                                                                                            const u32 t734 = load8(l5 - 8ull);
-                                                                                            const u32 t735 = load8(l5 - 16ull);
-                                                                                            const u32 t736 = load8(l5 - 24ull);
-                                                                                            const u32 t737 = load8(l5 - 32ull);
-                                                                                            if (((t734 + t735) | (t736 + t737)) & 255u) { v714 = 0u; goto L714; }
-                                                                                            l16 = l11 + l12;
-                                                                                            l5 = (u64)(l22 - l16);
-                                                                                            core_slice_edits_slice_T_copy_from_slice(e, l31 + (l5 << 3), l4, 4ull);
-                                                                                            l4 = l1 - 4ull;
-                                                                                            core_slice_edits_slice_T_copy_from_slice(e, l31 + ((l4 + (l5 - l3)) << 3), l31 + (l4 << 3), 4ull);
-                                                                                            goto L723;
+                                                                                        L728:;
+                                                                                        L743:;
+                                                                                        {
+                                                                                            const u32 t744 = load8(l8 + 56ull);
+                                                                                            const u32 t745 = load8(l8 + 48ull);
+                                                                                            const u32 t746 = load8(l8 + 40ull);
+                                                                                            const u32 t747 = load8(l8 + 32ull);
+                                                                                            const u32 t748 = load8(l8 + 24ull);
+                                                                                            const u32 t749 = load8(l8 + 16ull);
+                                                                                            const u32 t750 = load8(l8 + 8ull);
+                                                                                            const u32 t751 = load8(l8);
+                                                                                            if ((t744 | ((t745 + (t746 + (t747 + (t748 + (t749 + (t750 + t751)))))) & 255u)) == 0) {
+                                                                                                l8 = l8 + 64ull;
+                                                                                                l2 = l2 - 8ull;
+                                                                                                if (l2 >= 9ull) goto L743;
+                                                                                                goto L727;
+                                                                                            }
                                                                                         }
-                                                                                        l4 = l31 + (l3 << 3);
-                                                                                        const u32 t738 = load8(l4);
-                                                                                        l19 = t738;
-                                                                                        if (l12 < 2u) goto L725;
-                                                                                        l18 = 0u;
-                                                                                        const u32 t739 = load8(l4 + 8ull);
-                                                                                        if (t739 | (l19 & 255u)) { v714 = 0u; goto L714; }
-                                                                                        l1 = l0 + l3;
-                                                                                        l5 = l31 + (l1 << 3);
-                                                                                        const u32 t740 = load8(l5 - 8ull);
-                                                                                        const u32 t741 = load8(l5 - 16ull);
-                                                                                        if (t740 | t741) { v714 = 0u; goto L714; }
-                                                                                        l16 = l11 + l12;
-                                                                                        l5 = (u64)(l22 - l16);
-                                                                                        core_slice_edits_slice_T_copy_from_slice(e, l31 + (l5 << 3), l4, 2ull);
-                                                                                        l4 = l1 - 2ull;
-                                                                                        core_slice_edits_slice_T_copy_from_slice(e, l31 + ((l4 + (l5 - l3)) << 3), l31 + (l4 << 3), 2ull);
-                                                                                        goto L723;
+                                                                                        l36 = 0u;
+                                                                                        v715 = 0u; goto L715;
                                                                                     }
                                                                                     L727:;
-                                                                                    L742:;
-                                                                                    {
-                                                                                        const u32 t743 = load8(l4 + 56ull);
-                                                                                        const u32 t744 = load8(l4 + 48ull);
-                                                                                        const u32 t745 = load8(l4 + 40ull);
-                                                                                        const u32 t746 = load8(l4 + 32ull);
-                                                                                        const u32 t747 = load8(l4 + 24ull);
-                                                                                        const u32 t748 = load8(l4 + 16ull);
-                                                                                        const u32 t749 = load8(l4 + 8ull);
-                                                                                        const u32 t750 = load8(l4);
-                                                                                        if ((t743 | ((t744 + (t745 + (t746 + (t747 + (t748 + (t749 + t750)))))) & 255u)) == 0) {
-                                                                                            l4 = l4 + 64ull;
-                                                                                            l5 = l5 - 8ull;
-                                                                                            if (l5 >= 9ull) goto L742;
-                                                                                            goto L726;
+                                                                                    l36 = 0u;
+                                                                                    l2 = l0 + l11;
+                                                                                    l8 = l14 + (l2 << 3);
+                                                                                    const u32 t753 = load8(l8 - 56ull);
+                                                                                    const u32 t754 = load8(l8 - 64ull);
+                                                                                    const u32 t755 = load8(l8 - 48ull);
+                                                                                    const u32 t756 = load8(l8 - 40ull);
+                                                                                    const u32 t757 = load8(l8 - 32ull);
+                                                                                    const u32 t758 = load8(l8 - 24ull);
+                                                                                    const u32 t759 = load8(l8 - 16ull);
+                                                                                    const u32 t760 = load8(l8 - 8ull);
+                                                                                    if ((((((((t753 + t754) + t755) + t756) + t757) + t758) + t759) & 255u) | t760) { v715 = 0u; goto L715; }
+                                                                                    l37 = l33 + l40;
+                                                                                    l17 = (u64)(l39 - l37);
+                                                                                    if (l33 > 24u) goto L725;
+                                                                                    if (l33 != 8u) {
+                                                                                        l8 = l14 + (l11 << 3);
+                                                                                        l2 = l14 + (l17 << 3);
+                                                                                        l1 = l0;
+                                                                                        L762:;
+                                                                                        {
+                                                                                            core_slice_edits_slice_T_copy_from_slice(stack, l2, l8, 8ull);
+                                                                                            l8 = l8 + 64ull;
+                                                                                            l2 = l2 + 64ull;
+                                                                                            l1 = l1 - 8ull;
+                                                                                            if (l1 > 8ull) goto L762;
                                                                                         }
                                                                                     }
-                                                                                    l18 = 0u;
-                                                                                    v714 = 0u; goto L714;
+                                                                                    l8 = l0 - 8ull;
+                                                                                    core_slice_edits_slice_T_copy_from_slice(stack, l14 + ((l8 + l17) << 3), l14 + ((l8 + l11) << 3), 8ull);
+                                                                                    store32(l12 + 24ull, l37);
+                                                                                    goto L723;
                                                                                 }
                                                                                 L726:;
-                                                                                l18 = 0u;
-                                                                                l5 = l0 + l3;
-                                                                                l4 = l31 + (l5 << 3);
-                                                                                const u32 t752 = load8(l4 - 56ull);
-                                                                                const u32 t753 = load8(l4 - 64ull);
-                                                                                const u32 t754 = load8(l4 - 48ull);
-                                                                                const u32 t755 = load8(l4 - 40ull);
-                                                                                const u32 t756 = load8(l4 - 32ull);
-                                                                                const u32 t757 = load8(l4 - 24ull);
-                                                                                const u32 t758 = load8(l4 - 16ull);
-                                                                                const u32 t759 = load8(l4 - 8ull);
-                                                                                if ((((((((t752 + t753) + t754) + t755) + t756) + t757) + t758) & 255u) | t759) { v714 = 0u; goto L714; }
-                                                                                l16 = l11 + l12;
-                                                                                l33 = (u64)(l22 - l16);
-                                                                                if (l12 > 24u) goto L724;
-                                                                                if (l12 != 8u) {
-                                                                                    l4 = l31 + (l3 << 3);
-                                                                                    l5 = l31 + (l33 << 3);
-                                                                                    l1 = l0;
-                                                                                    L761:;
-                                                                                    {
-                                                                                        core_slice_edits_slice_T_copy_from_slice(e, l5, l4, 8ull);
-                                                                                        l4 = l4 + 64ull;
-                                                                                        l5 = l5 + 64ull;
-                                                                                        l1 = l1 - 8ull;
-                                                                                        if (l1 > 8ull) goto L761;
-                                                                                    }
-                                                                                }
-                                                                                l4 = l0 - 8ull;
-                                                                                core_slice_edits_slice_T_copy_from_slice(e, l31 + ((l4 + l33) << 3), l31 + ((l3 + l4) << 3), 8ull);
-                                                                                store32(l29 + 24ull, l16);
-                                                                                goto L722;
+                                                                                l36 = 0u;
+                                                                                if (l38 & 255u) { v715 = 0u; goto L715; }
+                                                                                l37 = l33 + l40;
+                                                                                if (l33 != 1u) goto L724;
+                                                                                l2 = l14 + ((u64)(l39 - l37) << 3);
+                                                                                store8(l2, (u8)0u);
+                                                                                const u32 t763 = load32(l8 + 4ull);
+                                                                                store32(l2 + 4ull, t763);
+                                                                                const u32 t764 = load8(l8 + 1ull);
+                                                                                store8(l2 + 1ull, (u8)t764);
+                                                                                goto L724;
                                                                             }
                                                                             L725:;
-                                                                            l18 = 0u;
-                                                                            if (l19 & 255u) { v714 = 0u; goto L714; }
-                                                                            l16 = l11 + l12;
-                                                                            if (l12 != 1u) goto L723;
-                                                                            l5 = l31 + ((u64)(l22 - l16) << 3);
-                                                                            store8(l5, (u8)0u);
-                                                                            const u32 t762 = load32(l4 + 4ull);
-                                                                            store32(l5 + 4ull, t762);
-                                                                            const u32 t763 = load8(l4 + 1ull);
-                                                                            store8(l5 + 1ull, (u8)t763);
-                                                                            goto L723;
+                                                                            space_copies_copy_long(stack, l14, l11, l2, l17);
                                                                         }
                                                                         L724:;
-                                                                        space_copies_copy_long(e, l31, l3, l5, l33);
+                                                                        store32(l12 + 24ull, l37);
                                                                     }
                                                                     L723:;
-                                                                    store32(l29 + 24ull, l16);
+                                                                    l36 = 1u;
+                                                                    v715 = l33;
                                                                 }
-                                                                L722:;
-                                                                l18 = 1u;
-                                                                v714 = l12;
+                                                                L715:;
+                                                                l37 = v715;
+                                                                if ((l36 & 255u) != 1u) goto L706;
                                                             }
-                                                            L714:;
-                                                            l16 = v714;
-                                                            if ((l18 & 255u) != 1u) goto L705;
+                                                            store32(l9 + 220u, l37);
+                                                            store16(l9 + 216u, (u16)2u);
+                                                            goto L218;
                                                         }
-                                                        store32(l26 + 204u, l16);
-                                                        store16(l26 + 200u, (u16)2u);
-                                                        goto L413;
+                                                        L706:;
+                                                        const u32 t765 = forms_work_Work_fill_body(stack, l12, l35, l32, l6);
+                                                        l6 = t765;
+                                                        store32(l9 + 220u, 0u);
+                                                        store8(l9 + 217u, (u8)0u);
+                                                        store8(l9 + 216u, (u8)l6);
                                                     }
-                                                    L705:;
-                                                    const u32 t764 = forms_work_Work_fill_body(e, l29, l17, l13, l6);
-                                                    l6 = t764;
-                                                    store32(l26 + 204u, 0u);
-                                                    store8(l26 + 201u, (u8)0u);
-                                                    store8(l26 + 200u, (u8)l6);
+                                                    L218:;
+                                                    const u32 t766 = load32(l9 + 220u);
+                                                    l35 = t766;
+                                                    const u32 t767 = load8(l9 + 217u);
+                                                    l32 = t767;
+                                                    const u32 t768 = load8(l9 + 216u);
+                                                    l33 = t768;
                                                 }
-                                                L413:;
-                                                const u32 t765 = load32(l26 + 204u);
-                                                l17 = t765;
-                                                const u32 t766 = load8(l26 + 201u);
-                                                l13 = t766;
-                                                const u32 t767 = load8(l26 + 200u);
-                                                l12 = t767;
-                                            }
-                                            L412:;
-                                            l6 = 2u;
-                                            {
-                                                switch ((u32)(((u64)l12 & 255ull)) - 1u) {
-                                                case 0: goto L768;
-                                                case 1: goto L411;
-                                                case 2: goto L411;
-                                                case 3: goto L410;
-                                                default: goto L407;
+                                                L217:;
+                                                l6 = 2u;
+                                                {
+                                                    switch ((u32)(((u64)l33 & 255ull)) - 1u) {
+                                                    case 0: goto L769;
+                                                    case 1: goto L216;
+                                                    case 2: goto L216;
+                                                    case 3: goto L215;
+                                                    default: goto L212;
+                                                    }
                                                 }
+                                                L769:;
+                                                const u32 t770 = load32(l12 + 20ull);
+                                                l6 = t770;
+                                                core_delivery_deliver(stack, l12, l34, l31);
+                                                l30 = l6 + (l30 + l41);
+                                                l34 = 0u;
+                                                goto L214;
                                             }
-                                            L768:;
-                                            const u32 t769 = load32(l29 + 20ull);
-                                            l6 = t769;
-                                            core_delivery_deliver(e, l29, l9, l20);
-                                            l8 = l6 + (l8 + l23);
-                                            l9 = 0u;
-                                            goto L409;
-                                        }
-                                        L411:;
-                                        l20 = l14 + l23;
-                                        const u64 t770 = load64(l29);
-                                        const u64 t771 = load32(l29 + 16ull);
-                                        l4 = t770 + (t771 << 3);
-                                        {
+                                            L216:;
+                                            l31 = l41 + l42;
+                                            const u64 t771 = load64(l12);
+                                            const u64 t772 = load32(l12 + 16ull);
+                                            l8 = t771 + (t772 << 3);
                                             {
-                                                const u32 t774 = load32(l29 + 32ull);
-                                                l8 = t774;
-                                                l6 = l8 <= l9;
-                                                if (l6) goto L773;
-                                                if ((l8 - l9) != 1u) goto L773;
-                                                const u32 t775 = load32((l4 + ((l2 << 3) & 34359738360ull)) + 4ull);
-                                                l8 = t775;
-                                                l6 = l8 ? (l15 - l8) : 0u;
-                                                goto L772;
+                                                {
+                                                    const u32 t775 = load32(l12 + 32ull);
+                                                    l30 = t775;
+                                                    l6 = l30 <= l34;
+                                                    if (l6) goto L774;
+                                                    if ((l30 - l34) != 1u) goto L774;
+                                                    const u32 t776 = load32((l8 + ((l16 << 3) & 34359738360ull)) + 4ull);
+                                                    l30 = t776;
+                                                    l6 = l30 ? (l43 - l30) : 0u;
+                                                    goto L773;
+                                                }
+                                                L774:;
+                                                if (l6) {
+                                                    l6 = l30;
+                                                    goto L773;
+                                                }
+                                                L778:;
+                                                {
+                                                    const u32 t779 = load32((l8 + ((u64)(l30 - 1u) << 3)) + 4ull);
+                                                    l6 = t779;
+                                                    l30 = l30 - l6;
+                                                    l6 = l6 ? l30 : 0u;
+                                                    if (l6 > l34) goto L778;
+                                                }
                                             }
                                             L773:;
-                                            if (l6) {
-                                                l6 = l8;
-                                                goto L772;
-                                            }
-                                            L777:;
-                                            {
-                                                const u32 t778 = load32((l4 + ((u64)(l8 - 1u) << 3)) + 4ull);
-                                                l6 = t778;
-                                                l8 = l8 - l6;
-                                                l6 = l6 ? l8 : 0u;
-                                                if (l6 > l9) goto L777;
-                                            }
+                                            store32(l12 + 20ull, l34);
+                                            store32(l12 + 32ull, l6);
+                                            l30 = l31 + l35;
+                                            l34 = 0u;
+                                            goto L214;
                                         }
-                                        L772:;
-                                        store32(l29 + 20ull, l9);
-                                        store32(l29 + 32ull, l6);
-                                        l8 = l17 + l20;
-                                        l9 = 0u;
-                                        goto L409;
+                                        L215:;
+                                        const u32 t780 = load32(l12 + 24ull);
+                                        const u32 t781 = load32(l12 + 20ull);
+                                        const u32 t782 = load32(l12 + 16ull);
+                                        l30 = t780 + (t781 + t782);
+                                        l34 = 1u;
+                                        l6 = 1u << (l32 & 31);
+                                        if (l6 & 3u) { v213 = l32; goto L213; }
+                                        if ((l6 & 12u) == 0) {
+                                            l8 = l12 + 80ull;
+                                            const u32 t784 = load32(l8);
+                                            l6 = t784;
+                                            store32(l8, (l6 < l30) ? l30 : l6);
+                                        }
+                                        l6 = l32;
+                                        goto L212;
                                     }
-                                    L410:;
-                                    const u32 t779 = load32(l29 + 24ull);
-                                    const u32 t780 = load32(l29 + 20ull);
-                                    const u32 t781 = load32(l29 + 16ull);
-                                    l8 = t779 + (t780 + t781);
-                                    l9 = 1u;
-                                    l6 = 1u << (l13 & 31);
-                                    if (l6 & 3u) { v408 = l13; goto L408; }
-                                    if ((l6 & 12u) == 0) {
-                                        l4 = l29 + 80ull;
-                                        const u32 t783 = load32(l4);
-                                        l6 = t783;
-                                        store32(l4, (l6 < l8) ? l8 : l6);
-                                    }
-                                    l6 = l13;
-                                    goto L407;
+                                    L214:;
+                                    v213 = 0u;
                                 }
-                                L409:;
-                                v408 = 0u;
+                                L213:;
+                                l6 = v213;
+                                l8 = l12 + 72ull;
+                                const u64 t785 = load64(l8);
+                                store64(l8, t785 + 1ull);
+                                l8 = l12 + 80ull;
+                                const u32 t786 = load32(l8);
+                                l31 = t786;
+                                store32(l8, (l30 > l31) ? l30 : l31);
+                                if (l34 == 0) { v211 = 0u; goto L211; }
                             }
-                            L408:;
-                            l6 = v408;
-                            l4 = l29 + 72ull;
-                            const u64 t784 = load64(l4);
-                            store64(l4, t784 + 1ull);
-                            l4 = l29 + 80ull;
-                            const u32 t785 = load32(l4);
-                            l20 = t785;
-                            store32(l4, (l8 > l20) ? l8 : l20);
-                            if (l9 == 0) { v406 = 0u; goto L406; }
+                            L212:;
+                            store8(l12 + 85ull, (u8)l6);
+                            store8(l12 + 84ull, (u8)1u);
+                            v211 = 1u;
                         }
-                        L407:;
-                        store8(l29 + 85ull, (u8)l6);
-                        store8(l29 + 84ull, (u8)1u);
-                        v406 = 1u;
+                        L211:;
+                        if (v211 & 255u) goto L5;
+                        l4 = l4 + 1ull;
+                        if (l4 < l7) goto L6;
                     }
-                    L406:;
-                    if ((v406 & 255u) == 0) {
-                        l4 = l42 + 1ull;
-                        if (l4 < l7) goto L4;
-                        goto L3;
-                    }
+                    goto L3;
                 }
-                l24 = (l6 & 255u) + 1u;
+                L5:;
+                l45 = (l6 & 255u) + 1u;
             }
             L3:;
-            const u32 t787 = load32(l29 + 80ull);
-            l8 = t787;
-            const u64 t788 = load64(l29 + 72ull);
-            l4 = t788;
-            const u64 t789 = load64(l26 + 48u);
-            l29 = t789;
-            const u64 t790 = load64(l26 + 80u);
-            l2 = t790;
-            store64(l37 + 32u, l48);
-            l2 = l40 - l2;
-            store64(l37 + 24u, (l2 > l40) ? 0ull : l2);
-            store64(l37 + 16u, l29);
-            store64(l37 + 8u, l4);
-            store32(l37 + 4u, l8);
-            store32(l37, l24);
-            e->stack_pointer = l26 + 208ull;
+            const u32 t787 = load32(l12 + 80ull);
+            l30 = t787;
+            const u64 t788 = load64(l12 + 72ull);
+            l12 = t788;
+            const u64 t789 = load64(l9 + 56u);
+            l7 = t789;
+            const u64 t790 = load64(l9 + 88u);
+            l4 = t790;
+            store64(l20 + 32u, l5);
+            l4 = l3 - l4;
+            store64(l20 + 24u, (l3 < l4) ? 0ull : l4);
+            store64(l20 + 16u, l7);
+            store64(l20 + 8u, l12);
+            store32(l20 + 4u, l30);
+            store32(l20, l45);
+            stack = l9 + 224ull;
             goto L1;
         }
         trap();
@@ -22901,21 +22925,16 @@ static void engine_turn(struct engine *e, u64 l0, u64 l1, u64 l2, u64 l3, u64 l4
 
 /* The bytes of that stack, beside what the functions above take of C's: what the deepest calls can take, the 16 bytes
  * that the engine keeps free, and what is lost where it is aligned. */
-enum { STACK = DEEPEST_STACK + 16 + 32 };
+enum { STACK = DEEPEST_STACK + 16 + 16 };
 
 struct lent {
-    struct engine engine;
     u8 stack[STACK];
 };
 
 static u64 address_of(const void *place) { return (u64)(uintptr_t)place; }
 
-/* An engine with a stack whose ends are multiples of 16. */
-static struct engine *lend(struct lent *to) {
-    to->engine.stack = (address_of(to->stack) + 15) & ~(u64)15;
-    to->engine.stack_pointer = address_of(to->stack + STACK) & ~(u64)15;
-    return &to->engine;
-}
+/* The end of a stack, a multiple of 16: what a function takes of it lies before the end that it is handed. */
+static u64 lend(struct lent *to) { return address_of(to->stack + STACK) & ~(u64)15; }
 
 /* A report as the engine writes it. */
 struct engine_report {

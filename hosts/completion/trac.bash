@@ -2,7 +2,7 @@
 
 # Prints the options of a program that take a value, or those that take none, by the pattern of what stands behind one.
 _trac_options() {
-    "$1" --help 2>/dev/null </dev/null | sed -n "s/^ *\(-[a-z], \)\{0,1\}\(--[a-z-]*\)$2.*/\2/p"
+    "$1" --help 2>/dev/null </dev/null | sed -n "s/^ *\(-[a-zA-Z], \)\{0,1\}\(--[a-z-]*\)$2.*/\2/p"
 }
 
 _trac() {

@@ -8,7 +8,8 @@ ghost use Rattle.trac_core.specs.Machine.{KeepsLimits};
 
 use crate::devices::{GivenSource, RoomySink};
 use crate::report::{TracReport, number};
-use trac_core::{Awaits, Fate, Machine};
+use trac_core::{Fate, Machine};
+use trac_language::Function;
 
 /// What a part of a turn came to.
 #[derive(Clone, Copy, Debug, PartialEq, Eq)]
@@ -129,10 +130,11 @@ fn step_on(
     ensures fits { sink.new.behind ≡ None }
     ensures went { result ≡ Turn.Went → (machine.new.fate ≡ None) × (sink.new.failures ≡ 0) }
 {
-    if !ended && waits(machine, source.rest()) {
+    let function = machine.next_function();
+    if !ended && waits(machine, function, source.rest()) {
         return Turn::Waits;
     }
-    if let Some(printed) = prints_past(machine, sink.free() as u64) {
+    if let Some(printed) = prints_past(machine, function, sink.free() as u64) {
         return Turn::Full(printed);
     }
     match machine.step(source, sink) {
@@ -141,16 +143,18 @@ fn step_on(
     }
 }
 
-/// How many bytes the next step prints, if these are more than there is room for. A text that it
-/// prints is measured once at most, and not at all where there is room for the whole neutral string.
-fn prints_past(machine: &mut Machine, free: u64) -> Option<u32>
+/// How many bytes the next step prints, if these are more than there is room for; it performs this
+/// function. A text that it prints is measured once at most, and not at all where there is room for
+/// the whole neutral string.
+fn prints_past(machine: &mut Machine, function: Option<Function>, free: u64) -> Option<u32>
+    requires asked { function ≡ next_function machine.old }
     ensures past { MatchOption result
         ((input : Input) → length (next_printed machine.old input) ≤ free)
         (λ printed. (free < printed)
         × ((input : Input) → printed ≡ length (next_printed machine.old input))) }
     ensures same { machine.new ≡ machine.old }
 {
-    if machine.neutral().len() as u64 <= free && machine.prints_within(free) {
+    if machine.neutral().len() as u64 <= free && machine.prints_within(function, free) {
         return None;
     }
     let printed = machine.prints();
@@ -160,17 +164,19 @@ fn prints_past(machine: &mut Machine, free: u64) -> Option<u32>
     Some(printed)
 }
 
-/// Whether the next step reads more than these bytes. A string that is longer than the free cells
-/// doesn't wait: its step ends the run, since it would need more than the room.
-fn waits(machine: &Machine, bytes: &[u8]) -> bool
+/// Whether the next step, which performs this function, reads more than these bytes. A string that is
+/// longer than the free cells doesn't wait: its step ends the run, since it would need more than the
+/// room.
+fn waits(machine: &Machine, function: Option<Function>, bytes: &[u8]) -> bool
+    requires asked { function ≡ next_function machine.now }
     ensures { result ≡ is_short (awaited (next_function machine.now)) machine.now bytes.now }
 {
-    match machine.awaits() {
-        Awaits::Nothing => false,
-        Awaits::Text => {
+    match function {
+        Some(Function::ReadString) => {
             !bytes.contains(&machine.meta())
                 && bytes.len() + machine.size() as usize <= machine.room() as usize + 1
         }
-        Awaits::Byte => bytes.is_empty(),
+        Some(Function::ReadCharacter) => bytes.is_empty(),
+        _ => false,
     }
 }

@@ -1,8 +1,9 @@
 -- The row of the table of scanning rules, by the first characters, as a scanner tells them.
-use Rattle.trac_core.proofs.Words.{◌≡◌, ◌≢◌, ℕ, ◌-◌, ◌<◌, ◌≤◌, ⊎_elim, List, [], ◌∷◌, length, take, drop, map, Option, Some, None, refl, sym, ap, ◌∙◌, arith, slice_get, slice_range, cases_eq, ne_eqb, take-length, Text, protected, AddCharacter, parenthesis_rule, rule, Cell, Call, seen, Neutral, no_neutral, with_cell, with_cells, neutral_of}
+use Rattle.trac_core.proofs.Words.{if◌then◌else◌, Bool, true, false, codes, bytes_eq, is_layout, number_sign_rule, BeginArgument, BeginCall, DeleteLayout, EndCall, Active, ◌==◌, ◌≡◌, ◌≢◌, ℕ, ◌-◌, ◌<◌, ◌≤◌, ⊎_elim, List, [], ◌∷◌, length, take, drop, map, Option, Some, None, refl, sym, ap, ◌∙◌, arith, slice_get, slice_range, cases_eq, ne_eqb, take-length, Text, protected, AddCharacter, parenthesis_rule, rule, Cell, Call, seen, Neutral, no_neutral, with_cell, with_cells, neutral_of}
+use Rattle.trac_language.specs.declared.mode.Mode.TheVariants.{Neutral as NeutralMode}
 use Rattle.trac_laws.proofs.Rules.{rule_tab, rule_line_feed, rule_return, rule_comma, rule_end, rule_active, rule_neutral, rule_other}
 use Rattle.trac_core.specs.declared.machine.view.ScanningRule.TheVariants as row
-use Rattle.trac_core.specs.View.{row_of}
+use Rattle.trac_core.specs.View.{dropped, row_of}
 use Rattle.trac_core.proofs.Scanning.{first-rest, second-rest, third-rest, sign-rule, rule-parenthesis, rule-nothing}
 
 pub row-nothing : (text : Text) → slice_get text 0 ≡ None → row.Idling ≡ row_of (rule text)
@@ -54,6 +55,34 @@ row-neutral text first second third = ap row_of (sym (ap rule (third-rest text 3
 
 pub row-sign : (text : Text) → slice_get text 0 ≡ Some 35 → slice_get text 1 ≢ Some 40 → (slice_get text 1 ≡ Some 35 → slice_get text 2 ≢ Some 40) → row.NumberSign ≡ row_of (rule text)
 row-sign text first second third = ap row_of (sym (sign-rule text first second third))
+
+-- ---- what a rule drops
+
+sign-drops : (active neutral : Bool) (n : ℕ) (a b c : Text) → 0 ≡ dropped (if active then BeginCall Active a else (if neutral then BeginCall NeutralMode b else AddCharacter 35 c)) n
+sign-drops true neutral n a b c = refl
+sign-drops false true n a b c = refl
+sign-drops false false n a b c = refl
+
+other-drops : (layout comma sign close : Bool) (n c : ℕ) (rest : Text) → 0 ≡ dropped (if layout then DeleteLayout rest else (if comma then BeginArgument rest else (if sign then number_sign_rule rest else (if close then EndCall rest else AddCharacter c rest)))) n
+other-drops true comma sign close n c rest = refl
+other-drops false true sign close n c rest = refl
+other-drops false false true close n c rest =
+    sign-drops (bytes_eq (take 1 rest) (codes "(")) (bytes_eq (take 2 rest) (codes "#(")) n (drop 1 rest) (drop 2 rest) rest
+other-drops false false false true n c rest = refl
+other-drops false false false false n c rest = refl
+
+-- only a left parenthesis drops any
+pub dropped-other : (text : Text) (n : ℕ) → slice_get text 0 ≢ Some 40 → 0 ≡ dropped (rule text) n
+unfolding rule
+dropped-other [] n differs = refl
+dropped-other (c ∷ rest) n differs =
+    let other : (c == 40) ≡ false = ne_eqb c 40 (λ e. differs (ap Some e)) in
+    rw other (other-drops (is_layout c) (c == 44) (c == 35) (c == 41) n c rest)
+
+-- one without a match drops all, another none
+pub dropped-parenthesis : (text : Text) (o : Option (Text × Text)) (n : ℕ) → slice_get text 0 ≡ Some 40 → protected (drop 1 text) ≡ o → dropped (parenthesis_rule o) n ≡ dropped (rule text) n
+dropped-parenthesis text o n first is =
+    ap (λ r. dropped r n) (sym (row-first text 40 first ∙ rule-parenthesis (drop 1 text) o is))
 
 -- the number in a call mark makes no difference to the neutral string
 with_cell-seen : (n : Neutral) (cell : Cell) → with_cell n (seen cell) ≡ with_cell n cell

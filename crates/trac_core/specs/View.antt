@@ -1,5 +1,5 @@
 -- What a machine shows of itself.
-use Rattle.std.specs.Prelude.{◌==◌, if◌then◌else◌}
+use Rattle.std.specs.Prelude.{ℕ, ◌==◌, if◌then◌else◌}
 use Rattle.trac_language.specs.declared.mode.Mode.TheVariants.{Active, Neutral as NeutralMode}
 use Rattle.trac_language.specs.State.{Memory}
 use Rattle.trac_language.specs.Rule.{Rule, LoadIdling, DeleteLayout, AddProtected, ClearActive}
@@ -28,3 +28,9 @@ row_of (BeginCall Active rest) = ActiveCall
 row_of (BeginCall NeutralMode rest) = NeutralCall
 row_of (EndCall rest) = EndOfCall
 row_of (AddCharacter c rest) = if c == 35 then NumberSign else Character
+
+-- how many characters a step by this rule drops of an active string that has so many, since a left
+-- parenthesis has no match
+abbrev pub dropped : Rule → ℕ → ℕ
+dropped ClearActive n = n
+dropped _ n = 0

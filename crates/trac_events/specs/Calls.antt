@@ -11,7 +11,7 @@ use Rattle.trac_space.specs.Calls.{IsLastCall}
 use Rattle.trac_space.specs.Texts.{text_of_cells}
 use Rattle.trac_functions.specs.Flat.{mode_at, neutral_of}
 use Rattle.trac_core.specs.Machine.{MachineState}
-use Rattle.trac_core.specs.View.{neutral_in, row_of}
+use Rattle.trac_core.specs.View.{dropped, neutral_in, row_of}
 use Rattle.trac_core.specs.Session.{awaited, next_function}
 use Rattle.trac_core.specs.declared.machine.session.Awaits.{Awaits}
 use Rattle.trac_core.specs.declared.machine.session.Awaits.TheVariants.{Nothing, Text, Byte}
@@ -84,6 +84,7 @@ IsSeen m asked before = (before.done ≡ m.steps)
     × (before.awaits ≡ awaited (next_function m))
     × (before.active ≡ length m.memory.active)
     × (before.meta ≡ m.memory.meta)
+    × (before.drops ≡ dropped (rule m.memory.active) (length m.memory.active))
     × SeesCall m asked before.call
 
 -- the value of the call that was seen, by the cells of a machine's strings; null where none was seen

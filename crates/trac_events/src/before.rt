@@ -21,6 +21,8 @@ pub struct Before {
     pub active: usize,
     /// The meta character.
     pub meta: u8,
+    /// How many characters the step drops, since its left parenthesis has no match.
+    pub drops: u32,
     /// The call that the step performs, where it was asked for or reads.
     pub call: Option<OpenCall>,
 }
@@ -45,6 +47,7 @@ impl Before {
             awaits,
             active: machine.active().len(),
             meta: machine.meta(),
+            drops: machine.drops(),
             call,
         }
     }

@@ -17,18 +17,18 @@ use Rattle.clap.proofs.WalkLemmas.{one_text-rows}
 use Rattle.trac_words.specs.CommandLine.{cells_option, gives, has_flag, number, number_of, number_option, numbers_command, steps_option}
 use Rattle.trac_words.proofs.Commands.{HasDefaultAt, default_text, same_number}
 use Rattle.trac_words.proofs.PlaceReads.{IsRead, flag_read, is_own_name, is_plain_app, option_text, signed_read, unsigned_read}
-use Rattle.trac_trace.specs.CommandLine.{calls_flag, flag_of, forms_flag, from_option, last_option, to_option, trace_command, views_command, warn_flag, width_option}
+use Rattle.trac_trace.specs.CommandLine.{calls_flag, flag_of, forms_flag, from_option, last_option, to_option, trace_command, views_command, warn_flag, width_option, columns_option}
 
 pub is_free : is_simple_and_free trace_command ≡ true
-unfolding clap_on_literals views_command numbers_command cells_option steps_option from_option to_option last_option width_option calls_flag forms_flag warn_flag
+unfolding clap_on_literals views_command numbers_command cells_option steps_option from_option to_option last_option width_option columns_option calls_flag forms_flag warn_flag
 is_free = refl
 
 simple : is_simple trace_command ≡ true
-unfolding clap_on_literals views_command numbers_command cells_option steps_option from_option to_option last_option width_option calls_flag forms_flag warn_flag
+unfolding clap_on_literals views_command numbers_command cells_option steps_option from_option to_option last_option width_option columns_option calls_flag forms_flag warn_flag
 simple = refl
 
 plain : is_plain_app trace_command ≡ true
-unfolding views_command numbers_command cells_option steps_option from_option to_option last_option width_option calls_flag forms_flag warn_flag
+unfolding views_command numbers_command cells_option steps_option from_option to_option last_option width_option columns_option calls_flag forms_flag warn_flag
 plain = refl
 
 -- the rule of this name, which is no other's, and its default
@@ -38,39 +38,43 @@ pub record IsPlaced (k : ℕ) (id default : Text) (rule : Rule) : Type 0 where
   pub has_default : HasDefaultAt trace_command k id default
 
 pub cells_rule : IsPlaced 0 (codes "cells") (codes "65536") (number_option (codes "cells") (parser.Signed (pos 1) (pos 16777216)) (codes "65536"))
-unfolding clap_on_literals views_command numbers_command cells_option steps_option from_option to_option last_option width_option calls_flag forms_flag warn_flag
+unfolding clap_on_literals views_command numbers_command cells_option steps_option from_option to_option last_option width_option columns_option calls_flag forms_flag warn_flag
 cells_rule = record { at = refl; own = refl; has_default = record { rule = with_index 1 (filled cells_option); at = refl; id = refl; only = refl; default = refl; as_read = refl } }
 
 pub steps_rule : IsPlaced 1 (codes "steps") (codes "1000000") (number_option (codes "steps") (parser.Unsigned 1 1000000000000) (codes "1000000"))
-unfolding clap_on_literals views_command numbers_command cells_option steps_option from_option to_option last_option width_option calls_flag forms_flag warn_flag
+unfolding clap_on_literals views_command numbers_command cells_option steps_option from_option to_option last_option width_option columns_option calls_flag forms_flag warn_flag
 steps_rule = record { at = refl; own = refl; has_default = record { rule = with_index 1 (filled (steps_option (codes "1000000"))); at = refl; id = refl; only = refl; default = refl; as_read = refl } }
 
 pub from_rule : IsPlaced 2 (codes "from") (codes "1") (number_option (codes "from") (parser.Unsigned 1 1000000000000) (codes "1"))
-unfolding clap_on_literals views_command numbers_command cells_option steps_option from_option to_option last_option width_option calls_flag forms_flag warn_flag
+unfolding clap_on_literals views_command numbers_command cells_option steps_option from_option to_option last_option width_option columns_option calls_flag forms_flag warn_flag
 from_rule = record { at = refl; own = refl; has_default = record { rule = with_index 1 (filled from_option); at = refl; id = refl; only = refl; default = refl; as_read = refl } }
 
 pub to_rule : IsPlaced 3 (codes "to") (codes "1000000000000") (number_option (codes "to") (parser.Unsigned 1 1000000000000) (codes "1000000000000"))
-unfolding clap_on_literals views_command numbers_command cells_option steps_option from_option to_option last_option width_option calls_flag forms_flag warn_flag
+unfolding clap_on_literals views_command numbers_command cells_option steps_option from_option to_option last_option width_option columns_option calls_flag forms_flag warn_flag
 to_rule = record { at = refl; own = refl; has_default = record { rule = with_index 1 (filled to_option); at = refl; id = refl; only = refl; default = refl; as_read = refl } }
 
 pub last_rule : IsPlaced 4 (codes "last") (codes "0") (number_option (codes "last") (parser.Unsigned 0 1000000) (codes "0"))
-unfolding clap_on_literals views_command numbers_command cells_option steps_option from_option to_option last_option width_option calls_flag forms_flag warn_flag
+unfolding clap_on_literals views_command numbers_command cells_option steps_option from_option to_option last_option width_option columns_option calls_flag forms_flag warn_flag
 last_rule = record { at = refl; own = refl; has_default = record { rule = with_index 1 (filled last_option); at = refl; id = refl; only = refl; default = refl; as_read = refl } }
 
 pub width_rule : IsPlaced 5 (codes "width") (codes "100") (number_option (codes "width") (parser.Signed (pos 0) (pos 16777216)) (codes "100"))
-unfolding clap_on_literals views_command numbers_command cells_option steps_option from_option to_option last_option width_option calls_flag forms_flag warn_flag
+unfolding clap_on_literals views_command numbers_command cells_option steps_option from_option to_option last_option width_option columns_option calls_flag forms_flag warn_flag
 width_rule = record { at = refl; own = refl; has_default = record { rule = with_index 1 (filled width_option); at = refl; id = refl; only = refl; default = refl; as_read = refl } }
 
-pub calls_rule : IsPlaced 6 (codes "calls") (codes "false") (flag_of (codes "calls"))
-unfolding clap_on_literals views_command numbers_command cells_option steps_option from_option to_option last_option width_option calls_flag forms_flag warn_flag
+pub columns_rule : IsPlaced 6 (codes "columns") (codes "0") (number_option (codes "columns") (parser.Signed (pos 0) (pos 16777216)) (codes "0"))
+unfolding clap_on_literals views_command numbers_command cells_option steps_option from_option to_option last_option width_option columns_option calls_flag forms_flag warn_flag
+columns_rule = record { at = refl; own = refl; has_default = record { rule = with_index 1 (filled columns_option); at = refl; id = refl; only = refl; default = refl; as_read = refl } }
+
+pub calls_rule : IsPlaced 7 (codes "calls") (codes "false") (flag_of (codes "calls"))
+unfolding clap_on_literals views_command numbers_command cells_option steps_option from_option to_option last_option width_option columns_option calls_flag forms_flag warn_flag
 calls_rule = record { at = refl; own = refl; has_default = record { rule = with_index 1 (filled calls_flag); at = refl; id = refl; only = refl; default = refl; as_read = refl } }
 
-pub forms_rule : IsPlaced 7 (codes "forms") (codes "false") (flag_of (codes "forms"))
-unfolding clap_on_literals views_command numbers_command cells_option steps_option from_option to_option last_option width_option calls_flag forms_flag warn_flag
+pub forms_rule : IsPlaced 8 (codes "forms") (codes "false") (flag_of (codes "forms"))
+unfolding clap_on_literals views_command numbers_command cells_option steps_option from_option to_option last_option width_option columns_option calls_flag forms_flag warn_flag
 forms_rule = record { at = refl; own = refl; has_default = record { rule = with_index 1 (filled forms_flag); at = refl; id = refl; only = refl; default = refl; as_read = refl } }
 
-pub warn_rule : IsPlaced 8 (codes "warn") (codes "false") (flag_of (codes "warn"))
-unfolding clap_on_literals views_command numbers_command cells_option steps_option from_option to_option last_option width_option calls_flag forms_flag warn_flag
+pub warn_rule : IsPlaced 9 (codes "warn") (codes "false") (flag_of (codes "warn"))
+unfolding clap_on_literals views_command numbers_command cells_option steps_option from_option to_option last_option width_option columns_option calls_flag forms_flag warn_flag
 warn_rule = record { at = refl; own = refl; has_default = record { rule = with_index 1 (filled warn_flag); at = refl; id = refl; only = refl; default = refl; as_read = refl } }
 
 -- what the parse of the words reads

@@ -3,3 +3,4 @@ pub mod Failures
 pub mod Command
 pub mod ShownTexts
 pub mod LargestTold
+pub mod Folded

@@ -28,6 +28,9 @@ last_option = number_option (codes "last") (parser.Unsigned 0 1000000) (codes "0
 unfoldable pub width_option : Rule
 width_option = number_option (codes "width") (parser.Signed (pos 0) (pos 16777216)) (codes "100")
 
+unfoldable pub columns_option : Rule
+columns_option = number_option (codes "columns") (parser.Signed (pos 0) (pos 16777216)) (codes "0")
+
 unfoldable pub calls_flag : Rule
 calls_flag = flag_of (codes "calls")
 
@@ -37,13 +40,13 @@ forms_flag = flag_of (codes "forms")
 unfoldable pub warn_flag : Rule
 warn_flag = flag_of (codes "warn")
 
--- `NAME [--cells N] [--steps N] [--from N] [--to N] [--last N] [--width N] [--calls] [--forms]
--- [--warn]`, with 1000000 steps where the words don't say
+-- `NAME [--cells N] [--steps N] [--from N] [--to N] [--last N] [--width N] [--columns N] [--calls]
+-- [--forms] [--warn]`, with 1000000 steps where the words don't say
 unfoldable pub views_command : Text → App
 views_command name =
-    with_rule (with_rule (with_rule (with_rule (with_rule (with_rule (with_rule
+    with_rule (with_rule (with_rule (with_rule (with_rule (with_rule (with_rule (with_rule
     (numbers_command name (codes "1000000")) from_option) to_option) last_option)
-    width_option) calls_flag) forms_flag) warn_flag
+    width_option) columns_option) calls_flag) forms_flag) warn_flag
 
 -- the same, of the name `trac_trace`
 abbrev pub trace_command : App
@@ -55,17 +58,20 @@ AreViewsOf rows v = (number_of (codes "from") rows ≡ Some v.from)
     × (number_of (codes "to") rows ≡ Some v.to)
     × (number_of (codes "last") rows ≡ Some v.last)
     × (number_of (codes "width") rows ≡ Some v.width)
+    × (number_of (codes "columns") rows ≡ Some v.columns)
     × (has_flag (codes "calls") rows ≡ v.calls)
     × (has_flag (codes "forms") rows ≡ v.forms)
     × (has_flag (codes "warn") rows ≡ v.warn)
 
--- what the words don't give is all steps, none of them the last, 100 bytes of a text, and no flag
+-- what the words don't give is all steps, none of them the last, 100 bytes of a text, lines of any
+-- length, and no flag
 abbrev pub HasDefaultViews : List Text → Views → Type 0
 HasDefaultViews words v =
     (gives trace_command words (codes "from") ≡ false → v.from ≡ 1)
     × (gives trace_command words (codes "to") ≡ false → v.to ≡ 1000000000000)
     × (gives trace_command words (codes "last") ≡ false → v.last ≡ 0)
     × (gives trace_command words (codes "width") ≡ false → v.width ≡ 100)
+    × (gives trace_command words (codes "columns") ≡ false → v.columns ≡ 0)
     × (gives trace_command words (codes "calls") ≡ false → v.calls ≡ false)
     × (gives trace_command words (codes "forms") ≡ false → v.forms ≡ false)
     × (gives trace_command words (codes "warn") ≡ false → v.warn ≡ false)

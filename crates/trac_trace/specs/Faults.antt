@@ -15,7 +15,7 @@ use Rattle.trac_events.specs.declared.place.Place.{Place}
 use Rattle.trac_trace.specs.declared.faults.Parts.{Parts}
 use Rattle.trac_trace.specs.declared.views.Views.{Views}
 use Rattle.trac_trace.specs.Largest.{largest_text}
-use Rattle.trac_trace.specs.Lines.{end_text, output_text, step_text}
+use Rattle.trac_trace.specs.Lines.{dropped_text, end_text, output_text, step_text}
 use Rattle.trac_trace.specs.Told.{form_line, is_fault, meta_text, open_calls_text, parts_text}
 use Rattle.trac_trace.specs.Told.{where_text}
 
@@ -28,12 +28,14 @@ is_told views done =
 abbrev pub IsNeutral : MachineState → List Cell → Type 0
 IsNeutral m neutral = neutral_of neutral ≡ neutral_in m.memory
 
--- the line of a step that was seen before, and its need, of the machine after it, cut to a width
+-- the line of a step that was seen before, and its need, of the machine after it, cut to a width, and
+-- that of what it dropped
 abbrev pub TellsDone : ℕ → Before → ℕ → MachineState → (old new : List ℕ) → Type 0
 TellsDone width before need m old new =
     (neutral : List Cell) × ((active : List Cell) × (IsNeutral m neutral
     × ((text_of_cells active ≡ m.memory.active)
-    × (new ≡ old ++ step_text width m.steps before.rule before.size need neutral active))))
+    × (new ≡ (old ++ step_text width m.steps before.rule before.size need neutral active)
+    ++ dropped_text before.drops))))
 
 -- that line, where the step was done, and the line of what it printed, where it printed
 abbrev pub TellsPrinted : Bool → ℕ → Before → ℕ → List ℕ → MachineState → (old new : List ℕ)

@@ -1,5 +1,6 @@
 -- The lines of a trace.
-use Rattle.std.specs.Prelude.{◌++◌, ◌==◌, ◌/◌, ◌%◌, ◌||◌, ℕ, Bool, true, false, List, []}
+use Rattle.std.specs.Prelude.{◌++◌, ◌==◌, ◌/◌, ◌%◌, ◌||◌, ◌&&◌, ◌+◌, ◌^◌, ℕ, Bool, true, false, List, []}
+use Rattle.std.specs.Prelude.{not}
 use Rattle.std.specs.Prelude.{◌∷◌, codes, decimal}
 use Rattle.std.specs.Prelude.{drop, take, length, min, nat_le, nat_lt, get_or, if◌then◌else◌, ◌-◌}
 use Rattle.trac_language.specs.declared.mode.Mode.TheVariants.{Active, Neutral}
@@ -98,6 +99,41 @@ printed_text bytes = codes "        prints: " ++ bytes_text bytes ++ codes "\n"
 abbrev pub output_text : List ℕ → List ℕ
 output_text [] = []
 output_text (b ∷ bytes) = printed_text (b ∷ bytes)
+
+-- the line of how many characters a step dropped
+abbrev pub drop_line : ℕ → List ℕ
+drop_line n =
+    codes "        drops: " ++ decimal n
+    ++ codes " characters, since a left parenthesis has no match\n"
+
+-- the same, and nothing where it dropped none
+abbrev pub dropped_text : ℕ → List ℕ
+dropped_text n = if n == 0 then [] else drop_line n
+
+-- a byte that no character of UTF-8 begins with, but that stands within one
+abbrev pub is_within : ℕ → Bool
+is_within b = nat_le 128 b && nat_le b 191
+
+-- a byte goes into the next line: it has no column left in its own
+abbrev pub is_folded : ℕ → ℕ → ℕ → Bool
+is_folded columns at b =
+    nat_lt 0 columns && (nat_le columns at && (not (b == 10) && not (is_within b)))
+
+-- a byte in front of which so many columns of its line are taken
+abbrev pub byte_at : ℕ → ℕ → ℕ → List ℕ
+byte_at columns at b = if is_folded columns at b then codes "\n          " ++ b ∷ [] else b ∷ []
+
+-- how many columns are taken behind it
+abbrev pub column_behind : ℕ → ℕ → ℕ → ℕ
+column_behind columns at b =
+    if is_folded columns at b then 11
+    else (if b == 10 then 0 else (if is_within b then at else min (at + 1) (2 ^ 32 - 1)))
+
+-- a text whose lines have at most so many columns, behind so many of a line
+abbrev pub folded_text : ℕ → ℕ → List ℕ → List ℕ
+folded_text columns at [] = []
+folded_text columns at (b ∷ text) =
+    byte_at columns at b ++ folded_text columns (column_behind columns at b) text
 
 -- how a run ended
 abbrev pub fate_text : Fate → List ℕ

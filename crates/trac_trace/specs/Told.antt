@@ -21,9 +21,9 @@ use Rattle.trac_events.specs.declared.place.Place.{Place}
 use Rattle.trac_trace.specs.declared.calls.Oddity.{Oddity}
 use Rattle.trac_trace.specs.declared.calls.Oddity.TheVariants.{NoFunction, NoForm, Default}
 use Rattle.trac_trace.specs.declared.events.Event.{Event}
-use Rattle.trac_trace.specs.declared.events.Event.TheVariants.{Done, Printed, Called}
+use Rattle.trac_trace.specs.declared.events.Event.TheVariants.{Done, Dropped, Printed, Called}
 use Rattle.trac_trace.specs.declared.views.Views.{Views}
-use Rattle.trac_trace.specs.Lines.{byte_text, column_text, output_text, step_text}
+use Rattle.trac_trace.specs.Lines.{byte_text, column_text, dropped_text, output_text, step_text}
 use Rattle.trac_trace.specs.Shown.{cut_text, opening_text, raw_cell}
 
 -- a form: its name and, behind a colon, its body as `pf` displays it, both cut to a width
@@ -94,12 +94,17 @@ changes_text number form deleted =
 abbrev pub has_steps : Views → Bool
 has_steps views = not views.calls && not views.forms
 
+-- what becomes of the strings is shown with the steps and with the calls
+abbrev pub has_strings : Views → Bool
+has_strings views = has_steps views || views.calls
+
 -- what the views show of an event
 abbrev pub event_text : Views → Event → List ℕ
 event_text views (Done step neutral active) =
     if has_steps views
     then step_text views.width step.number step.rule step.size step.need neutral.now active.now
     else []
+event_text views (Dropped count) = if has_strings views then dropped_text count else []
 event_text views (Printed bytes) = if has_steps views then output_text bytes.now else []
 event_text views (Called call) =
     if views.calls then called_text call.number call.mode call.depth call.arguments.now

@@ -3,7 +3,7 @@ ghost use Rattle.std.specs.Prelude.{◌≡◌, ◌++◌, OnOk};
 ghost use Rattle.trac_trace.specs.Told.{change_line, changes_text, event_text};
 
 use crate::calls::{Called, push_call, unless_empty};
-use crate::lines::{Step, push, push_column, push_printed, push_step};
+use crate::lines::{Step, push, push_column, push_dropped, push_printed, push_step};
 use crate::views::Views;
 use std::alloc::{AllocError, Global};
 use trac_core::Cell;
@@ -13,6 +13,8 @@ use trac_core::Cell;
 pub enum Event<'e> {
     /// It was done, and left these cells in the neutral and in the active string.
     Done(Step, &'e [Cell], &'e [Cell]),
+    /// It dropped so many characters, since a left parenthesis has no match.
+    Dropped(u32),
     /// It printed these bytes.
     Printed(&'e [u8]),
     /// It performed a call.
@@ -32,6 +34,7 @@ pub fn push_event(
         Event::Done(step, neutral, active) if views.has_steps() => {
             push_step(lines, &step, neutral, active, views.width)
         }
+        Event::Dropped(count) if views.has_strings() && count > 0 => push_dropped(lines, count),
         Event::Printed(bytes) if views.has_steps() && !bytes.is_empty() => {
             push_printed(lines, bytes)
         }

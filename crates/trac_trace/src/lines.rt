@@ -1,6 +1,7 @@
 //! The lines of a trace. Their form is this processor's own choice.
-ghost use Rattle.std.specs.Prelude.{◌≡◌, ◌++◌, OnOk, decimal};
+ghost use Rattle.std.specs.Prelude.{◌≡◌, ◌++◌, IfOk, OnOk, decimal};
 ghost use Rattle.trac_trace.specs.Lines.{byte_text, bytes_text, cell_text, cells_text, column_text};
+ghost use Rattle.trac_trace.specs.Lines.{byte_at, column_behind, drop_line, folded_text, is_folded};
 ghost use Rattle.trac_trace.specs.Lines.{end_text, fate_text, head_text, name_text, number_16};
 ghost use Rattle.trac_trace.specs.Lines.{is_short, printed_text, step_text, string_text};
 
@@ -22,6 +23,9 @@ const FORMS_HEAD: &[u8; 13] = b"  step  form\n";
 const DIGITS: &[u8; 16] = b"0123456789abcdef";
 
 const BLANKS: &[u8; 6] = b"      ";
+
+// What stands between a line and what goes on in the next.
+const FOLD: &[u8; 11] = b"\n          ";
 
 /// A step that was done.
 #[derive(Clone, Copy)]
@@ -81,6 +85,57 @@ pub fn push_printed(line: &mut Vec<u8>, bytes: &[u8]) -> Result<(), AllocError>
     push(line, b"        prints: ")?;
     push_bytes(line, bytes)?;
     push(line, b"\n")
+}
+
+/// Adds the line of how many characters a step dropped, since its left parenthesis has no match. An
+/// error is want of memory.
+pub fn push_dropped(line: &mut Vec<u8>, count: u32) -> Result<(), AllocError>
+    ensures { OnOk result (line.new.items ≡ line.old.items ++ drop_line count) }
+{
+    push(line, b"        drops: ")?;
+    push_number(line, u64::from(count))?;
+    push(
+        line,
+        b" characters, since a left parenthesis has no match\n",
+    )
+}
+
+/// Adds a text whose lines have at most so many columns: a longer one goes on in the next, behind ten
+/// blanks. 0 is no bound. A column is a byte of ASCII or a whole character of UTF-8. An error is want of
+/// memory.
+pub fn push_folded(lines: &mut Vec<u8>, text: &[u8], columns: u32) -> Result<(), AllocError>
+    ensures { OnOk result (lines.new.items ≡ lines.old.items ++ folded_text columns 0 text.now) }
+{
+    let mut at = 0;
+    for byte in text {
+        at = push_at(lines, *byte, at, columns)?;
+    }
+    Ok(())
+}
+
+// Adds a byte in front of which so many columns of its line are taken, and gives how many are behind it.
+fn push_at(lines: &mut Vec<u8>, byte: u8, at: u32, columns: u32) -> Result<u32, AllocError>
+    ensures text { IfOk result (λ _. lines.new.items ≡ lines.old.items ++ byte_at columns at byte) }
+    ensures at { IfOk result (λ behind. behind ≡ column_behind columns at byte) }
+{
+    if is_folded(byte, at, columns) {
+        push(lines, FOLD)?;
+        push(lines, &[byte])?;
+        return Ok(11);
+    }
+    push(lines, &[byte])?;
+    Ok(match byte {
+        b'\n' => 0,
+        128..=191 => at,
+        _ => at.saturating_add(1),
+    })
+}
+
+// Whether a byte goes into the next line, which has no column left in its own.
+fn is_folded(byte: u8, at: u32, columns: u32) -> bool
+    ensures { result ≡ is_folded columns at byte }
+{
+    0 < columns && columns <= at && byte != b'\n' && !matches!(byte, 128..=191)
 }
 
 /// Adds the last line, on how the run ended. An error is want of memory.

@@ -16,6 +16,7 @@ mod events;
 mod faults;
 mod forms;
 mod largest;
+mod last;
 mod lines;
 mod oddities;
 mod printed;
@@ -124,10 +125,10 @@ fn show(rt: &HostRuntime, options: &Options) -> Result<u8, TraceError> {
     }
     if options.views.last == 0 {
         let mut source = Input::new(rt.stdin());
-        return Ok(status(trace(rt.alloc(), options, &mut source, &mut output)?));
+        return Ok(status(trace(rt.alloc(), options, &mut source, &mut output)?.fate));
     }
     let reader = RetryingReader::new(rt.stdin());
-    Ok(status(trace_last(rt.alloc(), options, reader, &mut output)?))
+    Ok(status(trace_last(rt.alloc(), options, reader, &mut output)?.fate))
 }
 
 // Reads the whole script, runs it, and shows what is suspicious in it.

@@ -154,7 +154,7 @@ impl Shown {
         push_event(&mut self.lines, self.alloc, &self.views, event)
     }
 
-    // Tells that a step was done.
+    // Tells that a step was done, and what it dropped.
     fn tell_step(&mut self, before: &Before, machine: &Machine, need: u32) -> Result<(), AllocError>
         ensures lines { has_steps self.old.views ≡ true → OnOk result (TellsDone self.old.views.width
             before.now need machine.now self.old.lines.items self.new.lines.items) }
@@ -167,7 +167,8 @@ impl Shown {
             size: before.size,
             need,
         };
-        self.show(&Event::Done(step, machine.neutral(), machine.active()))
+        self.show(&Event::Done(step, machine.neutral(), machine.active()))?;
+        self.show(&Event::Dropped(before.drops))
     }
 
     // Tells the call that a step performed, if it did.

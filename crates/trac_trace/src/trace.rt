@@ -4,6 +4,8 @@ ghost use Rattle.std.specs.Io.KnownBytes.{Appends};
 ghost use Rattle.trac_core.specs.Machine.{reported_input_failures};
 ghost use Rattle.trac_trace.specs.Lines.{output_text};
 
+use crate::last::LastSteps;
+use crate::lines::push_folded;
 use crate::printed::Printed;
 use crate::record::{Record, Recording};
 use crate::shown::Shown;
@@ -12,9 +14,8 @@ use std::alloc::{AllocError, Global};
 use std::io;
 use std::io::{Read, Write};
 use thiserror::Error;
-use trac_core::{Fate, Input, Machine, Output, Report, SliceSource, Source};
+use trac_core::{Fate, Input, Machine, Output, SliceSource, Source};
 use trac_space::make_block;
-use trac_words::Settings;
 
 /// Why a trace broke off.
 #[derive(Debug, Drop, Error)]
@@ -33,77 +34,114 @@ impl From<AllocError> for TraceError {
     }
 }
 
+/// What a trace came to.
+#[derive(Clone, Copy)]
+pub struct Traced {
+    /// How the run ended.
+    pub fate: Fate,
+    /// The first of the last steps of which something was shown, as many as the views ask for.
+    pub first: u64,
+}
+
 /// Runs the script that the source gives, in a workspace of the options' cells and with the steps
-/// that they allow, and writes what their views show of each step, and how the run ended, whose
-/// fate it answers.
+/// that they allow, and writes what their views show of each step, and how the run ended.
 pub fn trace<I: Source, W: Write>(
     alloc: Global,
     options: &Options,
     source: &mut I,
     output: &mut W,
-) -> Result<Fate, TraceError>
+) -> Result<Traced, TraceError>
     requires source_counts { I.failure_count source.old < 2 ^ 64 - 1 }
-    ensures input_failed { IfOk result (λ fate. I.failure_count source.new ≡
-        I.failure_count source.old + reported_input_failures fate) }
+    ensures input_failed { IfOk result (λ traced. I.failure_count source.new ≡
+        I.failure_count source.old + reported_input_failures traced.fate) }
 {
     let mut block = make_block(alloc, options.settings.cells)?;
     let mut machine = Machine::over(&mut block, options.settings.steps);
     let mut printed = Printed::new(alloc);
     let mut shown = Shown::new(alloc, options.views)?;
-    write(output, shown.lines())?;
+    let mut last = LastSteps::new(alloc, options.views.last);
+    write_folded(alloc, output, shown.lines(), options.views.columns)?;
     loop {
         let before = shown.look(&machine)?;
         let fate = machine.step(source, &mut printed);
         let need = machine.take_peak();
         shown.tell(&before, &machine, fate, need, printed.as_bytes())?;
         printed.clear();
+        last.add(machine.steps(), shown.lines())?;
         if let Some(fate) = fate {
             shown.tell_end(fate, &machine)?;
-            write(output, shown.lines())?;
-            return Ok(fate);
+            write_folded(alloc, output, shown.lines(), options.views.columns)?;
+            let first = last.first();
+            return Ok(Traced { fate, first });
         }
-        write(output, shown.lines())?;
+        write_folded(alloc, output, shown.lines(), options.views.columns)?;
     }
 }
 
-/// Runs the script that the reader gives, as `trace` does, and shows the last steps before its end.
-/// The script is run once, which counts its steps and keeps what it reads, and then again over that.
-/// This takes the place of a ring of steps, since the strings of each step may be as long as the
-/// block. The second run has the same fate: it reads the same bytes, and fails where the first did.
+/// Runs the script that the reader gives, as `trace` does, and shows the last steps of which the views
+/// show something. The script is run once, which finds the first of these and keeps what it reads, and
+/// then again over that. This takes the place of a ring of lines, since the strings of each step may be
+/// as long as the block. The second run has the same fate: it reads the same bytes, and fails where the
+/// first did.
 pub fn trace_last<R: Read + Drop, W: Write>(
     alloc: Global,
     options: &Options,
     reader: R,
     output: &mut W,
-) -> Result<Fate, TraceError> {
+) -> Result<Traced, TraceError> {
     let mut record = Record::new(alloc);
-    let report = run_once(alloc, &options.settings, reader, &mut record)?;
+    let once = run_once(alloc, options, reader, &mut record)?;
     if !record.is_whole {
         return Err(TraceError::NoMemory);
     }
-    let fails_at = match report.fate {
+    let fails_at = match once.fate {
         Fate::InputFailed => Some(record.bytes.len() as u64),
         _ => None,
     };
     let options = Options {
-        views: options.views.of_last(report.steps),
+        views: options.views.beginning_at(once.first),
         ..*options
     };
     let mut source = SliceSource::new(record.bytes.as_slice(), fails_at);
     trace(alloc, &options, &mut source, output)
 }
 
-// Runs a script, and keeps what it reads.
+// Runs a script, keeps what it reads, and finds the first of the last steps that are shown. Where the
+// steps themselves are shown they need only be counted.
 fn run_once<R: Read + Drop>(
     alloc: Global,
-    settings: &Settings,
+    options: &Options,
     reader: R,
     record: &mut Record,
-) -> Result<Report, AllocError> {
-    let mut block = make_block(alloc, settings.cells)?;
+) -> Result<Traced, TraceError> {
     let mut source = Input::new(Recording { reader, record });
+    if !options.views.has_steps() {
+        let views = options.views.of_all_steps();
+        let options = Options { views, ..*options };
+        return trace(alloc, &options, &mut source, &mut io::sink());
+    }
+    let mut block = make_block(alloc, options.settings.cells)?;
     let mut sink = Output::new(io::sink());
-    Ok(Machine::over(&mut block, settings.steps).run(&mut source, &mut sink))
+    let report = Machine::over(&mut block, options.settings.steps).run(&mut source, &mut sink);
+    Ok(Traced {
+        fate: report.fate,
+        first: options.views.first_of(report.steps),
+    })
+}
+
+// Writes a text whose lines have at most so many columns.
+fn write_folded<W: Write>(
+    alloc: Global,
+    output: &mut W,
+    text: &[u8],
+    columns: u32,
+) -> Result<(), TraceError> {
+    if columns == 0 {
+        return write(output, text);
+    }
+    let mut lines = Vec::new(alloc);
+    push_folded(&mut lines, text, columns)?;
+    write(output, &lines)
 }
 
 /// Writes all the bytes.

@@ -1,12 +1,12 @@
 //! What of a run is shown.
 ghost use Rattle.std.specs.Prelude.{◌≡◌, ◌&&◌, ◌+◌, ◌-◌, ◌^◌, max, min, nat_le, false};
-ghost use Rattle.trac_trace.specs.Told.{has_steps};
+ghost use Rattle.trac_trace.specs.Told.{has_steps, has_strings};
 
 use trac_words::Settings;
 
 /// The most steps before the end that `--last` can show, this processor's own choice.
 pub const MOST_LAST: u64 = 1_000_000;
-/// The widest that `--width` can make a text, this processor's own choice.
+/// The widest that `--width` can make a text, and `--columns` a line, this processor's own choice.
 pub const MOST_WIDTH: u32 = 16_777_216;
 
 /// The views of a run, and the steps that they are of. All of it is this processor's own choice.
@@ -16,10 +16,12 @@ pub struct Views {
     pub from: u64,
     /// The last step that is shown.
     pub to: u64,
-    /// How many steps before the end are shown, 0 for all.
+    /// How many of the last steps of which there is something to show are shown, 0 for all.
     pub last: u64,
     /// The most bytes of a text that are shown, 0 for all.
     pub width: u32,
+    /// The most columns of a line, 0 for any number.
+    pub columns: u32,
     /// The calls that were performed are shown.
     pub calls: bool,
     /// The forms that changed are shown, and all forms at the end.
@@ -43,6 +45,13 @@ impl Views {
         !self.calls && !self.forms
     }
 
+    /// Whether it is shown what becomes of the strings: with the steps and with the calls.
+    pub fn has_strings(&self) -> bool
+        ensures { result ≡ has_strings self.now }
+    {
+        self.has_steps() || self.calls
+    }
+
     /// Whether a step is one of those that are shown.
     pub fn has(&self, number: u64) -> bool
         ensures { result ≡ (nat_le self.now.from number && nat_le number self.now.to) }
@@ -50,15 +59,31 @@ impl Views {
         self.from <= number && number <= self.to
     }
 
-    /// The same views of those steps alone that are among the last ones of so many.
-    pub fn of_last(&self, steps: u64) -> Views
-        ensures { result ≡ record self.now {
-          from = max self.now.from (min (steps - self.now.last + 1) (2 ^ 64 - 1));
-        } }
+    /// The same views of all steps.
+    pub fn of_all_steps(&self) -> Views
+        ensures { result ≡ record self.now { from = 1; to = 2 ^ 64 - 1 } }
     {
-        let first = steps.saturating_sub(self.last).saturating_add(1);
+        Views {
+            from: 1,
+            to: u64::MAX,
+            ..*self
+        }
+    }
+
+    /// The first of the last steps of so many.
+    pub fn first_of(&self, steps: u64) -> u64
+        ensures { result ≡ min (steps - self.now.last + 1) (2 ^ 64 - 1) }
+    {
+        steps.saturating_sub(self.last).saturating_add(1)
+    }
+
+    /// The same views of the steps from this one on.
+    pub fn beginning_at(&self, first: u64) -> Views
+        ensures { result ≡ record self.now { from = max self.now.from first; last = 0 } }
+    {
         Views {
             from: self.from.max(first),
+            last: 0,
             ..*self
         }
     }

@@ -90,9 +90,9 @@ fn place_of_check(words: &[String]) -> usize
 }
 
 /// Reads the options from the program's words, its name first: `trac_trace [--cells N] [--steps N]
-/// [--from N] [--to N] [--last N] [--width N] [--calls] [--forms] [--warn]`. Where the words don't
-/// say, there are 65536 cells and 1000000 steps, all steps are shown, and 100 bytes of a text. The error
-/// is clap's, for words that it refuses, numbers out of range among them, for help, or for want of
+/// [--from N] [--to N] [--last N] [--width N] [--columns N] [--calls] [--forms] [--warn]`. Where the
+/// words don't say, there are 65536 cells and 1000000 steps, all steps are shown, and 100 bytes of a
+/// text in lines of any length. The error is clap's, for words that it refuses, numbers out of range among them, for help, or for want of
 /// memory. The command is this processor's own choice.
 fn options_from(alloc: Global, words: Vec<String>) -> Result<Options, Error>
     ensures taken { let texts = map string_bytes words.items in
@@ -115,6 +115,7 @@ fn options_from(alloc: Global, words: Vec<String>) -> Result<Options, Error>
     let to = matches.get_one::<u64>("to").unwrap();
     let last = matches.get_one::<u64>("last").unwrap();
     let width = matches.get_one::<u32>("width").unwrap();
+    let columns = matches.get_one::<u32>("columns").unwrap();
     let settings = Settings {
         cells,
         steps,
@@ -125,6 +126,7 @@ fn options_from(alloc: Global, words: Vec<String>) -> Result<Options, Error>
         to,
         last,
         width,
+        columns,
         calls: matches.get_flag("calls"),
         forms: matches.get_flag("forms"),
         warn: matches.get_flag("warn"),
@@ -141,6 +143,7 @@ fn command<'a>(alloc: Global, name: &'a str) -> Result<Command<'a>, AllocError>
     let to = value_parser!(u64).range(1..=MOST_STEPS as i64);
     let last = value_parser!(u64).range(0..=MOST_LAST as i64);
     let width = value_parser!(u32).range(0..=MOST_WIDTH as i64);
+    let columns = value_parser!(u32).range(0..=MOST_WIDTH as i64);
     numbers_command(alloc, name, about, "1000000")?
         .override_usage(
             "trac_trace [OPTIONS] < SCRIPT\n       trac_trace [OPTIONS] --check FILE ..\n       trac_trace --version",
@@ -150,10 +153,13 @@ fn command<'a>(alloc: Global, name: &'a str) -> Result<Command<'a>, AllocError>
             "The last step to show, 1 to 1000000000000",
         ))?
         .arg(number(alloc, "last", last, "0").help(
-            "So many steps before the end, 0 for all, to 1000000",
+            "So many of the last steps of the view, 0 for all, to 1000000",
         ))?
         .arg(number(alloc, "width", width, "100").help(
             "Bytes of a text in a line, 0 for all, to 16777216",
+        ))?
+        .arg(number(alloc, "columns", columns, "0").help(
+            "Columns of a line, 0 for any number, to 16777216",
         ))?
         .arg(flag(alloc, "calls").help("Show the calls that are performed"))?
         .arg(flag(alloc, "forms").help("Show the forms that change, and all at the end"))?

@@ -1,5 +1,5 @@
 -- Warnings that stay in front of others.
-use Rattle.std.proofs.Common.{◌≡◌, ◌∙◌, ◌++◌, ◌∷◌, List, [], ap, sym, refl, append-nil, append_assoc}
+use Rattle.std.proofs.Common.{◌≡◌, ◌∙◌, ◌++◌, ◌∷◌, List, [], ap, sym, append-nil, append_assoc}
 use Rattle.trac_warnings.specs.Watched.{Kept}
 use Rattle.trac_warnings.specs.declared.warning.Warning.{Warning}
 

@@ -1,5 +1,5 @@
 -- Where what is scanned was written.
-use Rattle.std.specs.Prelude.{◌≡◌, ℕ, ◌+◌, ◌-◌, ◌^◌, ◌==◌, List, [], ◌∷◌, Option, Some, None, min, nat_lt}
+use Rattle.std.specs.Prelude.{ℕ, ◌+◌, ◌-◌, ◌^◌, ◌==◌, List, [], ◌∷◌, Option, Some, None, min, nat_lt}
 use Rattle.std.specs.Prelude.{if◌then◌else◌}
 use Rattle.trac_core.specs.declared.machine.view.ScanningRule.{ScanningRule}
 use Rattle.trac_core.specs.declared.machine.view.ScanningRule.TheVariants as row

@@ -212,7 +212,7 @@ impl Watch {
             ScanningRule::Idling => self.begin_again(),
             ScanningRule::ActiveCall | ScanningRule::NeutralCall => self.calls.push(origin)?,
             ScanningRule::Argument => self.commas.push(argument_origin(origin, machine.active()))?,
-            ScanningRule::Protection => self.tell_protection(before, machine, origin)?,
+            ScanningRule::Protection => self.tell_protection(before, origin)?,
             ScanningRule::EndOfCall => self.tell_call(before, machine)?,
             _ => {}
         }
@@ -335,24 +335,13 @@ impl Watch {
         }
     }
 
-    // Looks at a left parenthesis behind which a machine took away what it did.
-    fn tell_protection(
-        &mut self,
-        before: &Before,
-        machine: &Machine,
-        origin: Origin,
-    ) -> Result<(), AllocError>
+    // Warns of a left parenthesis that has no match, with the characters of its string that are dropped.
+    fn tell_protection(&mut self, before: &Before, origin: Origin) -> Result<(), AllocError>
         ensures kept { Kept self.old.warnings.items self.new.warnings.items }
         ensures runs { self.new.runs.items ≡ self.old.runs.items }
         ensures read { self.new.read ≡ self.old.read }
     {
-        let kept = machine.neutral().len().saturating_sub(self.neutral);
-        let behind = machine
-            .active()
-            .len()
-            .saturating_add(kept)
-            .saturating_add(2);
-        if before.active == behind {
+        if before.drops == 0 {
             return Ok(());
         }
         let rest = match self.strings.last() {

@@ -9,12 +9,6 @@ typedef uint64_t u64;
 typedef int32_t i32;
 typedef int64_t i64;
 
-/* What a call of the engine has beside its arguments: a stack of its own, from the lowest address on, and where
- * what is used of it begins. */
-struct engine {
-    u64 stack, stack_pointer;
-};
-
 /* What proved code never reaches. */
 #if defined(__GNUC__) && !defined(__TINYC__)
 #define trap() __builtin_trap()

@@ -3,21 +3,16 @@
 
 /* The bytes of that stack, beside what the functions above take of C's: what the deepest calls can take, the 16 bytes
  * that the engine keeps free, and what is lost where it is aligned. */
-enum { STACK = DEEPEST_STACK + 16 + 32 };
+enum { STACK = DEEPEST_STACK + 16 + 16 };
 
 struct lent {
-    struct engine engine;
     u8 stack[STACK];
 };
 
 static u64 address_of(const void *place) { return (u64)(uintptr_t)place; }
 
-/* An engine with a stack whose ends are multiples of 16. */
-static struct engine *lend(struct lent *to) {
-    to->engine.stack = (address_of(to->stack) + 15) & ~(u64)15;
-    to->engine.stack_pointer = address_of(to->stack + STACK) & ~(u64)15;
-    return &to->engine;
-}
+/* The end of a stack, a multiple of 16: what a function takes of it lies before the end that it is handed. */
+static u64 lend(struct lent *to) { return address_of(to->stack + STACK) & ~(u64)15; }
 
 /* A report as the engine writes it. */
 struct engine_report {

@@ -2,7 +2,8 @@
 
 Both are wasm2wat's text of one module with 64-bit addresses, linked to two places, whose instructions are those of
 whole numbers alone. A number that differs between them is an address: of the module's tables, which the C has as an
-array. All other addresses are the caller's. So the C takes no memory, and has no state but a stack that is lent."""
+array. All other addresses are the caller's. So the C takes no memory, and has no state but a stack that is lent. Each
+function is handed where that ends for it, since none leaves it otherwise than it found it."""
 import functools
 import re
 import sys
@@ -13,8 +14,10 @@ BINARY = {'add': '+', 'sub': '-', 'mul': '*', 'and': '&', 'or': '|', 'xor': '^'}
 COMPARISONS = {'eq': '==', 'ne': '!=', 'lt': '<', 'gt': '>', 'le': '<=', 'ge': '>='}
 # Longer expressions are put into a variable.
 LONGEST = 90
+# Conditions whose answer is known.
+NEVER, ALWAYS = '0u', '1u'
 DEFINED = re.compile(r' *const u\d\d (t\d+) = (.*)')
-GLOBALS = {'$__stack_pointer': 'e->stack_pointer'}
+STACK = '$__stack_pointer'
 # What each export does around its work, which keeps a caller of its own from calling it from within: none here can.
 GUARD = '$__rattle_enter'
 GUARDS = [[['call', GUARD], ['if'], ['unreachable'], ['end']], [['i32.const', '0'], ['global.set', '$in_call']]]
@@ -68,7 +71,7 @@ class Function:
         self.module, self.head, self.kinds, self.body = module, head, kinds, body
         self.lines, self.stack, self.blocks, self.count = [], [], [], 0
         # The texts of what points into the module's stack.
-        self.of_stack = set(GLOBALS.values())
+        self.of_stack = {'stack'}
 
     def say(self, line):
         self.lines.append('    ' * len(self.blocks) + line)
@@ -146,6 +149,8 @@ class Function:
         """Ends the first branch of an if, and begins the other."""
         self.end_value(is_dead)
         block = self.blocks.pop()
+        if block.kind != 'if':
+            raise SystemExit('wasm_to_c.py: another branch of what is always or never done')
         self.say('} else {')
         self.blocks.append(block)
 
@@ -166,14 +171,14 @@ class Function:
             self.say(self.give_back())
         elif self.head.results and self.lines[-1].endswith('trap();'):
             self.say('return 0;')
-        return self.used(self.lines)
+        return self.used(without_empty_blocks(self.lines))
 
     def used(self, lines):
         """The lines, without variables that nothing reads, and with those of the function that something does."""
-        counts = Counter(re.findall(r'\b[tle]\d*\b', '\n'.join(lines)))
+        counts = Counter(re.findall(r'\b(?:[tl]\d+|stack)\b', '\n'.join(lines)))
         first = len(self.head.params)
         found = [f'    {TYPES[kind]} l{i} = 0;' for i, kind in enumerate(self.kinds) if i >= first and counts[f'l{i}']]
-        found += ['    (void)e;'] if not counts['e'] else []
+        found += ['    (void)stack;'] if not counts['stack'] else []
         for line in lines:
             name, call = DEFINED.match(line).groups() if DEFINED.match(line) else ('', '')
             if counts[name] != 1:
@@ -201,7 +206,11 @@ class Function:
 
     def do_if(self, *words):
         [condition] = self.pop(1)
+        if condition.text in (NEVER, ALWAYS):
+            self.open('block', result_of(words), '{')
+            return condition.text == NEVER
         self.open('if', result_of(words), f'if ({bare(condition.text)}) {{')
+        return False
 
     def do_br(self, depth):
         self.say(self.branch(int(depth)))
@@ -209,8 +218,14 @@ class Function:
 
     def do_br_if(self, depth):
         [condition] = self.pop(1)
+        if condition.text == NEVER:
+            return False
         said = self.branch(int(depth))
+        if condition.text == ALWAYS:
+            self.say(said)
+            return True
         self.say(f'if ({bare(condition.text)}) ' + (said if said.count(';') == 1 else f'{{ {said} }}'))
+        return False
 
     def do_br_table(self, *words):
         [value] = self.pop(1)
@@ -252,19 +267,18 @@ class Function:
         self.do_local_get(number)
 
     def do_global_get(self, name):
-        self.stack.append(Value(GLOBALS[name], 'i64', frozenset({'engine'})))
+        self.stack.append(Value('stack', 'i64', frozenset({'stack'})))
 
     def do_global_set(self, name):
         [value] = self.pop(1)
-        self.settle_all('engine')
-        self.say(f'{GLOBALS[name]} = {bare(value.text)};')
+        self.settle_all('stack')
+        self.say(f'stack = {bare(value.text)};')
 
     def do_call(self, name):
         head = self.module.heads[name]
         given = self.pop(len(head.params)) if head.params else []
-        self.settle_all('engine')
         self.settle_all('memory')
-        call = f"{self.module.names[name]}({', '.join(['e', *(bare(value.text) for value in given)])})"
+        call = f"{self.module.names[name]}({', '.join(['stack', *(bare(value.text) for value in given)])})"
         if head.results:
             self.stack.append(self.settle(Value(call, head.results[0])))
         else:
@@ -317,11 +331,12 @@ class Function:
         a, b = self.pop(2)
         signed = f'(i{kind[1:]})' if sign == 's' else ''
         if action in COMPARISONS:
-            left = self.compared(a, b, sign)
-            self.push(f'({signed}{left} {COMPARISONS[action]} {signed}{b.text})', 'i32', a, b)
+            known = self.looks_at_stack(a, b, sign) and (ALWAYS if action in ('ge', 'gt') else NEVER)
+            self.push(known or f'({signed}{a.text} {COMPARISONS[action]} {signed}{b.text})', 'i32', a, b)
         elif action in ('shl', 'shr'):
             by = f'({b.text} & {int(kind[1:]) - 1})' if number_of(b.text) is None else number_of(b.text) % int(kind[1:])
-            self.push(signed_back(kind, sign, f"({signed}{a.text} {'<<' if action == 'shl' else '>>'} {by})"), kind, a, b)
+            shift = '<<' if action == 'shl' else '>>'
+            self.push(signed_back(kind, sign, f'({signed}{a.text} {shift} {by})'), kind, a, b)
         elif action in ('div', 'rem'):
             self.push(signed_back(kind, sign, f"({signed}{a.text} {'/' if action == 'div' else '%'} {signed}{b.text})"),
                       kind, a, b)
@@ -339,14 +354,14 @@ class Function:
         if a.text in self.of_stack and number is not None:
             self.of_stack.add(self.stack[-1].text)
 
-    def compared(self, a, b, sign):
-        """The left side of a comparison. The module tests whether its stack has 16 bytes left, and its stack begins
-        at 0; here it begins where the caller lends it."""
+    def looks_at_stack(self, a, b, sign):
+        """Whether a comparison asks if the module's stack, which begins at 0 there, has 16 bytes left. It always has
+        here, since what is lent is what the deepest calls take, and 16 bytes more."""
         if sign != 's' or b.kind != 'i64' or number_of(b.text) not in (15, 16):
-            return a.text
+            return False
         if a.text not in self.of_stack:
             raise SystemExit(f'wasm_to_c.py: {a.text} is not known to be of the stack')
-        return f'({a.text} - e->stack)'
+        return True
 
     def unary(self, kind, action, sign):
         [a] = self.pop(1)
@@ -356,6 +371,16 @@ class Function:
         if name not in texts:
             raise SystemExit(f'wasm_to_c.py: no translation of {kind}.{name}')
         self.push(texts[name], 'i32' if action == 'eqz' else kind, a)
+
+
+def without_empty_blocks(lines):
+    kept = []
+    for line in lines:
+        if line.strip() == '}' and kept and kept[-1].strip() == '{':
+            kept.pop()
+        else:
+            kept.append(line)
+    return kept
 
 
 def signed_back(kind, sign, text):
@@ -399,7 +424,7 @@ class Module:
                 body.append(re.sub(r'\(;.*?;\)', '', text).split())
                 body = self.end(body)
         # the tables begin where the stack ends
-        self.first = self.starts['$__stack_pointer']
+        self.first = self.starts[STACK]
         self.last = max(self.starts.values())
 
     def part(self, text, body):
@@ -469,7 +494,7 @@ def without_guards(body):
 def frame_of(body):
     """The bytes of the stack that a function takes for itself: its frame, and those of what became a part of it."""
     return sum(abs(int(second[1])) for first, second, third in zip(body, body[1:], body[2:])
-               if first == ['global.get', '$__stack_pointer'] and second[0] == 'i64.const'
+               if first == ['global.get', STACK] and second[0] == 'i64.const'
                and third[0] in ('i64.add', 'i64.sub'))
 
 
@@ -515,7 +540,7 @@ def print_functions(module):
     for name, head in module.heads.items():
         params = ''.join(f', {TYPES[kind]} l{i}' for i, kind in enumerate(head.params))
         result = TYPES[head.results[0]] if head.results else 'void'
-        heads[name] = f'static {result} {module.names[name]}(struct engine *e{params})'
+        heads[name] = f'static {result} {module.names[name]}(u64 stack{params})'
         print(heads[name] + ';')
     for name, kinds, body in module.functions:
         if name == GUARD:

@@ -9,13 +9,12 @@ ghost use Rattle.trac_functions.specs.Flat.{memory_of, arguments_at};
 ghost use Rattle.trac_functions.specs.Calls.{world};
 ghost use Rattle.trac_core.specs.Attempts.{function_at};
 ghost use Rattle.trac_core.specs.Display.{display_named};
-ghost use Rattle.trac_core.specs.Session.{next_printed, step_prints, printed_in};
+ghost use Rattle.trac_core.specs.Performed.{performs};
+ghost use Rattle.trac_core.specs.Session.{next_function, next_printed, step_prints, printed_in};
 
 use super::Machine;
 use super::closing::{closed_call, named_at};
-use crate::call::named;
 use crate::display::display_len;
-use crate::scan::InnermostCall;
 use trac_forms::Work;
 use trac_language::Function;
 
@@ -35,10 +34,11 @@ impl<'a> Machine<'a> {
         printed_len(&mut self.work)
     }
 
-    /// Whether so many bytes are room for what the next step prints, as `prints` counts it. Where a
-    /// text is printed and there is room for the whole neutral string, it isn't measured. This
-    /// processor's own choice.
-    pub fn prints_within(&mut self, free: u64) -> bool
+    /// Whether `free` bytes are room for what the next step prints, as `prints` counts it. The caller
+    /// says which function that step performs, as `next_function` does. A text isn't measured where
+    /// there is room for the whole neutral string. This processor's own choice.
+    pub fn prints_within(&mut self, function: Option<Function>, free: u64) -> bool
+        requires asked { function ≡ next_function self.old }
         ensures within { (input : Input) →
             result ≡ nat_le (length (next_printed self.old input)) free }
         ensures same { self.new ≡ self.old }
@@ -49,12 +49,14 @@ impl<'a> Machine<'a> {
         if self.steps == self.allowance {
             return true;
         }
-        fits_within(&mut self.work, free)
+        fits_within(&mut self.work, function, free)
     }
 }
 
-/// Whether so many bytes are room for what a step over these contents prints.
-fn fits_within(work: &mut Work, free: u64) -> bool
+/// Whether `free` bytes are room for what a step over these contents prints, which performs this
+/// function.
+fn fits_within(work: &mut Work, function: Option<Function>, free: u64) -> bool
+    requires asked { (meta : ℕ) → function ≡ performs (memory_of meta work.old) }
     ensures within { (meta : ℕ) (input : Input) →
         result ≡ nat_le (length (step_prints (memory_of meta work.old) input)) free }
     ensures same { work.new ≡ work.old }
@@ -62,13 +64,15 @@ fn fits_within(work: &mut Work, free: u64) -> bool
 {
     match closed_call(work) {
         None => true,
-        Some(place) => call_fits(work, place, free),
+        Some(place) => call_fits(work, place, function, free),
     }
 }
 
-/// The same of what the innermost call prints, whose mark stands at the place.
-fn call_fits(work: &mut Work, place: u32, free: u64) -> bool
+/// Whether `free` bytes are room for what the innermost call prints, whose mark stands at the place and
+/// which names this function.
+fn call_fits(work: &mut Work, place: u32, function: Option<Function>, free: u64) -> bool
     requires innermost { IsLastCall work.old.neutral place }
+    requires named { function ≡ function_at work.old.neutral place }
     requires sound { IsSound work.old }
     ensures within { (meta : ℕ) (input : Input) →
         let args = arguments_at work.old.neutral place in
@@ -77,20 +81,17 @@ fn call_fits(work: &mut Work, place: u32, free: u64) -> bool
     ensures same { work.new ≡ work.old }
     ensures sound { IsSound work.new }
 {
-    if u64::from(work.neutral_len()) <= free && !displays(work, place) {
+    if u64::from(work.neutral_len()) <= free && !displays(function) {
         return true;
     }
     u64::from(call_len(work, place)) <= free
 }
 
-/// Whether the innermost call displays a form, whose mark stands at the place.
-fn displays(work: &Work, place: u32) -> bool
-    requires innermost { IsLastCall work.now.neutral place }
-    requires sound { IsSound work.now }
-    ensures { result ≡ false → function_at work.now.neutral place ≢ Some PrintForm }
+/// Whether a call of the function displays a form.
+fn displays(function: Option<Function>) -> bool
+    ensures { result ≡ false → function ≢ Some PrintForm }
 {
-    let plain = work.neutral_len();
-    match named(work, InnermostCall { place, plain }).function {
+    match function {
         None => false,
         Some(function) => match function {
             Function::PrintForm => true,

@@ -163,9 +163,10 @@ impl<'a> Machine<'a> {
         }
     }
 
-    /// The function that the next step performs, none where the run is over or the allowance is
-    /// used up.
-    fn next_function(&self) -> Option<Function>
+    /// The function that the next step performs. `None` where it performs no call, or one whose name
+    /// no function has, and where there is no next step: the run is over, or the allowance is used up.
+    /// This processor's own choice.
+    pub fn next_function(&self) -> Option<Function>
         ensures { result ≡ next_function self.now }
     {
         if self.fate.is_none() && self.steps < self.allowance {

@@ -1,12 +1,14 @@
 //! What a caller who drives a machine step by step may look at.
-ghost use Rattle.std.specs.Prelude.{◌≡◌, slice_get, Some};
+ghost use Rattle.std.specs.Prelude.{◌≡◌, length, slice_get, Some};
 ghost use Rattle.trac_language.specs.State.{size};
 ghost use Rattle.trac_language.specs.Rule.{rule};
 ghost use Rattle.trac_space.specs.Texts.{text_of_cells};
 ghost use Rattle.trac_functions.specs.Flat.{neutral_of};
-ghost use Rattle.trac_core.specs.View.{neutral_in, row_of};
+ghost use Rattle.trac_core.specs.View.{dropped, neutral_in, row_of};
+ghost use Rattle.trac_forms.specs.Contents.{IsSound};
 
 use super::Machine;
+use crate::runs::matching;
 use crate::scan::{character, is_at};
 use trac_forms::{Cell, Work};
 
@@ -73,6 +75,16 @@ impl<'a> Machine<'a> {
         rule_of(&self.work)
     }
 
+    /// How many characters the next step drops: all of the active string, where it begins with a left
+    /// parenthesis that has no match there (this processor's own choice), and else none. What other
+    /// rules delete, as layout, doesn't count.
+    pub fn drops(&self) -> u32
+        ensures { let active = self.now.memory.active in
+            result ≡ dropped (rule active) (length active) }
+    {
+        dropped_from(&self.work)
+    }
+
     /// The peak, in cells, which then counts from 0 again:
     /// called after each step it tells what that step needed.
     pub fn take_peak(&mut self) -> u32
@@ -82,6 +94,21 @@ impl<'a> Machine<'a> {
         let peak = self.peak;
         self.peak = 0;
         peak
+    }
+}
+
+/// How many characters of the active string a step over these contents drops.
+fn dropped_from(work: &Work) -> u32
+    requires sound { IsSound work.now }
+    ensures { let active = text_of_cells work.now.active in
+        result ≡ dropped (rule active) (length active) }
+{
+    if !is_at(work, 0, b'(') {
+        return 0;
+    }
+    match matching(work.active_part(1, work.active_len())) {
+        Some(_) => 0,
+        None => work.active_len(),
     }
 }
 

@@ -5,13 +5,13 @@ use Rattle.trac_trace.proofs.trace.trace.Goals as goal
 
 pub returns-in-Some : goal.returns-in-Some
 returns-in-Some g c =
-    let i = c.loop-shown.invariant in
-    let told = last-failures c.loop-shown.machine.fate c.in-Some.fate i.not_over in
+    let i = c.loop-last.invariant in
+    let told = last-failures c.loop-last.machine.fate c.in-Some.fate i.not_over in
     record { input_failed = omega (arith, c.in-Some.ensures.input_failed, told, i.source_failures) }
 
-pub loop-shown-preserved : goal.loop-shown-preserved
-loop-shown-preserved g c =
-    let i = c.loop-shown.invariant in
+pub loop-last-preserved : goal.loop-last-preserved
+loop-last-preserved g c =
+    let i = c.loop-last.invariant in
     let h = c.in_default.ensures in
     let source_failed = rw i.not_over at h.input_failed in
     let sink_failed = rw i.not_over at h.output_failed in

@@ -2,8 +2,8 @@ use Rattle.std.proofs.Common.{◌≡◌, ◌-◌, None}
 use Rattle.trac_trace.proofs.trace.trace.Given as goal
 
 -- the run is not over, and no device has failed
-abbrev pub invariant-loop-shown : goal.invariant-loop-shown
-invariant-loop-shown g l =
+abbrev pub invariant-loop-last : goal.invariant-loop-last
+invariant-loop-last g l =
     record {
       not_over : l.machine.fate ≡ None;
       source_failures : g.I.Source.failure_count l.source ≡ g.I.Source.failure_count l.initial.source;
@@ -11,5 +11,5 @@ invariant-loop-shown g l =
     }
 
 -- the steps that are left
-abbrev pub decreases-loop-shown : goal.decreases-loop-shown
-decreases-loop-shown g l = l.machine.allowance - l.machine.steps
+abbrev pub decreases-loop-last : goal.decreases-loop-last
+decreases-loop-last g l = l.machine.allowance - l.machine.steps

@@ -7,7 +7,7 @@ use Rattle.clap.specs.declared.builder.arg.Arg.{Arg}
 use Rattle.clap.specs.declared.builder.value_parser.ValueParser.{ValueParser}
 use Rattle.clap.specs.declared.builder.value_parser.ValueParser.TheVariants as parser
 use Rattle.trac_words.specs.CommandLine.{number_option}
-use Rattle.trac_trace.specs.CommandLine.{calls_flag, forms_flag, from_option, last_option, to_option, views_command, warn_flag, width_option}
+use Rattle.trac_trace.specs.CommandLine.{calls_flag, forms_flag, from_option, last_option, to_option, views_command, warn_flag, width_option, columns_option}
 use Rattle.trac_trace.proofs.words.command.Goals as goal
 
 -- the numbers that `u64` can hold, narrowed to a range
@@ -18,7 +18,7 @@ narrowed low high least most q r given is_low is_high is =
     is (subst (λ (i : ℤ). NarrowsTo (parser.Unsigned 0 18446744073709551615) (Some least) (Some i) r) is_high at_low)
 
 pub returns : goal.returns
-unfolding views_command from_option to_option last_option width_option calls_flag forms_flag warn_flag
+unfolding views_command from_option to_option last_option width_option columns_option calls_flag forms_flag warn_flag
 returns c =
     let from_parser : c.range-from.result ≡ parser.Unsigned 1 1000000000000 =
     narrowed _ _ (pos 1) (pos 1000000000000) _ c.range-from.result (rw c.value_parser.ensures at c.range-from.ensures) c.new.ensures.start c.new.ensures.end (λ e. e) in
@@ -28,6 +28,8 @@ returns c =
     narrowed _ _ (pos 0) (pos 1000000) _ c.range-last.result (rw c.value_parser-3.ensures at c.range-last.ensures) c.new-3.ensures.start c.new-3.ensures.end (λ e. e) in
     let width_parser : c.range-width.result ≡ parser.Signed (pos 0) (pos 16777216) =
     rw (c.value_parser-4.ensures, c.new-4.ensures.start, c.new-4.ensures.end) at c.range-width.ensures in
+    let columns_parser : c.range-columns.result ≡ parser.Signed (pos 0) (pos 16777216) =
+    rw (c.value_parser-5.ensures, c.new-5.ensures.start, c.new-5.ensures.end) at c.range-columns.ensures in
     let from_is : rule_of c.help.result ≡ from_option =
     ap rule_of c.help.ensures ∙ c.number.ensures.rule ∙ ap (λ (p : ValueParser). number_option (codes "from") p (codes "1")) from_parser in
     let to_is : rule_of c.help-2.result ≡ to_option =
@@ -36,14 +38,17 @@ returns c =
     ap rule_of c.help-3.ensures ∙ c.number-3.ensures.rule ∙ ap (λ (p : ValueParser). number_option (codes "last") p (codes "0")) last_parser in
     let width_is : rule_of c.help-4.result ≡ width_option =
     ap rule_of c.help-4.ensures ∙ c.number-4.ensures.rule ∙ ap (λ (p : ValueParser). number_option (codes "width") p (codes "100")) width_parser in
-    let calls_is : rule_of c.help-5.result ≡ calls_flag = ap rule_of c.help-5.ensures ∙ c.flag.ensures.rule in
+    let columns_is : rule_of c.help-5.result ≡ columns_option =
+    ap rule_of c.help-5.ensures ∙ c.number-5.ensures.rule ∙ ap (λ (p : ValueParser). number_option (codes "columns") p (codes "0")) columns_parser in
+    let calls_is : rule_of c.help-6.result ≡ calls_flag = ap rule_of c.help-6.ensures ∙ c.flag.ensures.rule in
     let numbers = ap app_of_fields c.override_usage.ensures ∙ c.in_ok-numbers_command.ensures in
     let one = c.in_ok-arg.ensures.shape (ap (λ (a : Arg). a.global) c.help.ensures ∙ c.number.ensures.own) ∙ ap₂ with_rule numbers from_is in
     let two = c.in_ok-arg-2.ensures.shape (ap (λ (a : Arg). a.global) c.help-2.ensures ∙ c.number-2.ensures.own) ∙ ap₂ with_rule one to_is in
     let three = c.in_ok-arg-3.ensures.shape (ap (λ (a : Arg). a.global) c.help-3.ensures ∙ c.number-3.ensures.own) ∙ ap₂ with_rule two last_is in
     let four = c.in_ok-arg-4.ensures.shape (ap (λ (a : Arg). a.global) c.help-4.ensures ∙ c.number-4.ensures.own) ∙ ap₂ with_rule three width_is in
-    let forms_is : rule_of c.help-6.result ≡ forms_flag = ap rule_of c.help-6.ensures ∙ c.flag-2.ensures.rule in
-    let five = c.in_ok-arg-5.ensures.shape (ap (λ (a : Arg). a.global) c.help-5.ensures ∙ c.flag.ensures.own) ∙ ap₂ with_rule four calls_is in
-    let warn_is : rule_of c.help-7.result ≡ warn_flag = ap rule_of c.help-7.ensures ∙ c.flag-3.ensures.rule in
-    let six = c.in_ok-arg-6.ensures.shape (ap (λ (a : Arg). a.global) c.help-6.ensures ∙ c.flag-2.ensures.own) ∙ ap₂ with_rule five forms_is in
-    IfOk-weaker c.arg-7.result _ _ (λ r added. added.shape (ap (λ (a : Arg). a.global) c.help-7.ensures ∙ c.flag-3.ensures.own) ∙ ap₂ with_rule six warn_is) c.arg-7.ensures
+    let forms_is : rule_of c.help-7.result ≡ forms_flag = ap rule_of c.help-7.ensures ∙ c.flag-2.ensures.rule in
+    let folded = c.in_ok-arg-5.ensures.shape (ap (λ (a : Arg). a.global) c.help-5.ensures ∙ c.number-5.ensures.own) ∙ ap₂ with_rule four columns_is in
+    let five = c.in_ok-arg-6.ensures.shape (ap (λ (a : Arg). a.global) c.help-6.ensures ∙ c.flag.ensures.own) ∙ ap₂ with_rule folded calls_is in
+    let warn_is : rule_of c.help-8.result ≡ warn_flag = ap rule_of c.help-8.ensures ∙ c.flag-3.ensures.rule in
+    let six = c.in_ok-arg-7.ensures.shape (ap (λ (a : Arg). a.global) c.help-7.ensures ∙ c.flag-2.ensures.own) ∙ ap₂ with_rule five forms_is in
+    IfOk-weaker c.arg-8.result _ _ (λ r added. added.shape (ap (λ (a : Arg). a.global) c.help-8.ensures ∙ c.flag-3.ensures.own) ∙ ap₂ with_rule six warn_is) c.arg-8.ensures

@@ -3,7 +3,7 @@ use Rattle.clap.specs.Words.{FailsBy, HasKind, HasMatchesOf, Kinds, app_of, faul
 use Rattle.clap.specs.declared.error.Error.{Error}
 use Rattle.clap.specs.Faults.{is_simple_and_free}
 use Rattle.trac_trace.specs.CommandLine.{trace_command}
-use Rattle.trac_trace.proofs.Command.{calls_rule, cells_rule, flag_by_default, flag_is, forms_rule, from_rule, is_free, last_rule, long_read, number_by_default, number_is, short_read, steps_rule, to_rule, warn_rule, width_rule}
+use Rattle.trac_trace.proofs.Command.{calls_rule, cells_rule, flag_by_default, flag_is, forms_rule, from_rule, is_free, last_rule, long_read, number_by_default, number_is, short_read, steps_rule, to_rule, warn_rule, width_rule, columns_rule}
 use Rattle.trac_trace.proofs.words.options_from.Goals as goal
 
 -- an error that `?` passed on
@@ -50,6 +50,9 @@ unwrap-last-requires c = (long_read c.in_ok-matches.ensures.parsed c.in_ok-comma
 pub unwrap-width-requires : goal.unwrap-width-requires
 unwrap-width-requires c = (short_read c.in_ok-matches.ensures.parsed c.in_ok-command.ensures width_rule c.get_one-6.result c.get_one-6.ensures.value (omega arith)).some
 
+pub unwrap-columns-requires : goal.unwrap-columns-requires
+unwrap-columns-requires c = (short_read c.in_ok-matches.ensures.parsed c.in_ok-command.ensures columns_rule c.get_one-7.result c.get_one-7.ensures.value (omega arith)).some
+
 pub invariant_of-settings : goal.invariant_of-settings
 invariant_of-settings c =
     let cells = short_read c.in_ok-matches.ensures.parsed c.in_ok-command.ensures cells_rule c.get_one.result c.get_one.ensures.value (omega arith) in
@@ -73,6 +76,7 @@ returns-clause-views c =
       number_is c.in_ok-matches.ensures.parsed c.in_ok-command.ensures _ matches _ (long_read c.in_ok-matches.ensures.parsed c.in_ok-command.ensures to_rule c.get_one-4.result c.get_one-4.ensures.value) _ c.unwrap-to.ensures,
       number_is c.in_ok-matches.ensures.parsed c.in_ok-command.ensures _ matches _ (long_read c.in_ok-matches.ensures.parsed c.in_ok-command.ensures last_rule c.get_one-5.result c.get_one-5.ensures.value) _ c.unwrap-last.ensures,
       number_is c.in_ok-matches.ensures.parsed c.in_ok-command.ensures _ matches _ (short_read c.in_ok-matches.ensures.parsed c.in_ok-command.ensures width_rule c.get_one-6.result c.get_one-6.ensures.value (omega arith)) _ c.unwrap-width.ensures,
+      number_is c.in_ok-matches.ensures.parsed c.in_ok-command.ensures _ matches _ (short_read c.in_ok-matches.ensures.parsed c.in_ok-command.ensures columns_rule c.get_one-7.result c.get_one-7.ensures.value (omega arith)) _ c.unwrap-columns.ensures,
       flag_is c.in_ok-matches.ensures.parsed c.in_ok-command.ensures _ matches calls_rule _ c.get_flag.ensures.none c.get_flag.ensures.value c.get_flag.ensures.other,
       flag_is c.in_ok-matches.ensures.parsed c.in_ok-command.ensures _ matches forms_rule _ c.get_flag-2.ensures.none c.get_flag-2.ensures.value c.get_flag-2.ensures.other,
       flag_is c.in_ok-matches.ensures.parsed c.in_ok-command.ensures _ matches warn_rule _ c.get_flag-3.ensures.none c.get_flag-3.ensures.value c.get_flag-3.ensures.other,
@@ -92,9 +96,10 @@ returns-clause-default_views c =
       number_by_default to_rule words _ taken.1,
       number_by_default last_rule words _ taken.2,
       number_by_default width_rule words _ taken.3,
-      λ none. sym (flag_by_default calls_rule words _ taken.4 none),
-      λ none. sym (flag_by_default forms_rule words _ taken.5 none),
-      λ none. sym (flag_by_default warn_rule words _ taken.6 none),
+      number_by_default columns_rule words _ taken.4,
+      λ none. sym (flag_by_default calls_rule words _ taken.5 none),
+      λ none. sym (flag_by_default forms_rule words _ taken.6 none),
+      λ none. sym (flag_by_default warn_rule words _ taken.7 none),
     )
 
 pub returns-clause-kinds : goal.returns-clause-kinds

@@ -1,0 +1,494 @@
+/* The program trac_terminal over the engine in C: files are run, and then the strings that are typed, each when its
+ * meta character comes, over one machine. Each string is a run of its own, by turns of few steps, so that ^C can stop
+ * it. Written by hand, and tested. */
+#include "terminal.h"
+
+#include <fcntl.h>
+#include <locale.h>
+
+/* The bytes of a read; the room beside a print, to measure it once; the longest end of a line that is kept in mind. */
+enum { CHUNK = 8192, MORE = 16, LONGEST_END = 80 };
+
+/* A fate beside those of the engine: ^C stopped the run. There is no memory: TRAC_REFUSED. */
+#define STOPPED 100u
+
+static const char HELP[] =
+    "Runs files, and then the TRAC T-64 strings that are typed, each with its own steps\n\n"
+    "Usage: trac_terminal [OPTIONS] [FILE ..]\n\n"
+    "Options:\n"
+    "      --cells <N>    Cells of the workspace, 1 to 16777216 [default: 65536]\n"
+    "      --steps <N>    Steps that each string may take, 1 to 1000000000000 [default: 1000000]\n"
+    "      --batch        Run the files and end, with the status of the worst\n"
+    "      --save <FILE>  Save the forms in a file at the end\n"
+    "  -q, --quiet        Say nothing but faults\n"
+    "  -h, --help         Print help\n"
+    "  -V, --version      Print version\n";
+
+static const char COMMANDS[] =
+    "A string is run when its meta character comes, at first the apostrophe:\n"
+    "#(ps,hello)' prints a word. While it is missing, the prompt shows it.\n"
+    "Behind #( the Tab key completes names of functions and forms.\n"
+    "^C drops what is half typed, or stops what runs; forms stay.\n"
+    "^D ends the session, and so does #(hl)'\n"
+    ":save FILE  saves the forms as a script, for trac_terminal FILE another day\n"
+    ":help       shows this\n"
+    "::          begins a string that begins with one colon\n"
+    "The language: man 7 trac. This program: man trac_terminal.\n";
+
+/* The options, and their places. */
+enum { CELLS, ALLOWANCE, BATCH, SAVE, QUIET };
+static option options[] = {{"--cells", 0, TAKES_SIGNED, "<N>", TRAC_MOST_CELLS, NULL, 0, NULL},
+                           {"--steps", 0, TAKES_UNSIGNED, "<N>", UINT64_C(1000000000000), NULL, 0, NULL},
+                           {"--batch", 0, TAKES_NOTHING, NULL, 0, NULL, 0, NULL},
+                           {"--save", 0, TAKES_TEXT, "<FILE>", 0, NULL, 0, NULL},
+                           {"--quiet", 'q', TAKES_NOTHING, NULL, 0, NULL, 0, NULL},
+                           {"--help", 'h', TAKES_NOTHING, NULL, 0, HELP, 0, NULL},
+                           {"--version", 'V', TAKES_NOTHING, NULL, 0, "trac_terminal " TRAC_VERSION "\n", 0, NULL},
+                           {NULL, 0, TAKES_NOTHING, NULL, 0, NULL, 0, NULL}};
+
+/* Where strings are read from: a file, or what is typed. From `start` on it wasn't consumed. */
+typedef struct {
+    const char *name; /* of the file; null where it is typed */
+    int is_terminal;
+    text bytes;
+    size_t start;
+    int has_ended;
+    int is_behind;       /* whether the last byte that was consumed ended a string that was typed */
+    int has_read;        /* whether the run read its string */
+    size_t line, column; /* of what wasn't consumed */
+    size_t string_line, string_column;
+} source;
+
+/* A session: the machine, and what it prints to. */
+typedef struct {
+    trac_machine machine;
+    text print;
+    char end[LONGEST_END + 1]; /* what was printed since the last line end, where it isn't longer */
+    size_t end_length;         /* its whole length */
+    watch calls;
+} session;
+
+/* ---- Printing. */
+
+/* Keeps in mind what stands on the last line. */
+static void keep_end(session *of, const uint8_t *bytes, size_t length) {
+    for (size_t i = 0; i < length; i++) {
+        of->end_length = bytes[i] == '\n' ? 0 : of->end_length + 1;
+        if (of->end_length && of->end_length <= LONGEST_END)
+            of->end[of->end_length - 1] = (char)bytes[i];
+    }
+}
+
+static int print(session *of, const uint8_t *bytes, size_t length) {
+    keep_end(of, bytes, length);
+    return write_all(STDOUT_FILENO, bytes, length);
+}
+
+/* Puts a line end after what was printed, where that lacks one. */
+static int end_line(session *of) { return !of->end_length || print(of, (const uint8_t *)"\n", 1); }
+
+/* ---- Reading. */
+
+static const uint8_t *unread(const source *from) {
+    return from->bytes.bytes ? from->bytes.bytes + from->start : (const uint8_t *)"";
+}
+
+static size_t unread_length(const source *from) { return from->bytes.length - from->start; }
+
+/* Passes over bytes. A column is a byte of ASCII or a character of UTF-8. */
+static void pass(source *from, size_t count) {
+    for (const uint8_t *at = unread(from), *end = at + count; at < end; at++) {
+        const int is_end = *at == '\n', is_first = (*at & 0xC0) != 0x80;
+        from->line += (size_t)is_end;
+        from->column = is_end ? 1 : from->column + (size_t)is_first;
+    }
+    from->start += count;
+}
+
+static int is_layout(uint8_t byte) { return byte == '\t' || byte == '\n' || byte == '\r'; }
+
+/* How many bytes of layout stand in front of what wasn't consumed. */
+static size_t layout_length(const source *from) {
+    size_t count = 0;
+    while (count < unread_length(from) && is_layout(unread(from)[count]))
+        count++;
+    return count;
+}
+
+/* Notes where a string begins, behind layout. */
+static void note_place(source *from) {
+    const source before = *from;
+    pass(from, layout_length(from));
+    const size_t line = from->line, column = from->column;
+    *from = before;
+    from->string_line = line;
+    from->string_column = column;
+}
+
+/* A line that begins with a colon is a command, unless it begins with two. */
+static void do_command(session *of, char *line) {
+    line[strcspn(line, "\n")] = 0;
+    if (!strcmp(line, ":help"))
+        (void)write_all(STDERR_FILENO, COMMANDS, sizeof COMMANDS - 1);
+    else if (!strncmp(line, ":save ", 6) && line[6])
+        (void)save_forms(&of->machine, (size_t)options[CELLS].number, options[ALLOWANCE].number, line + 6);
+    else
+        (void)say_line(DONE, "trac_terminal: no such command; try :help\n");
+}
+
+/* Types a line where a string may begin, or commands up to such a line. */
+static reading type_first_line(session *of, source *from) {
+    text line = {NULL, 0, 0, 0};
+    reading became;
+    int is_command = 0;
+    do {
+        if (is_command)
+            do_command(of, (char *)line.bytes);
+        line.length = 0;
+        became = type_line(&line, "> ", 0, &from->has_ended);
+        is_command = line.length > 1 && line.bytes[0] == ':' && line.bytes[1] != ':';
+        add_bytes(&line, "", (size_t)is_command);
+    } while (became == READ && is_command);
+    const size_t colons = line.length > 1 && line.bytes[0] == ':';
+    if (became == READ)
+        add_bytes(&from->bytes, line.bytes ? line.bytes + colons : NULL, line.length - colons);
+    free(line.bytes);
+    return from->bytes.is_short ? READ_SHORT : became;
+}
+
+/* Types a line at the terminal. Where a string is begun, the prompt shows the meta character that ends it. Where the
+ * script itself reads, the prompt is what it printed. */
+static reading type_more(session *of, source *from) {
+    const uint32_t meta = trac_meta(&of->machine);
+    const char missing[] = {(char)(meta > ' ' && meta < 127 ? meta : '.'), '>', ' ', 0};
+    const int is_pending = unread_length(from) > layout_length(from);
+    if (is_pending)
+        return type_line(&from->bytes, missing, 0, &from->has_ended);
+    if (!from->has_read)
+        return type_first_line(of, from);
+    of->end[of->end_length <= LONGEST_END ? of->end_length : 0] = 0;
+    const reading became = type_line(&from->bytes, of->end, 1, &from->has_ended);
+    of->end_length = 0;
+    return became;
+}
+
+/* Reads more of what is typed, behind what wasn't consumed, which is moved to the front. */
+static reading read_more(session *of, source *from) {
+    if (from->start)
+        memmove(from->bytes.bytes, unread(from), unread_length(from));
+    from->bytes.length -= from->start;
+    from->start = 0;
+    if (from->is_terminal)
+        return type_more(of, from);
+    if (!reserve(&from->bytes, CHUNK))
+        return READ_SHORT;
+    const ssize_t count = read_once(STDIN_FILENO, from->bytes.bytes + from->bytes.length, CHUNK);
+    from->has_ended = count == 0;
+    from->bytes.length += count > 0 ? (size_t)count : 0;
+    return count < 0 ? READ_FAILED : READ;
+}
+
+/* The fate of a run whose reading became this; TRAC_GOING where it can go on. */
+static uint32_t fate_of(reading became) {
+    static const uint32_t fates[] = {TRAC_GOING, TRAC_INPUT_FAILED, STOPPED, TRAC_REFUSED};
+    return fates[became];
+}
+
+/* Drops the line feed behind a string that was typed: the key that sent its line gave it. */
+static void drop_line_feed(source *from) {
+    if (!from->is_behind || !unread_length(from))
+        return;
+    from->is_behind = 0;
+    if (*unread(from) == '\n')
+        pass(from, 1);
+}
+
+/* Says that a string was read up to its end. */
+static void end_string(source *from) {
+    from->has_read = 1;
+    from->is_behind = !from->name;
+}
+
+/* Passes over the rest of a string that doesn't fit, up to its meta character or to the end of the input. */
+static uint32_t pass_over(session *of, source *from) {
+    const int meta = (int)trac_meta(&of->machine);
+    for (;;) {
+        const uint8_t *const rest = unread(from);
+        const size_t length = unread_length(from);
+        const uint8_t *const found = length ? (const uint8_t *)memchr(rest, meta, length) : NULL;
+        pass(from, found ? (size_t)(found - rest) + 1 : length);
+        if (found || from->has_ended)
+            break;
+        const reading became = read_more(of, from);
+        if (became != READ)
+            return fate_of(became);
+    }
+    end_string(from);
+    return TRAC_WORKSPACE;
+}
+
+/* Whether what was read is enough for the next step, which reads: a byte, or a string that ends or that the cells can't
+ * hold. In what stands in front of `seen` no string ends. */
+static int is_enough(const session *of, const source *from, size_t seen) {
+    const size_t length = unread_length(from), most = trac_part(&of->machine, TRAC_PART_FREE) + 1;
+    if (from->has_ended || length <= seen)
+        return from->has_ended;
+    return trac_awaits(&of->machine) == TRAC_AWAITS_BYTE || length > most ||
+           memchr(unread(from) + seen, (int)trac_meta(&of->machine), length - seen);
+}
+
+/* Reads what the next step needs. */
+static reading feed(session *of, source *from) {
+    reading became = READ;
+    size_t seen = 0;
+    drop_line_feed(from);
+    while (became == READ && !is_enough(of, from, seen)) {
+        seen = unread_length(from);
+        became = read_more(of, from);
+        drop_line_feed(from);
+    }
+    return became;
+}
+
+/* Makes a step that reads. */
+static trac_report make_reading_step(session *of, source *from) {
+    const int reads_string = trac_awaits(&of->machine) == TRAC_AWAITS_TEXT;
+    const reading became = feed(of, from);
+    if (!from->has_read)
+        note_place(from);
+    trac_report report =
+        trac_turn(&of->machine, unread(from), unread_length(from), from->has_ended, NULL, 0, became == READ);
+    if (became != READ)
+        report.fate = fate_of(became);
+    pass(from, report.consumed);
+    if (reads_string && became == READ && report.fate == TRAC_GOING)
+        end_string(from);
+    else if (reads_string && report.fate == TRAC_WORKSPACE)
+        report.fate = pass_over(of, from);
+    return report;
+}
+
+/* ---- Running. */
+
+/* Makes steps, none of which reads. What one prints is printed before the next one is made. */
+static trac_report make_steps(session *of, uint64_t most) {
+    trac_report report = trac_turn(&of->machine, NULL, 0, 0, NULL, 0, most);
+    if (report.fate != TRAC_WANTS_OUTPUT)
+        return report;
+    of->print.length = 0;
+    if (!reserve(&of->print, report.wanted + MORE)) {
+        report.fate = TRAC_REFUSED;
+        return report;
+    }
+    report = trac_turn(&of->machine, NULL, 0, 0, of->print.bytes, of->print.room, 1);
+    if (!print(of, of->print.bytes, report.written)) {
+        report.fate = TRAC_OUTPUT_FAILED;
+        report.steps--;
+    }
+    return report;
+}
+
+/* Ends the line on which the terminal shows the ^C that stopped a run, where nothing else does. */
+static uint32_t stop(const session *of) {
+    if (!of->end_length || !isatty(STDOUT_FILENO))
+        (void)write_all(STDERR_FILENO, "\n", 1);
+    return STOPPED;
+}
+
+/* Runs a string. TRAC_GOING: it was run to its end. */
+static trac_report run_string(session *of, source *from) {
+    watch *const calls = options[QUIET].number ? NULL : &of->calls;
+    trac_report report;
+    from->has_read = 0;
+    begin_watch(&of->calls);
+    (void)trac_again(&of->machine, options[ALLOWANCE].number);
+    do {
+        const uint64_t most = look_ahead(calls, &of->machine);
+        report = trac_awaits(&of->machine) == TRAC_AWAITS_NOTHING ? make_steps(of, most) : make_reading_step(of, from);
+        if (is_interrupted && report.fate == TRAC_GOING)
+            report.fate = stop(of);
+    } while (report.fate == TRAC_GOING && trac_rule(&of->machine) != TRAC_RULE_IDLING);
+    return report;
+}
+
+/* ---- What is said. */
+
+/* A fault in words; an empty text where the run wasn't ended by one. */
+static void write_fault(char *to, size_t room, const trac_report *report) {
+    const uint64_t cells = options[CELLS].number, steps = options[ALLOWANCE].number, step = report->steps + 1;
+    *to = 0;
+    if (report->fate == TRAC_WORKSPACE)
+        (void)snprintf(to, room, "workspace of %" PRIu64 " cells full at step %" PRIu64, cells, step);
+    else if (report->fate == TRAC_STEPS)
+        (void)snprintf(to, room, "allowance of %" PRIu64 " steps used up", steps);
+    else if (report->fate == TRAC_INPUT_FAILED)
+        (void)snprintf(to, room, "input failed at step %" PRIu64, step);
+    else if (report->fate == TRAC_OUTPUT_FAILED)
+        (void)snprintf(to, room, "output failed at step %" PRIu64, step);
+    else if (report->fate == TRAC_REFUSED)
+        (void)snprintf(to, room, "no memory for step %" PRIu64, step);
+    else if (report->fate == STOPPED)
+        (void)snprintf(to, room, "stopped at step %" PRIu64, step);
+}
+
+/* Says a line: in a file that is run by itself, behind the place of the string. */
+static void say_of(const source *from, const char *line) {
+    text shown = {NULL, 0, 0, 0};
+    if (from->name && options[BATCH].number)
+        (void)say_line(DONE, "%s:%zu:%zu: %s\n", shown_in(&shown, from->name, strlen(from->name)), from->string_line,
+                       from->string_column, line);
+    else
+        (void)say_line(DONE, "trac: %s\n", line);
+    free(shown.bytes);
+}
+
+/* Says what did nothing, and how the run of a string ended. ^C where nothing runs is no fault. */
+static void say_end(session *of, const source *from, const trac_report *report) {
+    const text *const lines = &of->calls.lines;
+    char fault[100];
+    for (size_t at = 0; at < lines->length; at += strlen((const char *)lines->bytes + at) + 1)
+        say_of(from, (const char *)lines->bytes + at);
+    write_fault(fault, sizeof fault, report);
+    if (*fault && (report->fate != STOPPED || from->has_read))
+        say_of(from, fault);
+}
+
+/* ---- Sources. */
+
+/* Whether no string is read after this fate. */
+static int ends_source(const source *from, uint32_t fate) {
+    if (fate == STOPPED)
+        return from->name != NULL;
+    return (fate != TRAC_WORKSPACE && fate != TRAC_STEPS) || !from->has_read;
+}
+
+static int status_of(uint32_t fate) {
+    static const int statuses[] = {DONE,         DONE,          DONE, WORKSPACE, STEPS,
+                                   INPUT_FAILED, OUTPUT_FAILED, DONE, DONE,      NO_MEMORY};
+    return fate < sizeof statuses / sizeof *statuses ? statuses[fate] : DONE;
+}
+
+/* Drops what was typed, after ^C. */
+static void drop_typed(source *from) {
+    is_interrupted = 0;
+    if (!from->name)
+        from->bytes.length = from->start = 0;
+    from->is_behind = 0;
+}
+
+/* Runs the strings of a source. Gives the fate of the last, and the worst status of all. */
+static uint32_t run_strings(session *of, source *from, int *worst) {
+    for (;;) {
+        trac_report report = run_string(of, from);
+        if (report.fate != TRAC_OUTPUT_FAILED && (!from->name || report.fate == STOPPED) && !end_line(of))
+            report.fate = TRAC_OUTPUT_FAILED;
+        say_end(of, from, &report);
+        *worst = status_of(report.fate) > *worst ? status_of(report.fate) : *worst;
+        if (report.fate == STOPPED)
+            drop_typed(from);
+        if (report.fate != TRAC_GOING && ends_source(from, report.fate))
+            return report.fate;
+    }
+}
+
+/* Says that a file can't be read. */
+static void say_not_read(const char *name) {
+    const char *const why = strerror(errno);
+    text shown = {NULL, 0, 0, 0};
+    (void)say_line(DONE, "trac_terminal: can't read %s: %s\n", shown_in(&shown, name, strlen(name)), why);
+    free(shown.bytes);
+}
+
+/* The length of a first line that begins with `#!`, with its line feed; 0 where there is none. */
+static size_t head_length(const text *of) {
+    if (of->length < 2 || memcmp(of->bytes, "#!", 2) != 0)
+        return 0;
+    const uint8_t *const feed = (const uint8_t *)memchr(of->bytes, '\n', of->length);
+    return feed ? (size_t)(feed + 1 - of->bytes) : of->length;
+}
+
+/* Runs a file, behind a first line that begins with `#!`. A line end is put after what it printed. Gives the fate of
+ * its last string, or TRAC_INPUT_FAILED where it can't be read. */
+static uint32_t run_file(session *of, const char *name, int *worst) {
+    source from = {name, 0, {NULL, 0, 0, 0}, 0, 1, 0, 0, 1, 1, 1, 1};
+    uint32_t fate = TRAC_INPUT_FAILED;
+    if (read_file(&from.bytes, name)) {
+        pass(&from, head_length(&from.bytes));
+        fate = run_strings(of, &from, worst);
+        fate = fate != TRAC_OUTPUT_FAILED && !end_line(of) ? TRAC_OUTPUT_FAILED : fate;
+    } else {
+        say_not_read(name);
+    }
+    free(from.bytes.bytes);
+    *worst = status_of(fate) > *worst ? status_of(fate) : *worst;
+    return fate;
+}
+
+/* What became of the files: the worst status, whether one couldn't be read, and whether more may be run. */
+typedef struct {
+    int worst, is_unread, goes_on;
+} outcome;
+
+/* Runs the files. Nothing more is run where the output failed, there is no memory, or, unless the files are run by
+ * themselves, a file can't be read. */
+static outcome run_files(session *of, const command *given) {
+    outcome became = {DONE, 0, 1};
+    uint32_t fate = TRAC_GOING;
+    for (size_t i = 0; fate != STOPPED && became.goes_on && i < given->file_count; i++) {
+        fate = run_file(of, given->files[i], &became.worst);
+        became.is_unread |= fate == TRAC_INPUT_FAILED;
+        became.goes_on =
+            fate != TRAC_OUTPUT_FAILED && fate != TRAC_REFUSED && (fate != TRAC_INPUT_FAILED || options[BATCH].number);
+    }
+    return became;
+}
+
+/* Runs what is typed, and gives the status. */
+static int run_typed(session *of) {
+    source from = {NULL, isatty(STDIN_FILENO), {NULL, 0, 0, 0}, 0, 0, 0, 0, 1, 1, 1, 1};
+    int worst = DONE;
+    if (from.is_terminal && !options[QUIET].number)
+        (void)say_line(DONE, "TRAC T-64, trac_terminal %s: ^D ends, :help helps\n", trac_version());
+    return status_of(run_strings(of, &from, &worst));
+}
+
+/* Saves the forms where they were asked for, and gives the status. Where a file wasn't read, whose forms are not there,
+ * nothing takes the place of what was saved before. */
+static int save(session *of, const outcome *files, int status) {
+    const char *const name = options[SAVE].text;
+    int is_saved = !name;
+    if (name && files->is_unread)
+        (void)say_line(DONE, "trac_terminal: the forms aren't saved, since a file wasn't read\n");
+    else if (name)
+        is_saved = save_forms(&of->machine, (size_t)options[CELLS].number, options[ALLOWANCE].number, name);
+    return is_saved || status ? status : OUTPUT_FAILED;
+}
+
+/* Runs all, and gives the status. */
+static int run_all(session *of, const command *given) {
+    const int is_typed = !options[BATCH].number;
+    if (is_typed && isatty(STDIN_FILENO))
+        begin_typing(&of->machine);
+    const outcome files = run_files(of, given);
+    return save(of, &files, is_typed && files.goes_on ? run_typed(of) : files.worst);
+}
+
+int main(int count, char **words) {
+    static session all;
+    command given = {"trac_terminal [OPTIONS] [FILE ..]", options, 1, NULL, 0, NULL, NULL};
+    (void)signal(SIGPIPE, SIG_IGN);
+    (void)setlocale(LC_CTYPE, "");
+    const int status = count ? take_words(&given, words + 1) : -1;
+    if (status >= 0)
+        return status;
+    if (options[BATCH].number && !given.file_count)
+        return say_line(USAGE, "error: the following required arguments were not provided:\n  <FILE>...\n\n"
+                               "Usage: trac_terminal --batch <FILE>..." HINT);
+    options[CELLS].number = options[CELLS].number ? options[CELLS].number : 65536;
+    options[ALLOWANCE].number = options[ALLOWANCE].number ? options[ALLOWANCE].number : 1000000;
+    const size_t cells = (size_t)options[CELLS].number;
+    trac_cell *const block = (trac_cell *)malloc(cells * sizeof(trac_cell));
+    if (!block || trac_open(&all.machine, block, cells, options[ALLOWANCE].number))
+        return say_line(NO_MEMORY, "trac: no memory for %zu cells\n", cells);
+    return run_all(&all, &given);
+}

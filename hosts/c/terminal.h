@@ -1,0 +1,89 @@
+/* The parts of the program trac_terminal. Written by hand, and tested. */
+#ifndef TERMINAL_H
+#define TERMINAL_H
+
+#define _POSIX_C_SOURCE 200809L
+#include "trac.h"
+#include "words.h"
+
+#include <signal.h>
+
+/* ---- Texts that grow: texts.c. */
+
+/* Bytes. `is_short` says that there was no memory for all that was added. */
+typedef struct {
+    uint8_t *bytes;
+    size_t length, room;
+    int is_short;
+} text;
+
+/* Makes room for so many bytes more. Gives 0 where there is no memory for it. */
+int reserve(text *of, size_t more);
+
+void add_bytes(text *to, const void *from, size_t length);
+
+/* The same, of a text that ends with a null byte. */
+void add_text(text *to, const char *from);
+
+/* Adds bytes for a reader: a control byte, a reverse solidus and what is no character of UTF-8 as in the lines of
+ * trac_trace, `\n` or `\x1b`. */
+void add_shown(text *to, const void *from, size_t length);
+
+/* The same as a text that ends with a null byte, which stays good as long as `to`; `..` where there is no memory. */
+const char *shown_in(text *to, const void *from, size_t length);
+
+/* The bytes of a form's name and the codes of its body. Each gives 0 where there is no memory for it. */
+int take_name(text *to, const trac_form *form);
+int take_codes(text *to, const trac_form *form);
+
+/* Reads all of a file. Gives 0, and why in errno, where that can't be. */
+int read_file(text *to, const char *name);
+
+/* Whether a form has this name. `found` is for the names that are looked at. */
+int has_form(const trac_machine *machine, const uint8_t *name, size_t length, text *found);
+
+/* ---- What is seen of a run: calls.c. */
+
+/* The functions of the language, in their order in the manual, up to a null pointer. */
+extern const char *const FUNCTIONS[];
+
+/* Whether this is the name of a function; its argument 1 is then the name of a form that must be there if
+ * `*needs_form` becomes 1. */
+int is_function(const uint8_t *name, size_t length, int *needs_form);
+
+/* The open calls of a string's run, a byte for each, and the lines, each ended by a null byte, that are to be said of
+ * those that did nothing. The other texts are of the call that is looked at. */
+typedef struct {
+    text open, lines;
+    unsigned count;
+    text codes, function, form, found;
+} watch;
+
+void begin_watch(watch *of);
+
+/* How many steps can be made at once such that none but the first ends a call, reads, prints, or is the last of a
+ * string's run. A call that the next step performs, and that does nothing since there is no function or no form of its
+ * name, is noted where `of` is no null pointer. */
+uint64_t look_ahead(watch *of, const trac_machine *machine);
+
+/* ---- Lines that are typed: typing.c. */
+
+/* What became of reading: something came or the input ended; the read failed; ^C; there is no memory. */
+typedef enum { READ, READ_FAILED, READ_INTERRUPTED, READ_SHORT } reading;
+
+/* Whether ^C was typed since it was last made 0. */
+extern volatile sig_atomic_t is_interrupted;
+
+/* Has ^C noted, and lines edited where that can be. The names of the machine's forms are completed. */
+void begin_typing(const trac_machine *machine);
+
+/* Adds a line with its line feed. At the end of the input nothing is added and `*has_ended` becomes 1. The prompt is
+ * shown, unless it stands on the screen already. */
+reading type_line(text *to, const char *prompt, int is_shown, int *has_ended);
+
+/* ---- Forms as a script: saving.c. */
+
+/* Saves the forms and the meta character in a file. What can't be saved is said. Gives 0 then. */
+int save_forms(const trac_machine *machine, size_t cells, uint64_t steps, const char *name);
+
+#endif
