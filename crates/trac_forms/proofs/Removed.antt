@@ -1,5 +1,5 @@
 -- What removing forms by their names leaves of a `Work`.
-use Rattle.trac_forms.proofs.Words.{◌≡◌, ℕ, ◌≤◌, List, length, take, sym, ap, refl, ◌∙◌, subst, arith, not, length-map, take_all, Text, Form, Lists, flat_forms, form_at, IsIndexed, forms_in, start_of, is_among, without_all, marked_if, with_marks, unmarked, IsFormed, IsMarkedFrom, forms_in-flat}
+use Rattle.trac_forms.proofs.Words.{◌≡◌, ℕ, AreForms, List, length, take, sym, ap, refl, ◌∙◌, subst, arith, not, length-map, take_all, Text, Form, Lists, flat_forms, form_at, IsIndexed, forms_in, start_of, is_among, without_all, marked_if, with_marks, unmarked, IsFormed, IsMarkedFrom, forms_in-flat}
 use Rattle.trac_forms.proofs.Words.{stands, pointer-within, own-names, no-mark, unmarked-marks, IsStore-filter, cells-filter, length-marks, shown, IsStored}
 use Rattle.trac_forms.proofs.Strings.{used-stored, restored, shown-restored}
 
@@ -9,18 +9,17 @@ none-marked s count last start h =
     let forms = forms_in s.store in
     let all : take (length forms) forms ≡ forms = take_all (length forms) forms (omega arith) in
     record {
-      place = record { within = omega arith; start_is = sym (ap (λ fs. length (flat_forms fs)) all ∙ ap length h.whole) };
+      place = record { within = omega arith; start_is = sym (ap (λ fs. length (flat_forms fs)) all ∙ ap length h.forms.whole) };
       plain = λ j less.
-          let f = stands forms s.store j (start_of forms j) h.whole less refl in
-          no-mark (form_at forms j).pointer (omega (arith, f.end, h.bounded, pointer-within forms j h.sound.forms));
+          let f = stands forms s.store j (start_of forms j) h.forms.whole less refl in
+          no-mark (form_at forms j).pointer (omega (arith, f.end, h.forms.bounded, pointer-within forms j h.sound.forms));
     }
 
 -- the forms of a `Work` have distinct names
 pub formed : (s : Lists) (count last start : ℕ) → IsStored s count last start → IsFormed s count last start
 formed s count last start h =
     record {
-      whole = h.whole;
-      bounded = h.bounded;
+      forms = h.forms;
       count_is = h.count_is;
       place = record { within = omega (arith, h.last_is, h.count_is); start_is = h.start_is };
       distinct = own-names (forms_in s.store) h.sound.forms;
@@ -38,17 +37,17 @@ module _ {s t : Lists} {count last start : ℕ} (names : List Text) (h : IsStore
   read : forms_in t.store ≡ with_marks names (forms_in s.store)
   read = ap forms_in stored ∙ forms_in-flat (with_marks names forms)
 
-  pub marks-whole : flat_forms (forms_in t.store) ≡ t.store
-  marks-whole = ap flat_forms read ∙ sym stored
-
-  pub marks-bounded : length t.store ≤ 16777216
-  marks-bounded = omega (arith, ap length stored, length-marks names forms, ap length h.whole, h.bounded)
+  pub marks-forms : AreForms t.store
+  marks-forms = record {
+    whole = ap flat_forms read ∙ sym stored;
+    bounded = omega (arith, ap length stored, length-marks names forms, ap length h.forms.whole, h.forms.bounded);
+  }
 
   pub marks-count : count ≡ length (forms_in t.store)
   marks-count = h.count_is ∙ sym (ap length read ∙ length-map forms (λ form. marked_if (is_among names form) form))
 
   rest : unmarked (forms_in t.store) ≡ without_all names (forms_in s.store)
-  rest = ap unmarked read ∙ unmarked-marks names forms h.sound.forms (omega (arith, ap length h.whole, h.bounded))
+  rest = ap unmarked read ∙ unmarked-marks names forms h.sound.forms (omega (arith, ap length h.forms.whole, h.forms.bounded))
 
   module _ (u : Lists) (gone : u ≡ record t { store = flat_forms (unmarked (forms_in t.store)); spare = u.spare }) where
     removed : u ≡ record s { store = flat_forms (without_all names (forms_in s.store)); spare = u.spare }
@@ -63,5 +62,5 @@ module _ {s t : Lists} {count last start : ℕ} (names : List Text) (h : IsStore
     removed-stored left counted index =
         let stays = λ (form : Form). not (is_among names form) in
         let fewer = cells-filter stays forms in
-        let used = used-stored s h.whole in
-        restored u.spare s u (without_all names forms) left 0 0 (subst (IsIndexed u.spare) rest index) h.sound (IsStore-filter stays forms h.sound.forms) (omega (arith, ap length h.whole, fewer, used, h.sound.fits)) removed (counted ∙ ap length rest) (omega arith) refl
+        let used = used-stored s h.forms.whole in
+        restored u.spare s u (without_all names forms) left 0 0 (subst (IsIndexed u.spare) rest index) h.sound (IsStore-filter stays forms h.sound.forms) (omega (arith, ap length h.forms.whole, fewer, used, h.sound.fits)) removed (counted ∙ ap length rest) (omega arith) refl

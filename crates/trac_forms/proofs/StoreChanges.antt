@@ -1,30 +1,32 @@
 -- What `define` and `segment` leave in a store, from what they put there.
 use Rattle.trac_forms.proofs.Words.{◌≡◌, ℕ, ◌+◌, ◌-◌, ◌<◌, ◌≤◌, List, ◌∷◌, [], ◌++◌, length, take, drop, map, set, slice_range, refl, sym, ap, subst, ◌∙◌, arith, length_push, length-append, length-map, length-set, length-take-le, length-drop, take_at, length-between, sum_by_push, items_of}
-use Rattle.trac_forms.proofs.Words.{segment, without, defined, form_cells, Text, Cell, Head, character_of, Lists, flat_item, flat_form, flat_forms, form_at, name_at, part_text, new_form, IsTextPart, segmented_cells, IsIndexed, IsIndexBut, started, forms_in, head_at, start_of}
-use Rattle.trac_forms.proofs.Words.{IsStored, forms_in-flat, length-flat, length-new_form, flat_items_of, Byte-character_of, stands, start_of-set, IsStore-defined, IsStore-set, cells-without, cells-set, index-set, index-replaced, flat-segment, regapped, written, length-flat_form}
+use Rattle.trac_forms.proofs.Words.{segment, form_cells, Text, Cell, Head, character_of, Lists, flat_item, flat_form, flat_forms, form_at, name_at, part_text, new_form, IsTextPart, segmented_cells, IsIndexed, IsIndexBut, started, forms_in, head_at, start_of}
+use Rattle.trac_forms.proofs.Words.{NoneNamed, IsStore-push, flat_map_more, IsStored, forms_in-flat, length-flat, length-new_form, flat_items_of, Byte-character_of, stands, start_of-set, IsStore-set, cells-set, index-set, index-replaced, flat-segment, regapped, written, length-flat_form}
 use Rattle.trac_language.specs.declared.item.Item.TheVariants as item
 use Rattle.trac_space.specs.Lists as lists
-use Rattle.trac_forms.proofs.Strings.{used-stored, restored, redefined}
+use Rattle.trac_forms.proofs.Strings.{used-stored, restored}
 
--- a new form of two parts of neutral behind the others, where an older one of that name is gone
-pub defined-stored : (s t u v : Lists) (count last start a b from to rest_count begins : ℕ) → IsStored s count last start → b ≤ length s.neutral → to ≤ length s.neutral → lists.used s + (3 + (b - a) + (to - from)) ≤ s.room → t ≡ record s { store = flat_forms (without (part_text s.neutral a b) (forms_in s.store)); spare = t.spare } → rest_count ≡ length (without (part_text s.neutral a b) (forms_in s.store)) → begins ≡ length t.store → u ≡ record t { store = t.store ++ flat_form (new_form t.neutral a b from to); spare = u.spare } → IsIndexed v.spare (forms_in u.store) → v ≡ record u { spare = v.spare } → IsStored v (rest_count + 1) rest_count begins
-defined-stored s t u v count last start a b from to rest_count begins h name_in text_in need gone counted begin put index kept =
+-- a new form of two parts of neutral behind the others
+pub added : (s u : Lists) (a b from to : ℕ) → flat_forms (forms_in s.store) ≡ s.store → u ≡ record s { store = s.store ++ flat_form (new_form s.neutral a b from to); spare = u.spare } → u ≡ record s { store = flat_forms (forms_in s.store ++ new_form s.neutral a b from to ∷ []); spare = u.spare }
+added s u a b from to whole put =
+    put ∙ ap (λ cells. record s { store = cells ++ flat_form (new_form s.neutral a b from to); spare = u.spare }) (sym whole)
+    ∙ ap (λ cells. record s { store = cells; spare = u.spare }) (flat_map_more flat_form [] (forms_in s.store) (new_form s.neutral a b from to))
+
+pub added-stored : (s u v : Lists) (count last start a b from to begins : ℕ) → IsStored s count last start → b ≤ length s.neutral → to ≤ length s.neutral → lists.used s + (3 + (b - a) + (to - from)) ≤ s.room → NoneNamed (part_text s.neutral a b) (forms_in s.store) → begins ≡ length s.store → u ≡ record s { store = s.store ++ flat_form (new_form s.neutral a b from to); spare = u.spare } → IsIndexed v.spare (forms_in u.store) → v ≡ record u { spare = v.spare } → IsStored v (count + 1) count begins
+added-stored s u v count last start a b from to begins h name_in text_in need none begin put index kept =
     let forms = forms_in s.store in
-    let name = part_text s.neutral a b in
-    let text = part_text s.neutral from to in
     let form = new_form s.neutral a b from to in
-    let rest = without name forms in
-    let all = defined name text forms in
-    let used = used-stored s h.whole in
-    let fewer = cells-without name forms in
-    let is = redefined s t u rest a b from to gone put in
+    let all = forms ++ form ∷ [] in
+    let is = added s u a b from to h.forms.whole put in
     let size = length-new_form s.neutral a b from to name_in text_in in
-    let more = sum_by_push form_cells rest form in
-    let room : length (flat_forms all) + length s.neutral + length s.active ≤ s.room = omega (arith, length-flat all, length-flat forms, h.sound.fits) in
-    let counted_all = length_push rest form in
-    let first = take_at rest (form ∷ []) (length rest) refl in
-    let place : begins ≡ start_of all (length rest) = begin ∙ ap (λ v. length v.store) gone ∙ ap (λ fs. length (flat_forms fs)) (sym first) in
-    restored v.spare s v all (rest_count + 1) rest_count begins (subst (IsIndexed v.spare) (ap (λ (w : Lists). forms_in w.store) is ∙ forms_in-flat all) index) h.sound (IsStore-defined name text forms h.sound.forms) room (kept ∙ ap (λ (w : Lists). record w { spare = v.spare }) is) (omega arith) (omega arith) (place ∙ ap (start_of all) (sym counted))
+    let more = sum_by_push form_cells forms form in
+    let long = ap length h.forms.whole in
+    let room : length (flat_forms all) + length s.neutral + length s.active ≤ s.room = omega (arith, length-flat all, length-flat forms, long) in
+    let all_count = length_push forms form in
+    let first = take_at forms (form ∷ []) (length forms) refl in
+    let place : begins ≡ start_of all (length forms) = begin ∙ sym long ∙ ap (λ fs. length (flat_forms fs)) (sym first) in
+    let counted = h.count_is in
+    restored v.spare s v all (count + 1) count begins (subst (IsIndexed v.spare) (ap (λ (w : Lists). forms_in w.store) is ∙ forms_in-flat all) index) h.sound (IsStore-push forms form h.sound.forms none (omega arith)) room (kept ∙ ap (λ (w : Lists). record w { spare = v.spare }) is) (omega arith) (omega arith) (place ∙ ap (start_of all) (sym counted))
 
 -- the store is still as long as what stands before the gaps
 pub gapped-long : (s t : Lists) (from : ℕ) (gapped rest : List Cell) → from ≤ length s.store → t ≡ record s { store = take from s.store ++ gapped ++ rest } → from ≤ length t.store
@@ -32,15 +34,11 @@ gapped-long s t from gapped rest within is =
     omega (arith, ap (λ v. length v.store) is, length-append (take from s.store ++ gapped) rest, length-append (take from s.store) gapped, length-append gapped rest, length-append (take from s.store) (gapped ++ rest), length-take-le from s.store within)
 
 -- form k with gaps for a text: first its body is segmented, and then two of its heads are written
-pub segmented-stored : (s t u v w : Lists) (count last begins k start name body end a b ordinal : ℕ) → IsStored s count last begins → k < length (forms_in s.store) → start ≡ start_of (forms_in s.store) k → name ≡ head_at s.store start → body ≡ head_at s.store (start + 1) → t ≡ record s { store = take (start + 3 + name) s.store ++ segmented_cells (part_text s.neutral a b) ordinal (slice_range s.store (start + 3 + name) (start + 3 + name + body)) ++ drop (start + 3 + name + body) s.store } → end ≡ start + 3 + name + length (segmented_cells (part_text s.neutral a b) ordinal (slice_range s.store (start + 3 + name) (start + 3 + name + body))) → end ≤ start + 3 + name + body → u ≡ record t { store = set t.store (start + 1) (Head (end - (start + 3 + name))) } → v ≡ record u { store = set u.store (start + 2) (Head 0) } → w ≡ record v { spare = w.spare } → length w.spare ≡ length v.spare → ((names : ℕ → Text) → (starts : ℕ → ℕ) → IsIndexBut v.spare count count names starts → IsIndexBut w.spare count count names (started k count (start + 3 + name + body - end) starts)) → (w ≡ record s { spare = w.spare; store = flat_forms (set (forms_in s.store) k (record (form_at (forms_in s.store) k) { body = segment (part_text s.neutral a b) ordinal (form_at (forms_in s.store) k).body; pointer = 0 })) }) × IsStored w count k start
-segmented-stored s t u v w count last begins k start name body end a b ordinal h within start_is name_is body_is gaps end_is shorter first second same len index =
+pub segmented-stored : (s t u v w : Lists) (count last begins k start from to end a b ordinal : ℕ) → IsStored s count last begins → k < length (forms_in s.store) → start ≡ start_of (forms_in s.store) k → from ≡ start + 3 + length (form_at (forms_in s.store) k).name → to ≡ from + length (form_at (forms_in s.store) k).body → t ≡ record s { store = take from s.store ++ segmented_cells (part_text s.neutral a b) ordinal (slice_range s.store from to) ++ drop to s.store } → end ≡ from + length (segmented_cells (part_text s.neutral a b) ordinal (slice_range s.store from to)) → end ≤ to → u ≡ record t { store = set t.store (start + 1) (Head (end - from)) } → v ≡ record u { store = set u.store (start + 2) (Head 0) } → w ≡ record v { spare = w.spare } → length w.spare ≡ length v.spare → ((names : ℕ → Text) → (starts : ℕ → ℕ) → IsIndexBut v.spare count count names starts → IsIndexBut w.spare count count names (started k count (to - end) starts)) → (w ≡ record s { spare = w.spare; store = flat_forms (set (forms_in s.store) k (record (form_at (forms_in s.store) k) { body = segment (part_text s.neutral a b) ordinal (form_at (forms_in s.store) k).body; pointer = 0 })) }) × IsStored w count k start
+segmented-stored s t u v w count last begins k start from to end a b ordinal h within start_is from_is to_is gaps end_is shorter first second same len index =
     let forms = forms_in s.store in
-    let f = stands forms s.store k start h.whole within start_is in
+    let f = stands forms s.store k start h.forms.whole within start_is in
     let form = form_at forms k in
-    let from = start + 3 + name in
-    let to = start + 3 + name + body in
-    let from_is : from ≡ start + 3 + length form.name = omega arith in
-    let to_is : to ≡ from + length form.body = omega arith in
     let text = part_text s.neutral a b in
     let items = segment text ordinal form.body in
     let part : slice_range s.store from to ≡ map flat_item form.body = ap (λ i. slice_range s.store from i) to_is ∙ ap (λ i. slice_range s.store i (i + length form.body)) from_is ∙ f.body_part in
@@ -53,14 +51,14 @@ segmented-stored s t u v w count last begins k start name body end a b ordinal h
     let is = all ∙ ap (λ cells. record s { store = cells }) (regapped forms s.store k start from to items within start_is f from_is to_is) in
     let fewer : form_cells new ≤ form_cells form = omega (arith, shorter, to_is) in
     let less = cells-set forms k new within fewer in
-    let used = used-stored s h.whole in
+    let used = used-stored s h.forms.whole in
     let is_all = same ∙ ap (λ (l : Lists). record l { spare = w.spare }) is in
     let was : v.spare ≡ s.spare = ap (λ (l : Lists). l.spare) is in
     let counted = h.count_is in
     let table : IsIndexed w.spare (set forms k new) = λ some.
     index-set forms k new within refl (to - end) (omega (arith, shorter, to_is, size)) w.spare count counted
     (index (name_at forms) (start_of forms) (subst (λ l. IsIndexBut l count count (name_at forms) (start_of forms)) (sym was) (subst (λ n. IsIndexBut s.spare n n (name_at forms) (start_of forms)) (sym counted) (h.index (omega (arith, some, len, ap length was)))))) in
-    (is_all, restored w.spare s w (set forms k new) count k start table h.sound (IsStore-set forms k new refl (omega arith) h.sound.forms) (omega (arith, ap length h.whole, h.sound.fits)) is_all (omega (arith, h.count_is, length-set forms k new)) (omega (arith, h.count_is, within)) (start_is ∙ sym (start_of-set forms k new)))
+    (is_all, restored w.spare s w (set forms k new) count k start table h.sound (IsStore-set forms k new refl (omega arith) h.sound.forms) (omega (arith, ap length h.forms.whole, h.sound.fits)) is_all (omega (arith, h.count_is, length-set forms k new)) (omega (arith, h.count_is, within)) (start_is ∙ sym (start_of-set forms k new)))
 
 -- a part of neutral that is written over the store leaves it as long as it was
 pub written-long : (s t : Lists) (at a b : ℕ) → b ≤ length s.neutral → at + (b - a) ≤ length s.store → t ≡ record s { store = take at s.store ++ slice_range s.neutral a b ++ drop (at + (b - a)) s.store } → length t.store ≡ length s.store
@@ -71,7 +69,7 @@ written-long s t at a b within inside is =
 pub rewritten-stored : (s t u v : Lists) (count last begins k start body a b : ℕ) → IsStored s count last begins → k < length (forms_in s.store) → start ≡ start_of (forms_in s.store) k → body ≡ start + 3 + head_at s.store start → IsTextPart s.neutral a b → b - a ≡ length (form_at (forms_in s.store) k).body → t ≡ record s { store = take body s.store ++ slice_range s.neutral a b ++ drop (body + (b - a)) s.store } → u ≡ record t { store = set t.store (start + 1) (Head (b - a)) } → v ≡ record u { store = set u.store (start + 2) (Head 0) } → (v ≡ record s { store = flat_forms (set (forms_in s.store) k (record (form_at (forms_in s.store) k) { body = items_of (part_text s.neutral a b); pointer = 0 })) }) × IsStored v count k start
 rewritten-stored s t u v count last begins k start body a b h within start_is body_is part same over first second =
     let forms = forms_in s.store in
-    let f = stands forms s.store k start h.whole within start_is in
+    let f = stands forms s.store k start h.forms.whole within start_is in
     let form = form_at forms k in
     let text = part_text s.neutral a b in
     let items = items_of text in
@@ -84,6 +82,6 @@ rewritten-stored s t u v count last begins k start body a b h within start_is bo
     let all = written s t u v (take body s.store ++ map flat_item items ++ drop (body + (b - a)) s.store) (start + 1) (start + 2) (Head (length items)) (Head 0) (rw cells at over) (rw number at first) second in
     let is = all ∙ ap (λ cells. record s { store = cells }) (regapped forms s.store k start body (body + (b - a)) items within start_is f from_is to_is) in
     let less = cells-set forms k new within (omega (arith, size, same)) in
-    let used = used-stored s h.whole in
+    let used = used-stored s h.forms.whole in
     let long : length (flat_form new) ≡ length (flat_form form) = omega (arith, size, same, length-flat_form new, length-flat_form form) in
-    (is, restored s.spare s v (set forms k new) count k start (index-replaced forms k new s.spare refl long h.index) h.sound (IsStore-set forms k new refl (omega arith) h.sound.forms) (omega (arith, less, ap length h.whole, h.sound.fits)) is (omega (arith, h.count_is, length-set forms k new)) (omega (arith, h.count_is, within)) (start_is ∙ sym (start_of-set forms k new)))
+    (is, restored s.spare s v (set forms k new) count k start (index-replaced forms k new s.spare refl long h.index) h.sound (IsStore-set forms k new refl (omega arith) h.sound.forms) (omega (arith, less, ap length h.forms.whole, h.sound.fits)) is (omega (arith, h.count_is, length-set forms k new)) (omega (arith, h.count_is, within)) (start_is ∙ sym (start_of-set forms k new)))

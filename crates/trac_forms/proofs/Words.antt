@@ -16,28 +16,28 @@ pub use Rattle.trac_forms.specs.Loading.{IsLoaded}
 pub use Rattle.trac_forms.specs.Stored.{IsStored, shown}
 pub use Rattle.trac_language.specs.Form.{Form, is_character, items_of, text_of}
 pub use Rattle.trac_language.specs.Segment.{segment}
-pub use Rattle.trac_language.specs.Store.{IsStore, defined, form_cells, without}
+pub use Rattle.trac_language.specs.Store.{IsStore, NoneNamed, defined, form_cells, without}
 pub use Rattle.trac_language.specs.Text.{Text}
 pub use Rattle.trac_language.specs.declared.item.Item.{Item}
 pub use Rattle.trac_space.specs.Cells.{IsNoCall, NoCall, bytes, seen}
-pub use Rattle.trac_space.specs.Lists.{Lists, with_way}
+pub use Rattle.trac_space.specs.Lists.{Lists, claimed}
 pub use Rattle.trac_space.specs.Runs.{number_in, turned, turned_by}
 pub use Rattle.trac_space.specs.Texts.{IsByte, byte_cell_at, character_of, flat_text, text_of_cells}
 pub use Rattle.trac_space.specs.declared.cell.Cell.{Cell}
 pub use Rattle.trac_space.specs.declared.cell.Cell.TheVariants.{Byte, Call, Comma, Gap, Head}
-pub use Rattle.trac_store.proofs.Filling.{AreItems, items}
+pub use Rattle.trac_store.proofs.Filling.{AreItems, items, plain-items, plain-text}
 pub use Rattle.trac_store.proofs.Finding.{bytes-flat, part-seen}
 pub use Rattle.trac_store.proofs.FlatLemmas.{Byte-character_of, character_of-Byte, count-le, flat_items_of, forms_in-flat, item_of-cell, length-flat, length-flat_form, length-new_form, no_call-flat_forms}
 pub use Rattle.trac_store.proofs.FormTables.{front-cells, index-set}
 pub use Rattle.trac_store.proofs.Gaps.{bytes-seen}
 pub use Rattle.trac_store.proofs.HeadCells.{number-at}
-pub use Rattle.trac_store.proofs.IndexSearch.{index-kept, index-pointer, index-replaced, way-kept}
+pub use Rattle.trac_store.proofs.IndexSearch.{index-kept, index-pointer, index-replaced, claimed-kept}
 pub use Rattle.trac_store.proofs.Items.{item-stored}
-pub use Rattle.trac_store.proofs.Places.{Stands, repointed, stands, start_of-set}
+pub use Rattle.trac_store.proofs.Places.{Stands, removed-lists, repointed, stands, start_of-set}
 pub use Rattle.trac_store.proofs.Removals.{IsStore-filter, cells-filter, length-marks, no-mark, own-names, unmarked-marks}
 pub use Rattle.trac_store.proofs.Searches.{begins-within, body_len, characters-agree, first-agrees, gaps-agree, last-agrees, texts-agree}
 pub use Rattle.trac_store.proofs.Segments.{flat-segment, regapped, written}
-pub use Rattle.trac_store.proofs.DistinctForms.{IsStore-defined, IsStore-remove, IsStore-set, cells-remove, cells-set, cells-without, defined-last, pointer-within}
+pub use Rattle.trac_store.proofs.DistinctForms.{NoneNamed-after, without-at, without-none, IsStore-defined, IsStore-push, IsStore-remove, IsStore-set, cells-remove, cells-set, cells-without, defined-last, pointer-within}
 pub use Rattle.trac_store.specs.Arguments.{texts_between}
 pub use Rattle.trac_store.specs.FlatForms.{flat_form, flat_forms, flat_item}
 pub use Rattle.trac_store.specs.Forms.{body_at, form_at, name_at}
@@ -47,4 +47,4 @@ pub use Rattle.trac_store.specs.Loading.{AreCharacters, called_part}
 pub use Rattle.trac_store.specs.Parts.{IsTextPart, new_form, part_text}
 pub use Rattle.trac_store.specs.Removal.{IsFormed, IsMarkedFrom, is_among, marked_if, unmarked, with_marks, without_all}
 pub use Rattle.trac_store.specs.Search.{IsFirst, NonePasses, character_at, gap_at, is_gap, item_at, text_at}
-pub use Rattle.trac_store.specs.Stored.{forms_in, head_at, head_number, item_of, start_of, stored_item}
+pub use Rattle.trac_store.specs.Stored.{AreForms, forms_in, head_at, head_number, item_of, start_of, stored_item}

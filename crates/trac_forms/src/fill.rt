@@ -1,9 +1,7 @@
 //! Whole forms, their gaps filled, put at the end of neutral (Mooers 1966).
 ghost use Rattle.std.specs.Prelude.{◌≡◌, ◌+◌, ◌≤◌, ◌<◌, ◌↔◌, ◌++◌};
-ghost use Rattle.std.specs.Prelude.{length, IsTrue, MatchOption};
+ghost use Rattle.std.specs.Prelude.{length, map, slice_range, IsTrue, MatchOption};
 ghost use Rattle.std.specs.Bool.{OnTrue, OnFalse};
-ghost use Rattle.trac_language.specs.Store.{IsStore};
-ghost use Rattle.trac_space.specs.Lists.{used as cells_used};
 ghost use Rattle.trac_space.specs.Texts.{flat_text};
 ghost use Rattle.trac_forms.specs.Contents.{used, IsSound, form_place};
 ghost use Rattle.trac_store.specs.Loading.{called_part};
@@ -11,14 +9,12 @@ ghost use Rattle.trac_forms.specs.Loading.{IsLoaded};
 ghost use Rattle.trac_store.specs.Arguments.{AreParted};
 ghost use Rattle.trac_forms.specs.Arguments.{filled_body};
 ghost use Rattle.trac_store.specs.FlatForms.{flat_forms};
-ghost use Rattle.trac_store.specs.Index.{IsKept};
-ghost use Rattle.trac_store.specs.Stored.{forms_in, start_of};
-ghost use Rattle.trac_forms.specs.Stored.{shown};
+ghost use Rattle.trac_store.specs.Stored.{item_of, start_of};
 
 use crate::item::FormId;
 use crate::work::Work;
-use trac_space::Space;
-use trac_store::{fill_items, heads_of, load_form, place_of};
+use trac_space::Part;
+use trac_store::{Located, fill_items, heads_of, load_items};
 
 impl<'a> Work<'a> {
     /// Puts the items of the form's body from its pointer on at the end of neutral, each gap of
@@ -36,10 +32,18 @@ impl<'a> Work<'a> {
         ensures full { OnFalse result (self.new ≡ self.old) }
         ensures sound { IsSound self.new }
     {
-        if self.last != form.0 {
+        if self.last.number != form.0 {
             return self.fill_other(form, first, end);
         }
-        fill_form(&mut self.space, form.0, self.start, first, end)
+        let texts = Part {
+            from: first,
+            to: end,
+        };
+        let here = Located {
+            number: form.0,
+            start: self.last.start,
+        };
+        self.fill_located(here, texts)
     }
 
     // The same, where another form was used last.
@@ -56,8 +60,50 @@ impl<'a> Work<'a> {
         ensures full { OnFalse result (self.new ≡ self.old) }
         ensures sound { IsSound self.new }
     {
-        let start = place_of(&self.space, self.last, self.start, form.0);
-        fill_form(&mut self.space, form.0, start, first, end)
+        let texts = Part {
+            from: first,
+            to: end,
+        };
+        let at = self.locate(form);
+        self.fill_located(at, texts)
+    }
+
+    // Where the items that a call of the form goes through stand in the store: its body from its
+    // pointer on.
+    #[inline(always)]
+    fn called_place(&self, form: Located) -> Part
+        requires known { form.number < length self.now.forms }
+        requires begins { form.start ≡ start_of self.now.forms form.number }
+        ensures order { result.from ≤ result.to }
+        ensures within { result.to ≤ length (flat_forms self.now.forms) }
+        ensures items { let cells = slice_range (flat_forms self.now.forms) result.from result.to in
+            map item_of cells ≡ called_part self.now.forms form.number }
+    {
+        let heads = heads_of(&self.space, form);
+        let place = form.start + 3 + heads.name;
+        Part {
+            from: place + heads.pointer,
+            to: place + heads.body,
+        }
+    }
+
+    // As `fill_body`, of a form whose place is known.
+    #[inline(always)]
+    fn fill_located(&mut self, form: Located, texts: Part) -> bool
+        requires known { form.number < length self.old.forms }
+        requires begins { form.start ≡ start_of self.old.forms form.number }
+        requires arguments { AreParted self.old.neutral texts.from texts.to }
+        ensures put { let text = filled_body self.old form.number texts.from texts.to in
+            IsTrue result ↔ (used self.old + length text ≤ self.old.room) }
+        ensures last { let text = filled_body self.old form.number texts.from texts.to in
+            OnTrue result (self.new ≡ record self.old {
+              neutral = self.old.neutral ++ flat_text text;
+            }) }
+        ensures full { OnFalse result (self.new ≡ self.old) }
+        ensures sound { IsSound self.new }
+    {
+        let items = self.called_place(form);
+        fill_items(&mut self.space, items, texts)
     }
 }
 
@@ -72,31 +118,8 @@ impl<'a> Work<'a> {
             (λ n. IsLoaded self.old self.new body n) }
         ensures sound { IsSound self.new }
     {
-        let start = place_of(&self.space, self.last, self.start, form.0);
-        load_form(&mut self.space, form.0, start)
+        let at = self.locate(form);
+        let items = self.called_place(at);
+        load_items(&mut self.space, items)
     }
-}
-
-// As `fill_body`, of form `k`, which begins at a place of the store.
-#[inline(always)]
-fn fill_form(space: &mut Space, k: u32, start: u32, first: u32, end: u32) -> bool
-    requires whole { flat_forms (forms_in space.old.store) ≡ space.old.store }
-    requires bounded { length space.old.store ≤ 16777216 }
-    requires forms { IsStore (forms_in space.old.store) }
-    requires known { k < length (forms_in space.old.store) }
-    requires begins { start ≡ start_of (forms_in space.old.store) k }
-    requires arguments { AreParted space.old.neutral first end }
-    ensures put { let text = filled_body (shown space.old) k first end in
-        IsTrue result ↔ (cells_used space.old + length text ≤ space.old.room) }
-    ensures last { let text = filled_body (shown space.old) k first end in
-        OnTrue result (space.new ≡ record space.old {
-          neutral = space.old.neutral ++ flat_text text;
-          spare = space.new.spare;
-        }) }
-    ensures full { OnFalse result (space.new ≡ record space.old { spare = space.new.spare }) }
-    ensures kept { IsKept space.old.spare space.new.spare }
-{
-    let (name, body, pointer) = heads_of(space, (k, start));
-    let place = start + 3 + name;
-    fill_items(space, place + pointer, place + body, first, end)
 }

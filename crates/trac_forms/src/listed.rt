@@ -12,7 +12,7 @@ use crate::work::Work;
 use std::marker::Model;
 use trac_language::Item;
 use trac_space::Cell;
-use trac_store::{heads, item_of, number_in_head, place_of};
+use trac_store::{heads_at, item_of, number_in_head};
 
 /// A form as it stands in the block.
 #[derive(Drop)]
@@ -155,13 +155,13 @@ impl<'a> Work<'a> {
         requires { form_place form < length self.now.forms }
         ensures { result ≡ form_at self.now.forms (form_place form) }
     {
-        let start = place_of(&self.space, self.last, self.start, form.0);
-        let (name, body, pointer) = heads(&self.space, start);
-        let from = start + 3 + name;
+        let at = self.locate(form);
+        let heads = heads_at(&self.space, at.start);
+        let from = at.start + 3 + heads.name;
         StoredForm {
-            name: self.space.store_part(start + 3, from),
-            body: self.space.store_part(from, from + body),
-            pointer,
+            name: self.space.store_part(at.start + 3, from),
+            body: self.space.store_part(from, from + heads.body),
+            pointer: heads.pointer,
         }
     }
 }

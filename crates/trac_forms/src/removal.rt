@@ -5,7 +5,8 @@ ghost use Rattle.trac_forms.specs.Contents.{IsSound};
 ghost use Rattle.trac_store.specs.Removal.{without_all};
 
 use crate::work::Work;
-use trac_store::{mark_all, take_out_marked};
+use trac_space::Part;
+use trac_store::{FIRST_FORM, mark_all, take_out_marked};
 
 impl<'a> Work<'a> {
     /// Takes the forms out of the list whose names are the texts between the comma marks of neutral
@@ -17,11 +18,16 @@ impl<'a> Work<'a> {
             self.new ≡ record self.old { forms = without_all names self.old.forms } }
         ensures sound { IsSound self.new }
     {
-        let last = (self.last, self.start);
-        let names = (from, end);
-        let first = mark_all(&mut self.space, self.count, last, names, &mut self.toil);
+        let last = self.last;
+        let names = Part { from, to: end };
+        let first = mark_all(
+            &mut self.space,
+            self.count,
+            last,
+            names,
+            &mut self.search_cost,
+        );
         self.count = take_out_marked(&mut self.space, first, self.count);
-        self.last = 0;
-        self.start = 0;
+        self.last = FIRST_FORM;
     }
 }

@@ -11,13 +11,13 @@ ghost use Rattle.trac_space.specs.Texts.{IsByte, byte_cell_at};
 use crate::cell::{Cell, are_characters, are_four, are_two, byte_in, is_character};
 
 // How many cells a long move takes at once.
-const PART: usize = 256;
+const LONG_PART: usize = 256;
 // How near two places are whose cells go one by one.
 const NEAR: usize = 8;
 // How many cells are moved by blocks at most, and not by a call, where the two places are apart.
-const FEW: usize = 24;
+const MOST_BY_BLOCKS: usize = 24;
 // How many are moved so where they overlap, and not part by part.
-const MANY: usize = 48;
+const MOST_OVERLAPPING_BY_BLOCKS: usize = 48;
 // How many characters are moved at once before each of them is looked at.
 pub(crate) const BLOCK: usize = 8;
 
@@ -37,23 +37,7 @@ pub(crate) fn copy_cells(cells: &mut [Cell], start: usize, end: usize, to: usize
     }
 }
 
-// The same, for moves of few cells.
-#[inline]
-pub(crate) fn copy_few(cells: &mut [Cell], start: usize, end: usize, to: usize)
-    requires order { start ≤ end }
-    requires within { end ≤ length cells.old }
-    requires room { to + (end - start) ≤ length cells.old }
-    ensures len { length cells.new ≡ length cells.old }
-    ensures after { cells.new ≡ copy_within cells.old start end to }
-{
-    if end - start == 1 {
-        cells.copy_within(start..start + 1, to);
-    } else {
-        copy_cells(cells, start, end, to);
-    }
-}
-
-// The same, for moves that mostly are of one cell.
+// As `copy_within`, for moves that mostly are of one cell.
 #[inline]
 pub(crate) fn copy_one_or_more(cells: &mut [Cell], start: usize, end: usize, to: usize)
     requires order { start ≤ end }
@@ -97,11 +81,11 @@ fn copy_long(cells: &mut [Cell], start: usize, end: usize, to: usize)
     } else if start.abs_diff(to) < NEAR {
         cells.copy_within(start..end, to);
     } else if start < to {
-        copy_up(cells, start, end, to);
-    } else if end - start <= MANY {
-        copy_blocks_before(cells, start, end - start, to);
+        copy_higher_by_parts(cells, start, end, to);
+    } else if end - start <= MOST_OVERLAPPING_BY_BLOCKS {
+        copy_lower_by_blocks(cells, start, end - start, to);
     } else {
-        copy_down(cells, start, end, to);
+        copy_lower_by_parts(cells, start, end, to);
     }
 }
 
@@ -125,16 +109,16 @@ fn copy_apart(cells: &mut [Cell], start: usize, end: usize, to: usize)
     }
 }
 
-// The same, to a place behind: the last part first.
+// As `copy_within`, to a higher place: part by part, the last first.
 #[inline(never)]
-fn copy_up(cells: &mut [Cell], start: usize, end: usize, to: usize)
+fn copy_higher_by_parts(cells: &mut [Cell], start: usize, end: usize, to: usize)
     requires order { start ≤ end }
     requires room { to + (end - start) ≤ length cells.old }
     requires behind { start < to }
     ensures len { length cells.new ≡ length cells.old }
     ensures after { cells.new ≡ copy_within cells.old start end to }
 {
-    let part = (to - start).min(PART);
+    let part = (to - start).min(LONG_PART);
     let mut left = end - start;
     while left > 0 {
         let last = left;
@@ -143,16 +127,16 @@ fn copy_up(cells: &mut [Cell], start: usize, end: usize, to: usize)
     }
 }
 
-// The same, to a place before: the first part first.
+// As `copy_within`, to a lower place: part by part, the first first.
 #[inline(never)]
-fn copy_down(cells: &mut [Cell], start: usize, end: usize, to: usize)
+fn copy_lower_by_parts(cells: &mut [Cell], start: usize, end: usize, to: usize)
     requires order { start ≤ end }
     requires within { end ≤ length cells.old }
     requires before { to < start }
     ensures len { length cells.new ≡ length cells.old }
     ensures after { cells.new ≡ copy_within cells.old start end to }
 {
-    let part = (start - to).min(PART);
+    let part = (start - to).min(LONG_PART);
     let all = end - start;
     let mut done = 0;
     while done < all {
@@ -168,7 +152,7 @@ fn copy_other(from: &[Cell], to: &mut [Cell])
     requires { length from.now ≡ length to.old }
     ensures { to.new ≡ from.now }
 {
-    if from.len() <= PART {
+    if from.len() <= LONG_PART {
         to.copy_from_slice(from);
     } else {
         copy_parts(from, to);
@@ -183,7 +167,7 @@ fn copy_parts(from: &[Cell], to: &mut [Cell])
 {
     let mut done = 0;
     while done < from.len() {
-        let end = done + PART.min(from.len() - done);
+        let end = done + LONG_PART.min(from.len() - done);
         to[done..end].copy_from_slice(&from[done..end]);
         done = end;
     }
@@ -318,41 +302,25 @@ pub(crate) fn characters_in_block(cells: &[Cell], at: usize) -> usize
     count
 }
 
-// Makes a block of cells the same as another that stands so far before, and apart.
+// As `copy_within`, for moves to a place that mostly is higher and apart.
 #[inline(always)]
-pub(crate) fn copy_block(cells: &mut [Cell], start: usize, distance: usize)
-    requires apart { 8 ≤ distance }
-    requires room { start + distance + 8 ≤ length cells.old }
-    ensures len { length cells.new ≡ length cells.old }
-    ensures after { (to : ℕ) → to ≡ start + distance →
-        cells.new ≡ copy_within cells.old start (start + 8) to }
-{
-    let to = start + distance;
-    let end = start + BLOCK;
-    let n = end - start;
-    let (front, back) = cells.split_at_mut(to);
-    back[..n].copy_from_slice(&front[start..end]);
-}
-
-// As `copy_within`, for moves to a place that mostly is behind the cells and apart from them.
-#[inline(always)]
-pub(crate) fn copy_forward(cells: &mut [Cell], start: usize, end: usize, to: usize)
+pub(crate) fn copy_mostly_apart(cells: &mut [Cell], start: usize, end: usize, to: usize)
     requires order { start ≤ end }
     requires within { end ≤ length cells.old }
     requires room { to + (end - start) ≤ length cells.old }
     ensures len { length cells.new ≡ length cells.old }
     ensures after { cells.new ≡ copy_within cells.old start end to }
 {
-    if end <= to && end - start <= FEW {
-        copy_behind(cells, start, to - start, end - start);
+    if end <= to && end - start <= MOST_BY_BLOCKS {
+        copy_apart_higher(cells, start, to - start, end - start);
     } else {
         copy_cells(cells, start, end, to);
     }
 }
 
-// As `copy_within`, for moves to a place before. A few blocks go by code that stands where it is used.
+// As `copy_within`, to a lower place. A few blocks go by code that stands where it is used.
 #[inline(always)]
-pub(crate) fn copy_back(cells: &mut [Cell], start: usize, end: usize, to: usize)
+pub(crate) fn copy_lower(cells: &mut [Cell], start: usize, end: usize, to: usize)
     requires order { start ≤ end }
     requires within { end ≤ length cells.old }
     requires before { to ≤ start }
@@ -360,16 +328,16 @@ pub(crate) fn copy_back(cells: &mut [Cell], start: usize, end: usize, to: usize)
     ensures after { cells.new ≡ copy_within cells.old start end to }
 {
     let n = end - start;
-    if n >= BLOCK && n <= FEW && start - to >= BLOCK {
-        copy_blocks_before(cells, start, n, to);
+    if n >= BLOCK && n <= MOST_BY_BLOCKS && start - to >= BLOCK {
+        copy_lower_by_blocks(cells, start, n, to);
     } else {
         copy_cells(cells, start, end, to);
     }
 }
 
-// As `copy_within`, for moves to a place behind. A few blocks go by code that stands where it is used.
+// As `copy_within`, to a higher place. A few blocks go by code that stands where it is used.
 #[inline(always)]
-pub(crate) fn copy_on(cells: &mut [Cell], start: usize, end: usize, to: usize)
+pub(crate) fn copy_higher(cells: &mut [Cell], start: usize, end: usize, to: usize)
     requires order { start ≤ end }
     requires behind { start ≤ to }
     requires room { to + (end - start) ≤ length cells.old }
@@ -377,17 +345,17 @@ pub(crate) fn copy_on(cells: &mut [Cell], start: usize, end: usize, to: usize)
     ensures after { cells.new ≡ copy_within cells.old start end to }
 {
     let n = end - start;
-    if n >= BLOCK && n <= MANY && to - start >= BLOCK {
-        copy_blocks_up(cells, start, n, to - start);
+    if n >= BLOCK && n <= MOST_OVERLAPPING_BY_BLOCKS && to - start >= BLOCK {
+        copy_higher_by_blocks(cells, start, n, to - start);
     } else {
         copy_cells(cells, start, end, to);
     }
 }
 
-// As `copy_within`, to a place that is a block behind the cells or more, by blocks, the last first.
+// As `copy_within`, to a place that is a block higher or more, by blocks, the last first.
 // The first may end in the one behind it: what it moves isn't written over yet.
 #[inline(always)]
-fn copy_blocks_up(cells: &mut [Cell], start: usize, n: usize, distance: usize)
+fn copy_higher_by_blocks(cells: &mut [Cell], start: usize, n: usize, distance: usize)
     requires some { 8 ≤ n }
     requires behind { 8 ≤ distance }
     requires room { start + distance + n ≤ length cells.old }
@@ -398,36 +366,36 @@ fn copy_blocks_up(cells: &mut [Cell], start: usize, n: usize, distance: usize)
     let mut left = n;
     while left > BLOCK {
         left -= BLOCK;
-        copy_block(cells, start + left, distance);
+        copy_some_higher(cells, start + left, distance, BLOCK);
     }
-    copy_block(cells, start, distance);
+    copy_some_higher(cells, start, distance, BLOCK);
 }
 
-// As `copy_within`, to a place so far before that the places are apart, for moves of few cells.
+// As `copy_within`, to a lower place apart, for moves of few cells.
 #[inline(always)]
 #[tactic(auto, using(crate::proofs::Moves::move_one))]
-pub(crate) fn copy_before(cells: &mut [Cell], start: usize, n: usize, to: usize)
+pub(crate) fn copy_apart_lower(cells: &mut [Cell], start: usize, n: usize, to: usize)
     requires apart { to + n ≤ start }
     requires within { start + n ≤ length cells.old }
     ensures len { length cells.new ≡ length cells.old }
     ensures after { cells.new ≡ copy_within cells.old start (start + n) to }
 {
-    if n > FEW {
+    if n > MOST_BY_BLOCKS {
         copy_long(cells, start, start + n, to);
     } else if n >= BLOCK {
-        copy_blocks_before(cells, start, n, to);
+        copy_lower_by_blocks(cells, start, n, to);
     } else if n >= 4 {
-        copy_halves_before(cells, start, n, to, 4);
+        copy_halves_lower(cells, start, n, to, 4);
     } else if n >= 2 {
-        copy_halves_before(cells, start, n, to, 2);
+        copy_halves_lower(cells, start, n, to, 2);
     } else if n == 1 {
         cells[to] = cells[start];
     }
 }
 
-// The same, of as many as a half has or twice as many at most.
+// The same, by two halves, of which the second may begin in the first.
 #[inline(always)]
-fn copy_halves_before(cells: &mut [Cell], start: usize, n: usize, to: usize, half: usize)
+fn copy_halves_lower(cells: &mut [Cell], start: usize, n: usize, to: usize, half: usize)
     requires some { half ≤ n }
     requires few { n ≤ half + half }
     requires apart { to + n ≤ start }
@@ -435,13 +403,13 @@ fn copy_halves_before(cells: &mut [Cell], start: usize, n: usize, to: usize, hal
     ensures len { length cells.new ≡ length cells.old }
     ensures after { cells.new ≡ copy_within cells.old start (start + n) to }
 {
-    copy_some_before(cells, start, to, half);
-    copy_some_before(cells, start + (n - half), to + (n - half), half);
+    copy_some_lower(cells, start, to, half);
+    copy_some_lower(cells, start + (n - half), to + (n - half), half);
 }
 
-// Makes so many cells the same as others that stand behind them, and apart.
+// As `copy_within`, to a lower place apart.
 #[inline(always)]
-fn copy_some_before(cells: &mut [Cell], start: usize, to: usize, n: usize)
+fn copy_some_lower(cells: &mut [Cell], start: usize, to: usize, n: usize)
     requires apart { to + n ≤ start }
     requires within { start + n ≤ length cells.old }
     ensures len { length cells.new ≡ length cells.old }
@@ -451,11 +419,11 @@ fn copy_some_before(cells: &mut [Cell], start: usize, to: usize, n: usize)
     front[to..to + n].copy_from_slice(&back[..n]);
 }
 
-// As `copy_within`, to a place so far behind that the places are apart. A move of eight cells or
+// As `copy_within`, to a place so much higher that the places are apart. A move of eight cells or
 // more goes by blocks, of which the last may begin in the one before it; a shorter one by two
 // halves, which may do so too.
 #[inline(always)]
-pub(crate) fn copy_behind(cells: &mut [Cell], start: usize, distance: usize, n: usize)
+pub(crate) fn copy_apart_higher(cells: &mut [Cell], start: usize, distance: usize, n: usize)
     requires apart { n ≤ distance }
     requires room { start + distance + n ≤ length cells.old }
     ensures len { length cells.new ≡ length cells.old }
@@ -463,34 +431,34 @@ pub(crate) fn copy_behind(cells: &mut [Cell], start: usize, distance: usize, n: 
         cells.new ≡ copy_within cells.old start (start + n) to }
 {
     if n >= BLOCK {
-        copy_blocks(cells, start, distance, n);
+        copy_blocks_higher(cells, start, distance, n);
     } else if n >= 4 {
-        copy_halves(cells, start, distance, n, 4);
+        copy_halves_higher(cells, start, distance, n, 4);
     } else if n >= 2 {
-        copy_halves(cells, start, distance, n, 2);
+        copy_halves_higher(cells, start, distance, n, 2);
     } else if n == 1 {
         cells[start + distance] = cells[start];
     }
 }
 
-// The same, told where it goes; a long one by a call.
+// As `copy_within`, to a higher place apart; a long move goes by a call.
 #[inline(always)]
-pub(crate) fn copy_ahead(cells: &mut [Cell], start: usize, n: usize, to: usize)
+pub(crate) fn copy_apart_to(cells: &mut [Cell], start: usize, n: usize, to: usize)
     requires apart { start + n ≤ to }
     requires room { to + n ≤ length cells.old }
     ensures len { length cells.new ≡ length cells.old }
     ensures after { cells.new ≡ copy_within cells.old start (start + n) to }
 {
-    if n > FEW {
+    if n > MOST_BY_BLOCKS {
         copy_long(cells, start, start + n, to);
     } else {
-        copy_behind(cells, start, to - start, n);
+        copy_apart_higher(cells, start, to - start, n);
     }
 }
 
-// The same, of a block or more.
+// As `copy_apart_higher`, of a block or more.
 #[inline(always)]
-fn copy_blocks(cells: &mut [Cell], start: usize, distance: usize, n: usize)
+fn copy_blocks_higher(cells: &mut [Cell], start: usize, distance: usize, n: usize)
     requires some { 8 ≤ n }
     requires apart { n ≤ distance }
     requires room { start + distance + n ≤ length cells.old }
@@ -500,15 +468,15 @@ fn copy_blocks(cells: &mut [Cell], start: usize, distance: usize, n: usize)
 {
     let mut done = 0;
     while n - done > BLOCK {
-        copy_block(cells, start + done, distance);
+        copy_some_higher(cells, start + done, distance, BLOCK);
         done += BLOCK;
     }
-    copy_block(cells, start + (n - BLOCK), distance);
+    copy_some_higher(cells, start + (n - BLOCK), distance, BLOCK);
 }
 
-// The same, of as many as a half has or twice as many at most.
+// As `copy_apart_higher`, by two halves, of which the second may begin in the first.
 #[inline(always)]
-fn copy_halves(cells: &mut [Cell], start: usize, distance: usize, n: usize, half: usize)
+fn copy_halves_higher(cells: &mut [Cell], start: usize, distance: usize, n: usize, half: usize)
     requires some { half ≤ n }
     requires few { n ≤ half + half }
     requires apart { n ≤ distance }
@@ -517,13 +485,13 @@ fn copy_halves(cells: &mut [Cell], start: usize, distance: usize, n: usize, half
     ensures after { (to : ℕ) → to ≡ start + distance →
         cells.new ≡ copy_within cells.old start (start + n) to }
 {
-    copy_half(cells, start, distance, half);
-    copy_half(cells, start + (n - half), distance, half);
+    copy_some_higher(cells, start, distance, half);
+    copy_some_higher(cells, start + (n - half), distance, half);
 }
 
-// Makes so many cells the same as others that stand so far before, and apart.
+// As `copy_within`, to a place that is `distance` higher, and apart.
 #[inline(always)]
-fn copy_half(cells: &mut [Cell], start: usize, distance: usize, n: usize)
+pub(crate) fn copy_some_higher(cells: &mut [Cell], start: usize, distance: usize, n: usize)
     requires apart { n ≤ distance }
     requires room { start + distance + n ≤ length cells.old }
     ensures len { length cells.new ≡ length cells.old }
@@ -537,10 +505,10 @@ fn copy_half(cells: &mut [Cell], start: usize, distance: usize, n: usize)
     back[..n].copy_from_slice(&front[start..end]);
 }
 
-// As `copy_within`, to a place that is a block before the cells or more, by blocks. The last may begin
+// As `copy_within`, to a place that is a block lower or more, by blocks. The last may begin
 // in the one before it: what it moves isn't written over yet.
 #[inline(always)]
-fn copy_blocks_before(cells: &mut [Cell], start: usize, n: usize, to: usize)
+fn copy_lower_by_blocks(cells: &mut [Cell], start: usize, n: usize, to: usize)
     requires some { 8 ≤ n }
     requires before { to + 8 ≤ start }
     requires within { start + n ≤ length cells.old }
@@ -549,8 +517,8 @@ fn copy_blocks_before(cells: &mut [Cell], start: usize, n: usize, to: usize)
 {
     let mut done = 0;
     while n - done > BLOCK {
-        copy_some_before(cells, start + done, to + done, BLOCK);
+        copy_some_lower(cells, start + done, to + done, BLOCK);
         done += BLOCK;
     }
-    copy_some_before(cells, start + (n - BLOCK), to + (n - BLOCK), BLOCK);
+    copy_some_lower(cells, start + (n - BLOCK), to + (n - BLOCK), BLOCK);
 }

@@ -9,7 +9,7 @@ ghost use Rattle.trac_space.specs.Filled.{IsPut, parts_at, numbered_part};
 ghost use Rattle.trac_space.specs.Overlay.{takes_number, under};
 
 use crate::cell::{Cell, is_character, is_comma};
-use crate::copies::{BLOCK, characters_in_block, copy_behind, copy_block};
+use crate::copies::{BLOCK, characters_in_block, copy_apart_higher, copy_some_higher};
 use crate::overlay::{cell_under, laid, lift, number_over_laid};
 
 // The cells between whose comma marks the parts stand: where they begin, how many they are, and how
@@ -69,7 +69,7 @@ pub(crate) fn fill_cells(
     let mut at = from;
     let mut to = to;
     while to + BLOCK <= last && distance(at, to) >= BLOCK {
-        copy_block(cells, at, distance(at, to));
+        copy_some_higher(cells, at, distance(at, to), BLOCK);
         let run = characters_in_block(cells, at);
         let gap = at + run;
         if gap >= stop {
@@ -150,7 +150,7 @@ fn put_part(cells: &mut [Cell], start: usize, to: usize, n: usize, given: Given)
         cells[to] = cell_under(cells[start]);
         return;
     }
-    copy_behind(cells, start, distance(start, to), n);
+    copy_apart_higher(cells, start, distance(start, to), n);
     lift(&mut cells[to..to + n.min(laid - start)]);
 }
 
@@ -166,7 +166,7 @@ fn copy_part(cells: &mut [Cell], start: usize, to: usize, n: usize)
     if n == 1 {
         cells.copy_within(start..start + 1, to);
     } else {
-        copy_behind(cells, start, distance(start, to), n);
+        copy_apart_higher(cells, start, distance(start, to), n);
     }
 }
 

@@ -5,10 +5,7 @@ ghost use Rattle.std.specs.Prelude.{◌≡◌, ◌<◌, IsTrue, map};
 ghost use Rattle.trac_space.specs.Cells.{IsNoCall};
 ghost use Rattle.trac_space.specs.Overlay.{takes_number, under, over, has_number};
 
-use crate::cell::Cell;
-
-// What an arm reads that is never reached: nothing, so that the compiler makes no test for it.
-const NO_NUMBER: [u32; 0] = [];
+use crate::cell::{Cell, NO_NUMBER};
 
 /// The character or the comma mark with a number over it.
 #[inline]

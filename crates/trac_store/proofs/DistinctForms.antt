@@ -1,5 +1,5 @@
 -- Lists of forms of distinct names.
-use Rattle.trac_store.proofs.Words.{◌≡◌, ◌≢◌, ℕ, zero, suc, ◌+◌, ◌-◌, ◌<◌, ◌≤◌, Bool, true, false, List, [], ◌∷◌, ◌++◌, length, take, drop, set, slice_range, Option, Some, None, sym, ap, refl, ◌∙◌, subst, arith, bytes_eq, if◌then◌else◌, MatchOption, remove, both_ways, false_from_ne_true}
+use Rattle.trac_store.proofs.Words.{Located, ◌≡◌, ◌≢◌, ℕ, zero, suc, ◌+◌, ◌-◌, ◌<◌, ◌≤◌, Bool, true, false, List, [], ◌∷◌, ◌++◌, length, take, drop, set, slice_range, Option, Some, None, sym, ap, refl, ◌∙◌, subst, arith, bytes_eq, if◌then◌else◌, MatchOption, remove, both_ways, false_from_ne_true}
 use Rattle.trac_store.proofs.Words.{bytes_eq-Decides, take_more, take_all, take-append-drop, drop_all, set_split, append-nil, get_or-drop, length-drop, sum_by-remove, sum_by-set, sum_by-cons, Text, Form, items_of, is_named, form_named, without, changed, defined, form_cells, cells, NoneNamed}
 use Rattle.trac_store.proofs.Words.{IsStore, flat_forms, form_at, IsNamedAt, IsFoundAt}
 use Rattle.trac_store.proofs.FlatLemmas.{length-flat}
@@ -36,7 +36,7 @@ NoneNamed-round name forms from end whole after before =
     subst (NoneNamed name) (take-append-drop from forms) (NoneNamed-append name (take from forms) (drop from forms) first (rw rest at after))
 
 -- the answer of a search up to a place, where there was none from it on
-pub found-round : (name : Text) (forms : List Form) (from end : ℕ) (found : Option (ℕ × ℕ)) → end ≡ length forms → NoneNamed name (slice_range forms from end) → MatchOption found (NoneNamed name (slice_range forms 0 from)) (λ at. IsFoundAt forms name at.0 at.1) → MatchOption found (NoneNamed name forms) (λ at. IsFoundAt forms name at.0 at.1)
+pub found-round : (name : Text) (forms : List Form) (from end : ℕ) (found : Option Located) → end ≡ length forms → NoneNamed name (slice_range forms from end) → MatchOption found (NoneNamed name (slice_range forms 0 from)) (λ at. IsFoundAt forms name at.number at.start) → MatchOption found (NoneNamed name forms) (λ at. IsFoundAt forms name at.number at.start)
 found-round name forms from end None whole after before = NoneNamed-round name forms from end whole after before
 found-round name forms from end (Some at) whole after found = found
 

@@ -1,6 +1,6 @@
 -- A search by the table.
 use Rattle.trac_store.proofs.Words.{◌≡◌, ◌≢◌, ℕ, zero, suc, ◌+◌, ◌-◌, ◌*◌, ◌/◌, ◌<◌, ◌≤◌, true, false, List, [], ◌∷◌, length, map, set, take, get_or, Bool, inl, inr, if◌then◌else◌, nat_le, refl, subst, sym, ap, ◌∙◌, arith, ⊎_elim, bit_and, and_le_r, false≢true, cases_lt, length-map}
-use Rattle.trac_store.proofs.Words.{length-append, length-set, get_or-map, Text, Form, NoneNamed, Cell, Byte, Head, seen, Lists, used, with_way, flat_form, flat_forms, name_at, form_at, start_of, IsIndexed, IsKept, hash, quarter, slots, slot, start_place, cell_at, is_blank, IsIndex}
+use Rattle.trac_store.proofs.Words.{length-append, length-set, get_or-map, Text, Form, NoneNamed, Cell, Byte, Head, seen, Lists, used, claimed, flat_form, flat_forms, name_at, form_at, start_of, IsIndexed, IsKept, hash, quarter, slots, slot, start_place, cell_at, is_blank, IsIndex}
 use Rattle.trac_store.proofs.TableChanges.{index-renamed}
 
 pub NoneNamed-from : (name : Text) (forms : List Form) → ((k : ℕ) → k < length forms → name_at forms k ≢ name) → NoneNamed name forms
@@ -65,8 +65,8 @@ kept-if : (b : Bool) (xs : List Cell) → IsKept xs (if b then xs else [])
 kept-if true xs = inl refl
 kept-if false xs = inr refl
 
-pub way-kept : (n : ℕ) (s : Lists) → IsKept s.spare (with_way n s).spare
-way-kept n s = kept-if (nat_le (used s + n + length s.spare) s.room) s.spare
+pub claimed-kept : (n : ℕ) (s : Lists) → IsKept s.spare (claimed n s).spare
+claimed-kept n s = kept-if (nat_le (used s + n + length s.spare) s.room) s.spare
 
 -- another form of the same name and length at place k
 pub name-set : (new : Form) (forms : List Form) (k j : ℕ) → new.name ≡ (form_at forms k).name → name_at (set forms k new) j ≡ name_at forms j

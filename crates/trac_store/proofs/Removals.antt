@@ -1,5 +1,5 @@
 -- Forms that are marked, and then removed.
-use Rattle.trac_store.proofs.Words.{◌≡◌, ◌<◌, ℕ, zero, suc, ◌+◌, ◌≤◌, Bool, true, false, List, [], ◌∷◌, length, set, slice_range, sym, ap, refl, ◌∙◌, subst, arith, ◌⊎◌, ⊎_elim, if◌then◌else◌, filter, not, ◌||◌, ◌==◌, length-append, length-set, get_or-set_other, All-head}
+use Rattle.trac_store.proofs.Words.{AreForms, Located, ◌≡◌, ◌<◌, ℕ, zero, suc, ◌+◌, ◌≤◌, Bool, true, false, List, [], ◌∷◌, length, set, slice_range, sym, ap, refl, ◌∙◌, subst, arith, ◌⊎◌, ⊎_elim, if◌then◌else◌, filter, not, ◌||◌, ◌==◌, length-append, length-set, get_or-set_other, All-head}
 use Rattle.trac_store.proofs.Words.{All-tail, Text, Form, is_named, NoneNamed, IsStore, Cell, Head, Lists, flat_form, flat_forms, form_at, IsNamedAt, IsTextPart, part_text, part_texts, before_comma, parts_between, texts_between, AreParted, IsPlace, forms_in, start_of}
 use Rattle.trac_store.proofs.Words.{is_among, without_all, mark, is_marked, marked, marked_if, with_marks, unmarked, HaveOwnNames, IsFormed, IsMarkedFrom, begins}
 use Rattle.trac_store.proofs.FlatLemmas.{forms_in-flat, length-flat_form}
@@ -66,7 +66,7 @@ marked-lists {s = s} {t = t} {count = count} {k = k} {at = at} {name = name} h n
     let forms = forms_in s.store in
     let form = marked (form_at forms k) in
     let new = set forms k form in
-    let f = stands forms s.store k at h.whole named.within begins in
+    let f = stands forms s.store k at h.forms.whole named.within begins in
     let cells = repointed forms s.store k at mark named.within begins f in
     let is : t ≡ record s { store = flat_forms new } = written ∙ ap (λ cells. record s { store = cells }) cells in
     let read = forms_in-flat new in
@@ -74,8 +74,7 @@ marked-lists {s = s} {t = t} {count = count} {k = k} {at = at} {name = name} h n
     let fewer = cells-set forms k form named.within (omega arith) in (
       is ∙ ap (λ fs. record s { store = flat_forms fs }) (sym (mark-at name forms k h.distinct named)),
       subst (λ (l : Lists). IsFormed l count k at) (sym is) (record {
-        whole = rw read refl;
-        bounded = omega (arith, h.bounded, fewer, ap length h.whole);
+        forms = record { whole = rw read refl; bounded = omega (arith, h.forms.bounded, fewer, ap length h.forms.whole) };
         count_is = rw read (omega (arith, h.count_is, size));
         place = rw read (record { within = omega (arith, named.within, size); start_is = begins ∙ sym (start_of-set forms k form) });
         distinct = rw read (own-set forms k form refl h.distinct);
@@ -88,17 +87,17 @@ pub no-mark : (n : ℕ) → n ≤ 16777216 → (n == mark) ≡ false
 no-mark n small = grind arith
 
 -- where the first mark is or may be, once a form is marked
-pub marked-from : (forms : List Form) (k start : ℕ) (first now : ℕ × ℕ) → IsMarkedFrom forms first.0 first.1 → k < length forms → start ≡ start_of forms k → (now ≡ first) ⊎ (now ≡ (k, start)) → now.0 ≤ first.0 → now.0 ≤ k → IsMarkedFrom (set forms k (marked (form_at forms k))) now.0 now.1
+pub marked-from : (forms : List Form) (k start : ℕ) (first now : Located) → IsMarkedFrom forms first.number first.start → k < length forms → start ≡ start_of forms k → (now ≡ first) ⊎ (now ≡ record { number = k; start = start }) → now.number ≤ first.number → now.number ≤ k → IsMarkedFrom (set forms k (marked (form_at forms k))) now.number now.start
 marked-from forms k start first now h within begins one before order =
     let form = marked (form_at forms k) in
-    let place : IsPlace forms now.0 now.1 = ⊎_elim
-    (λ e. subst (λ (at : ℕ × ℕ). IsPlace forms at.0 at.1) (sym e) h.place)
-    (λ e. subst (λ (at : ℕ × ℕ). IsPlace forms at.0 at.1) (sym e) (record { within = omega (arith, within); start_is = begins }))
+    let place : IsPlace forms now.number now.start = ⊎_elim
+    (λ e. subst (λ (at : Located). IsPlace forms at.number at.start) (sym e) h.place)
+    (λ e. subst (λ (at : Located). IsPlace forms at.number at.start) (sym e) (record { within = omega (arith, within); start_is = begins }))
     one in
     record {
       place = record {
         within = omega (arith, place.within, length-set forms k form);
-        start_is = place.start_is ∙ sym (same_start (record (form_at forms k) { pointer = mark }) forms k now.0 refl);
+        start_is = place.start_is ∙ sym (same_start (record (form_at forms k) { pointer = mark }) forms k now.number refl);
       };
       plain = λ j less.
           let other = get_or-set_other forms k j form (record { name = []; body = []; pointer = 0 }) (λ e. absurd (omega (arith, e, less, order))) in
@@ -160,11 +159,11 @@ module _ (s t u : Lists) (kept : t ≡ record s { spare = t.spare }) (gone : u �
   pub unmarked-read : forms_in u.store ≡ unmarked (forms_in s.store)
   unmarked-read = ap forms_in unmarked-store ∙ forms_in-flat (unmarked (forms_in s.store))
 
-  pub unmarked-whole : flat_forms (forms_in u.store) ≡ u.store
-  unmarked-whole = ap flat_forms unmarked-read ∙ sym unmarked-store
-
-  pub unmarked-shorter : flat_forms (forms_in s.store) ≡ s.store → length u.store ≤ length s.store
-  unmarked-shorter whole = omega (arith, ap length unmarked-store, ap length whole, cells-filter (λ form. not (is_marked form)) (forms_in s.store))
+  pub unmarked-forms : AreForms s.store → AreForms u.store
+  unmarked-forms h = record {
+    whole = ap flat_forms unmarked-read ∙ sym unmarked-store;
+    bounded = omega (arith, ap length unmarked-store, ap length h.whole, cells-filter (λ form. not (is_marked form)) (forms_in s.store), h.bounded);
+  }
 
 -- ---- the names
 

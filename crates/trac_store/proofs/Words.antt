@@ -28,11 +28,13 @@ pub use Rattle.trac_space.proofs.Characters.{part-on, tested-seen}
 pub use Rattle.trac_space.proofs.Runs.{character-seen}
 pub use Rattle.trac_space.specs.Cells.{IsNoCall, NoCall, is_call, is_comma, seen}
 pub use Rattle.trac_space.specs.Filled.{HaveCommas, filled, filling, numbered_part, part_between, parts_at}
-pub use Rattle.trac_space.specs.Lists.{HasWay, Lists, used, with_way}
+pub use Rattle.trac_space.specs.Lists.{FitsBesideSpare, Lists, used, claimed}
 pub use Rattle.trac_space.specs.Overlay.{HaveNumbers, over, takes_number, under}
 pub use Rattle.trac_space.specs.Texts.{IsByte, byte_cell_at, character_of, flat_text, is_byte_cell, text_of_cells}
 pub use Rattle.trac_space.specs.declared.cell.Cell.{Cell}
 pub use Rattle.trac_space.specs.declared.cell.Cell.TheVariants.{Byte, Call, Comma, Gap, Head}
+pub use Rattle.trac_space.specs.declared.part.Part.{Part}
+pub use Rattle.trac_store.specs.declared.located.Located.{Located}
 pub use Rattle.trac_store.specs.Arguments.{AreParted, IsHeadAt, before_comma, filled_cells, parts_between, texts_between}
 pub use Rattle.trac_store.specs.Borders.{AreLaid, GoesOn, HaveBorders, IsBorder, IsLongestBorder, IsNextBorder, byte_at, laid_text}
 pub use Rattle.trac_store.specs.FlatForms.{flat_form, flat_forms, flat_item}
@@ -43,4 +45,4 @@ pub use Rattle.trac_store.specs.Loading.{AreCharacters}
 pub use Rattle.trac_store.specs.Parts.{AreTextParts, IsTextPart, new_form, part_text, part_texts}
 pub use Rattle.trac_store.specs.Removal.{HaveOwnNames, IsFormed, IsMarkedFrom, is_among, is_marked, mark, marked, marked_if, unmarked, with_marks, without_all}
 pub use Rattle.trac_store.specs.Search.{IsFirst, IsLast, NonePasses, character_at, gap_at, is_gap, item_at, text_at}
-pub use Rattle.trac_store.specs.Stored.{IsFoundAt, IsPlace, forms_in, head_at, head_number, item_of, item_of_cell, read_forms, start_of, stored_item}
+pub use Rattle.trac_store.specs.Stored.{AreForms, IsFoundAt, IsPlace, forms_in, head_at, head_number, item_of, item_of_cell, read_forms, start_of, stored_item}

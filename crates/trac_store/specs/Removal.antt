@@ -1,5 +1,5 @@
 -- Forms that are removed by their names.
-use Rattle.std.specs.Prelude.{◌≡◌, ℕ, ◌==◌, ◌≤◌, ◌<◌, Bool, false, List, [], ◌∷◌, length, map, filter, not}
+use Rattle.std.specs.Prelude.{◌≡◌, ℕ, ◌==◌, ◌<◌, Bool, false, List, [], ◌∷◌, length, map, filter, not}
 use Rattle.std.specs.Prelude.{bytes_eq, if◌then◌else◌}
 use Rattle.std.specs.List.{list_any}
 use Rattle.trac_language.specs.Text.{Text}
@@ -7,9 +7,8 @@ use Rattle.trac_language.specs.Form.{Form}
 use Rattle.trac_language.specs.Store.{NoneNamed}
 use Rattle.trac_space.specs.Lists.{Lists}
 use Rattle.trac_store.specs.Forms.{form_at}
-use Rattle.trac_store.specs.FlatForms.{flat_forms}
 use Rattle.trac_store.specs.Index.{IsIndexed}
-use Rattle.trac_store.specs.Stored.{forms_in, IsPlace}
+use Rattle.trac_store.specs.Stored.{AreForms, forms_in, IsPlace}
 
 -- whether the form has one of these names
 abbrev pub is_among : List Text → Form → Bool
@@ -50,8 +49,7 @@ HaveOwnNames (form ∷ forms) = NoneNamed form.name forms × HaveOwnNames forms
 -- the store is the cells of so many forms and nothing else, marked or not, and the index is theirs;
 -- the form at place `last` begins at `start`
 pub record IsFormed (s : Lists) (count last start : ℕ) : Type 0 where
-  pub whole : flat_forms (forms_in s.store) ≡ s.store
-  pub bounded : length s.store ≤ 16777216
+  pub forms : AreForms s.store
   pub count_is : count ≡ length (forms_in s.store)
   pub place : IsPlace (forms_in s.store) last start
   pub distinct : HaveOwnNames (forms_in s.store)

@@ -32,6 +32,11 @@ read_forms n cells = []
 abbrev pub forms_in : List Cell → List Form
 forms_in cells = read_forms (length cells) cells
 
+-- the cells are those of forms and nothing else, and no more than a block has
+pub record AreForms (cells : List Cell) : Type 0 where
+  pub whole : flat_forms (forms_in cells) ≡ cells
+  pub bounded : length cells ≤ 16777216
+
 -- where form k begins among the cells of the forms
 abbrev pub start_of : List Form → ℕ → ℕ
 start_of forms k = length (flat_forms (take k forms))

@@ -6,8 +6,8 @@ ghost use Rattle.trac_store.specs.Gaps.{text_cells_at};
 ghost use Rattle.trac_store.specs.Parts.{IsTextPart};
 ghost use Rattle.trac_store.specs.Search.{NonePasses, IsFirst};
 
-use crate::segment::is_same_byte;
-use trac_space::{Cell, Space, cell_under, laid, number_over};
+use crate::gap_making::is_same_byte;
+use trac_space::{Cell, Part, Space, cell_under, laid, number_over};
 
 // How many characters of the text stand up to the cell, where so many of them stand before it.
 #[inline]
@@ -52,18 +52,18 @@ pub(crate) fn first_place(cells: &[Cell], from: u32, text: &[Cell]) -> Option<u3
 
 // Lays the longest border of each beginning of a text, a part of neutral, over the cell at which
 // the beginning ends.
-pub(crate) fn lay_borders(space: &mut Space, part: (u32, u32))
-    requires text_part { IsTextPart space.old.neutral part.0 part.1 }
-    requires bounded { part.1 ≤ 16777216 }
-    requires some { part.0 < part.1 }
-    ensures laid { AreLaid space.old.neutral space.new.neutral part.0 part.1 }
+pub(crate) fn lay_borders(space: &mut Space, part: Part)
+    requires text_part { IsTextPart space.old.neutral part.from part.to }
+    requires bounded { part.to ≤ 16777216 }
+    requires some { part.from < part.to }
+    ensures laid { AreLaid space.old.neutral space.new.neutral part.from part.to }
     ensures same { space.new ≡ record space.old { neutral = space.new.neutral } }
 {
     let mut border = 0;
-    for count in 1..part.1 - part.0 {
-        let text = space.neutral_part(part.0, part.1);
+    for count in 1..part.to - part.from {
+        let text = space.neutral_part(part.from, part.to);
         let cell = text[count as usize];
         border = next_border(text, border, cell);
-        space.write_neutral(part.0 + count, laid(cell, border));
+        space.write_neutral(part.from + count, laid(cell, border));
     }
 }

@@ -13,12 +13,13 @@ ghost use Rattle.trac_space.specs.Lists as lists;
 ghost use Rattle.trac_space.specs.Texts.{text_of_cells, IsByte};
 ghost use Rattle.trac_store.specs.FlatForms.{flat_forms};
 ghost use Rattle.trac_store.specs.Forms.{name_at};
-ghost use Rattle.trac_store.specs.Stored.{forms_in, start_of, IsFoundAt, IsPlace};
+ghost use Rattle.trac_store.specs.Stored.{AreForms, forms_in, start_of, IsFoundAt, IsPlace};
 ghost use Rattle.trac_store.specs.Index.{hash, quarter, slots, IsIndex, IsIndexBut, IsIndexed};
 ghost use Rattle.trac_store.specs.Index.{IsOpenFor, is_open, with_entry, start_in, home_in, buried};
 ghost use Rattle.trac_store.specs.Index.{forward, earlier, started, HasStartsFrom};
 
-use crate::store::{MANY, head, heads_of, is_text, number, number_in_head};
+use crate::form_cells::{FORMS_FOR_INDEX, head, heads_of, is_text, number, number_in_head};
+use crate::located::{FIRST_FORM, Located};
 use trac_space::{Cell, Space, byte_in};
 
 // An odd number near 2^64 divided by the golden ratio.
@@ -83,15 +84,15 @@ fn start_if_named(store: &[Cell], table: &[Cell], k: u32, name: &[Cell]) -> Opti
     }
 }
 
-// The form of a name, and where it begins, found by the table. The slots that were looked at beyond
-// a few are added to `toil`.
+// The form of a name, found by the table. The slots that were looked at beyond a few are added to
+// `search_cost`.
 #[inline(always)]
 pub(crate) fn look_up(
     store: &[Cell],
     table: &[Cell],
     name: &[Cell],
-    toil: &mut u32,
-) -> Option<(u32, u32)>
+    search_cost: &mut u32,
+) -> Option<Located>
     requires whole { flat_forms (forms_in (map seen store.now)) ≡ map seen store.now }
     requires bounded { length store.now ≤ 16777216 }
     requires few { length table.now ≤ 16777216 }
@@ -101,19 +102,19 @@ pub(crate) fn look_up(
         let text = text_of_cells (map seen name.now) in
         MatchOption result
         (NoneNamed text forms)
-        (λ found. IsFoundAt forms text found.0 found.1) }
+        (λ found. IsFoundAt forms text found.number found.start) }
 {
     let slots = 2 * (table.len() / 4);
     let first = hash(name);
     for i in 0..slots {
-        if i >= FEW_SLOTS {
-            *toil = toil.saturating_add(1);
+        if i >= SLOTS_AT_NO_COST {
+            *search_cost = search_cost.saturating_add(1);
         }
         match table[(first + i) & (slots - 1)] {
             Cell::Byte(_) => return None,
             Cell::Head(k) => {
                 if let Some(start) = start_if_named(store, table, k, name) {
-                    return Some((k, start));
+                    return Some(Located { number: k, start });
                 }
             }
             _ => {}
@@ -122,8 +123,8 @@ pub(crate) fn look_up(
     None
 }
 
-// How many slots a search may look at before that counts as toil.
-const FEW_SLOTS: usize = 6;
+// How many slots a search may look at before that counts as its cost.
+const SLOTS_AT_NO_COST: usize = 6;
 
 // How many slots are looked at for a new form before the table is given up: names that are mixed to
 // one number would make it long to fill, and no shorter to search than the forms.
@@ -157,77 +158,78 @@ fn is_taken(cell: Cell) -> bool
     }
 }
 
-// Puts form `k`, which begins at `start`, into a slot of the table.
+// Puts a form into a slot of the table.
 #[inline]
-fn put_entry(space: &mut Space, slot: u32, k: u32, start: u32)
+fn put_entry(space: &mut Space, slot: u32, form: Located)
     requires slot { slot < slots space.old.spare }
-    requires place { k < quarter space.old.spare }
-    ensures { space.new ≡ record space.old { spare = with_entry space.old.spare slot k start } }
+    requires place { form.number < quarter space.old.spare }
+    ensures { space.new ≡ record space.old {
+      spare = with_entry space.old.spare slot form.number form.start;
+    } }
 {
     let quarter = space.spare_len() / 4;
-    space.set_spare_at(slot, Cell::Head(k));
-    space.set_spare_at(2 * quarter + k, Cell::Head(start));
-    space.set_spare_at(3 * quarter + k, Cell::Head(slot));
+    space.set_spare_at(slot, Cell::Head(form.number));
+    space.set_spare_at(2 * quarter + form.number, Cell::Head(form.start));
+    space.set_spare_at(3 * quarter + form.number, Cell::Head(slot));
 }
 
-// Puts form `k`, which begins at `start` and whose name has the number `first`, into the table.
-// False where no open slot comes soon.
-fn add(space: &mut Space, first: usize, k: u32, start: u32) -> bool
+// Puts a form whose name has the number `first` into the table. False where no open slot comes soon.
+fn add(space: &mut Space, first: usize, form: Located) -> bool
     requires bounded { first < 2 ^ 32 }
-    requires place { k < quarter space.old.spare }
+    requires place { form.number < quarter space.old.spare }
     ensures done { OnTrue result ((s : ℕ) × IsOpenFor space.old.spare first s
-        × (space.new ≡ record space.old { spare = with_entry space.old.spare s k start })) }
+        × (space.new ≡ record space.old {
+          spare = with_entry space.old.spare s form.number form.start;
+        })) }
     ensures full { OnFalse result (space.new ≡ space.old) }
 {
     match open_slot(space.spare_cells(), first) {
         None => false,
         Some(slot) => {
-            put_entry(space, slot, k, start);
+            put_entry(space, slot, form);
             true
         }
     }
 }
 
-// Puts form `k`, which begins at `start`, into the table of those before it, if there is a table.
-// Where it has no place for the form it is let go.
+// Puts a form into the table of those before it, if there is a table. Where it has no place for the
+// form it is let go.
 #[inline(always)]
-pub(crate) fn index_form(space: &mut Space, k: u32, start: u32)
-    requires whole { flat_forms (forms_in space.old.store) ≡ space.old.store }
-    requires bounded { length space.old.store ≤ 16777216 }
-    requires within { k < length (forms_in space.old.store) }
-    requires begins { start ≡ start_of (forms_in space.old.store) k }
-    requires index { IsIndexed space.old.spare (take k (forms_in space.old.store)) }
+pub(crate) fn index_form(space: &mut Space, form: Located)
+    requires forms { AreForms space.old.store }
+    requires within { form.number < length (forms_in space.old.store) }
+    requires begins { form.start ≡ start_of (forms_in space.old.store) form.number }
+    requires index { IsIndexed space.old.spare (take form.number (forms_in space.old.store)) }
     ensures same { space.new ≡ record space.old { spare = space.new.spare } }
-    ensures index { IsIndexed space.new.spare (take (k + 1) (forms_in space.old.store)) }
+    ensures index { IsIndexed space.new.spare (take (form.number + 1) (forms_in space.old.store)) }
 {
     if space.spare_len() == 0 {
         return;
     }
-    let (len, _body, _pointer) = heads_of(space, (k, start));
-    let from = start + 3;
-    let to = from + len;
+    let heads = heads_of(space, form);
+    let from = form.start + 3;
+    let to = from + heads.name;
     let first = hash(space.store_part(from, to));
-    if k >= space.spare_len() / 4 || !add(space, first, k, start) {
+    if form.number >= space.spare_len() / 4 || !add(space, first, form) {
         space.drop_spare();
     }
 }
 
-/// Puts the last form, of number `k`, which begins at a place of the store, into the table of those
-/// before it, if there is a table. Where that is full a greater one is made, or it is let go.
+/// Puts the last form into the table of those before it, if there is a table. Where that is full a
+/// greater one is made, or it is let go.
 #[inline(always)]
-pub fn index_last(space: &mut Space, k: u32, start: u32)
-    requires whole { flat_forms (forms_in space.old.store) ≡ space.old.store }
-    requires bounded { length space.old.store ≤ 16777216 }
-    requires last { k + 1 ≡ length (forms_in space.old.store) }
-    requires begins { start ≡ start_of (forms_in space.old.store) k }
-    requires index { IsIndexed space.old.spare (take k (forms_in space.old.store)) }
+pub fn index_last(space: &mut Space, form: Located)
+    requires forms { AreForms space.old.store }
+    requires last { form.number + 1 ≡ length (forms_in space.old.store) }
+    requires begins { form.start ≡ start_of (forms_in space.old.store) form.number }
+    requires index { IsIndexed space.old.spare (take form.number (forms_in space.old.store)) }
     ensures same { space.new ≡ record space.old { spare = space.new.spare } }
     ensures index { IsIndexed space.new.spare (forms_in space.old.store) }
 {
-    if k >= space.spare_len() / 4 && space.spare_len() > 0 {
-        grow_index(space, k + 1);
+    if form.number >= space.spare_len() / 4 && space.spare_len() > 0 {
+        grow_index(space, form.number + 1);
     } else {
-        index_form(space, k, start);
+        index_form(space, form);
     }
 }
 
@@ -235,8 +237,7 @@ pub fn index_last(space: &mut Space, k: u32, start: u32)
 // fit.
 #[inline(never)]
 fn grow_index(space: &mut Space, count: u32)
-    requires whole { flat_forms (forms_in space.old.store) ≡ space.old.store }
-    requires bounded { length space.old.store ≤ 16777216 }
+    requires forms { AreForms space.old.store }
     requires count_is { count ≡ length (forms_in space.old.store) }
     ensures same { space.new ≡ record space.old { spare = space.new.spare } }
     ensures index { IsIndexed space.new.spare (forms_in space.old.store) }
@@ -270,7 +271,11 @@ fn bring_forward(space: &mut Space, k: u32, cells: u32)
     let quarter = space.spare_len() / 4;
     let home = number(space.spare_cells()[(3 * quarter + k) as usize]);
     let start = number(space.spare_cells()[(2 * quarter + k) as usize]);
-    put_entry(space, home, k - 1, start - cells);
+    let form = Located {
+        number: k - 1,
+        start: start - cells,
+    };
+    put_entry(space, home, form);
 }
 
 // Form `k` begins `cells` cells earlier.
@@ -285,25 +290,24 @@ fn start_earlier(space: &mut Space, k: u32, cells: u32)
     space.set_spare_at(place, Cell::Head(start - cells));
 }
 
-// Takes form `k`, which begins at `start`, out of the table of `count` forms, if there is one:
-// those behind it come one place forward.
+/// Takes a form out of the table of `count` forms, if there is one: those behind it come one place
+/// forward.
 #[inline(always)]
-pub(crate) fn unindex(space: &mut Space, k: u32, start: u32, count: u32)
-    requires whole { flat_forms (forms_in space.old.store) ≡ space.old.store }
-    requires bounded { length space.old.store ≤ 16777216 }
+pub fn unindex(space: &mut Space, form: Located, count: u32)
+    requires forms { AreForms space.old.store }
     requires count_is { count ≡ length (forms_in space.old.store) }
-    requires within { k < count }
-    requires begins { start ≡ start_of (forms_in space.old.store) k }
+    requires within { form.number < count }
+    requires begins { form.start ≡ start_of (forms_in space.old.store) form.number }
     requires index { IsIndexed space.old.spare (forms_in space.old.store) }
     ensures same { space.new ≡ record space.old { spare = space.new.spare } }
-    ensures index { IsIndexed space.new.spare (remove (forms_in space.old.store) k) }
+    ensures index { IsIndexed space.new.spare (remove (forms_in space.old.store) form.number) }
 {
     if space.spare_len() == 0 {
         return;
     }
-    let cells = 3 + head(space, start) + head(space, start + 1);
-    bury(space, k);
-    for next in k + 1..count {
+    let cells = 3 + head(space, form.start) + head(space, form.start + 1);
+    bury(space, form.number);
+    for next in form.number + 1..count {
         bring_forward(space, next, cells);
     }
 }
@@ -343,33 +347,31 @@ pub fn clear_index(space: &mut Space, count: u32)
 
 // Makes the table of all forms anew, of so many cells, which fit.
 fn index_all(space: &mut Space, count: u32, cells: u32)
-    requires whole { flat_forms (forms_in space.old.store) ≡ space.old.store }
-    requires bounded { length space.old.store ≤ 16777216 }
+    requires forms { AreForms space.old.store }
     requires count_is { count ≡ length (forms_in space.old.store) }
     requires room { lists.used space.old + cells ≤ space.old.room }
     ensures same { space.new ≡ record space.old { spare = space.new.spare } }
     ensures index { IsIndexed space.new.spare (forms_in space.old.store) }
 {
     space.take_spare(cells);
-    index_from(space, (0, 0), count);
+    index_from(space, FIRST_FORM, count);
 }
 
 // Puts the forms from one on into the table of those before it, if there is a table.
-pub(crate) fn index_from(space: &mut Space, first: (u32, u32), count: u32)
-    requires whole { flat_forms (forms_in space.old.store) ≡ space.old.store }
-    requires bounded { length space.old.store ≤ 16777216 }
+pub(crate) fn index_from(space: &mut Space, first: Located, count: u32)
+    requires forms { AreForms space.old.store }
     requires count_is { count ≡ length (forms_in space.old.store) }
-    requires place { IsPlace (forms_in space.old.store) first.0 first.1 }
-    requires index { IsIndexed space.old.spare (take first.0 (forms_in space.old.store)) }
+    requires place { IsPlace (forms_in space.old.store) first.number first.start }
+    requires index { IsIndexed space.old.spare (take first.number (forms_in space.old.store)) }
     ensures same { space.new ≡ record space.old { spare = space.new.spare } }
     ensures index { IsIndexed space.new.spare (forms_in space.old.store) }
 {
     if space.spare_len() == 0 {
         return;
     }
-    let mut start = first.1;
-    for k in first.0..count {
-        index_form(space, k, start);
+    let mut start = first.start;
+    for k in first.number..count {
+        index_form(space, Located { number: k, start });
         start += 3 + head(space, start) + head(space, start + 1);
     }
 }
@@ -416,8 +418,7 @@ fn cells_for(count: u32, most: u32) -> u32
 // Makes the table of all forms anew, where at most half of the free cells are enough for it. Gives
 // whether they are.
 pub(crate) fn index_fitting(space: &mut Space, count: u32) -> bool
-    requires whole { flat_forms (forms_in space.old.store) ≡ space.old.store }
-    requires bounded { length space.old.store ≤ 16777216 }
+    requires forms { AreForms space.old.store }
     requires count_is { count ≡ length (forms_in space.old.store) }
     ensures same { space.new ≡ record space.old { spare = space.new.spare } }
     ensures index { IsTrue result → IsIndexed space.new.spare (forms_in space.old.store) }
@@ -433,38 +434,36 @@ pub(crate) fn index_fitting(space: &mut Space, count: u32) -> bool
 }
 
 // How many looks at a form, or at a slot, making a table costs for each form.
-const COST: u32 = 8;
+const INDEX_COST: u32 = 8;
 
 /// Makes a table of the forms in free cells, by which they are found, where searches have cost more
-/// since the last one than that does: so much is `toil`, which begins anew then. Nothing else
+/// since the last one than that does: so much is `search_cost`, which begins anew then. Nothing else
 /// changes, and each call that needs its cells takes them back.
 #[inline]
-pub fn keep_index(space: &mut Space, count: u32, toil: &mut u32)
-    requires whole { flat_forms (forms_in space.old.store) ≡ space.old.store }
-    requires bounded { length space.old.store ≤ 16777216 }
+pub fn keep_index(space: &mut Space, count: u32, search_cost: &mut u32)
+    requires forms { AreForms space.old.store }
     requires count_is { count ≡ length (forms_in space.old.store) }
     requires index { IsIndexed space.old.spare (forms_in space.old.store) }
     ensures same { space.new ≡ record space.old { spare = space.new.spare } }
     ensures index { IsIndexed space.new.spare (forms_in space.old.store) }
 {
-    if count >= MANY && *toil / COST > count {
-        index_worthwhile(space, count, toil);
+    if count >= FORMS_FOR_INDEX && *search_cost / INDEX_COST > count {
+        index_worthwhile(space, count, search_cost);
     }
 }
 
 // The same, where they have cost more but for the move of active that it takes.
 #[inline(never)]
-fn index_worthwhile(space: &mut Space, count: u32, toil: &mut u32)
-    requires whole { flat_forms (forms_in space.old.store) ≡ space.old.store }
-    requires bounded { length space.old.store ≤ 16777216 }
+fn index_worthwhile(space: &mut Space, count: u32, search_cost: &mut u32)
+    requires forms { AreForms space.old.store }
     requires count_is { count ≡ length (forms_in space.old.store) }
     requires index { IsIndexed space.old.spare (forms_in space.old.store) }
     ensures same { space.new ≡ record space.old { spare = space.new.spare } }
     ensures index { IsIndexed space.new.spare (forms_in space.old.store) }
 {
-    if (*toil / COST).saturating_sub(count) < space.active_len() / 256 {
+    if (*search_cost / INDEX_COST).saturating_sub(count) < space.active_len() / 256 {
         return;
     }
-    *toil = 0;
+    *search_cost = 0;
     index_fitting(space, count);
 }

@@ -11,23 +11,25 @@
 
 mod arguments;
 mod borders;
-mod define;
-mod fill;
+mod form_cells;
+mod form_writing;
+mod gap_making;
 mod index;
-mod removal;
-mod search;
-mod segment;
-mod store;
+mod item_copies;
+mod item_search;
+mod located;
+mod marked_forms;
 
 pub use arguments::before_comma;
-pub use define::{remove_found, store_form, take_out};
-pub use fill::{fill_items, load_form};
-pub use index::{clear_index, index_last, keep_index, shift_starts};
-pub use removal::{mark_all, take_out_marked};
-pub use search::{find_text, first_character, first_gap, last_character};
-pub use segment::segment_store;
-pub use store::{
-    FEW, find_few, find_named, head, heads, heads_of, is_first_named, item_in, item_of,
-    number_in_head, place_of,
+pub use form_cells::{
+    FEW_FORMS, Heads, find_few, find_named, head, heads_at, heads_of, is_first_named, item_in,
+    item_of, number_in_head, place_of,
 };
+pub use form_writing::{remove_form, store_form};
+pub use gap_making::segment_store;
+pub use index::{clear_index, index_last, keep_index, shift_starts, unindex};
+pub use item_copies::{fill_items, load_items};
+pub use item_search::{find_text, first_character, first_gap, last_character};
+pub use located::{FIRST_FORM, Located};
+pub use marked_forms::{mark_all, take_out_marked};
 pub use trac_language::Item;

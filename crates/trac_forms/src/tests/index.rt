@@ -19,7 +19,7 @@ fn define_letter(work: &mut Work, letter: u8) -> bool {
 
 // Makes the index at the next search, whatever searches have cost.
 fn wants_index(work: &mut Work) {
-    work.toil = u32::MAX;
+    work.search_cost = u32::MAX;
 }
 
 // Forms named by the first so many letters.

@@ -2,28 +2,28 @@ use Rattle.trac_space.proofs.Words.{ℕ, drop, ◌≤◌, List, Cell, put_mid, �
 use Rattle.trac_space.specs.Overlay.{under}
 use Rattle.trac_space.proofs.Filled.{copied-front, copied-behind, put-lifted, others-less}
 use Rattle.trac_space.proofs.filling.put_part.Goals as goal
-use Rattle.trac_space.proofs.filling.put_part.Goals.{After-copy_behind}
+use Rattle.trac_space.proofs.filling.put_part.Goals.{After-copy_apart_higher}
 
-copied : (c : After-copy_behind) → c.copy_behind.new.cells ≡ copy_within c.args.cells.now c.args.start (c.args.start + c.args.n) c.args.to
-copied c = c.copy_behind.ensures.after c.args.to (sym c.distance.ensures)
+copied : (c : After-copy_apart_higher) → c.copy_apart_higher.new.cells ≡ copy_within c.args.cells.now c.args.start (c.args.start + c.args.n) c.args.to
+copied c = c.copy_apart_higher.ensures.after c.args.to (sym c.distance.ensures)
 
 -- the first of them are lifted, and the others have no numbers
-both : (c : After-copy_behind) (m : ℕ) → (m ≡ c.args.given.start + c.args.given.commas - c.args.start) ⊎ (m ≡ c.args.n) → m ≤ c.args.n → (lifted : List Cell) → lifted ≡ map under (take (c.args.to + m - c.args.to) (drop c.args.to c.copy_behind.new.cells)) → (take (c.args.to + c.args.n) (put_mid c.args.to (c.args.to + m - c.args.to) c.copy_behind.new.cells lifted) ≡ take c.args.to c.args.cells.now ++ map under (slice_range c.args.cells.now c.args.start (c.args.start + c.args.n))) × (drop (c.args.to + c.args.n) (put_mid c.args.to (c.args.to + m - c.args.to) c.copy_behind.new.cells lifted) ≡ drop (c.args.to + c.args.n) c.args.cells.now)
+both : (c : After-copy_apart_higher) (m : ℕ) → (m ≡ c.args.given.start + c.args.given.commas - c.args.start) ⊎ (m ≡ c.args.n) → m ≤ c.args.n → (lifted : List Cell) → lifted ≡ map under (take (c.args.to + m - c.args.to) (drop c.args.to c.copy_apart_higher.new.cells)) → (take (c.args.to + c.args.n) (put_mid c.args.to (c.args.to + m - c.args.to) c.copy_apart_higher.new.cells lifted) ≡ take c.args.to c.args.cells.now ++ map under (slice_range c.args.cells.now c.args.start (c.args.start + c.args.n))) × (drop (c.args.to + c.args.n) (put_mid c.args.to (c.args.to + m - c.args.to) c.copy_apart_higher.new.cells lifted) ≡ drop (c.args.to + c.args.n) c.args.cells.now)
 both c m which few lifted is =
     let long : length (slice_range c.args.cells.now c.args.start (c.args.start + c.args.n)) ≡ c.args.n = omega (arith, length-between c.args.cells.now c.args.start (c.args.start + c.args.n) (omega (arith, c.requires.apart, c.requires.room))) in
     let others = others-less _ c.args.n (c.args.given.start + c.args.given.commas - c.args.start) m long which c.requires.others in
-    put-lifted c.args.cells.now c.copy_behind.new.cells _ lifted c.args.start c.args.to c.args.n m c.requires.apart c.requires.room few (copied c) is refl others
+    put-lifted c.args.cells.now c.copy_apart_higher.new.cells _ lifted c.args.start c.args.to c.args.n m c.requires.apart c.requires.room few (copied c) is refl others
 
 pub returns-clause-front : goal.returns-clause-front
 returns-clause-front c =
-    let k = (goal.at.returns-clause-front c).After-copy_behind in
+    let k = (goal.at.returns-clause-front c).After-copy_apart_higher in
     let laid = c.args.given.start + c.args.given.commas - c.args.start in
     let which : (c.min.result ≡ laid) ⊎ (c.min.result ≡ c.args.n) = ⊎_elim (λ less. inr (omega (arith, c.min.ensures, less))) (λ more. inl (omega (arith, c.min.ensures, more))) (cases_lt c.args.n laid) in
     (both k c.min.result which (omega (arith, c.min.ensures)) c.lift.new.cells c.lift.ensures).0
 
 pub returns-clause-behind : goal.returns-clause-behind
 returns-clause-behind c =
-    let k = (goal.at.returns-clause-behind c).After-copy_behind in
+    let k = (goal.at.returns-clause-behind c).After-copy_apart_higher in
     let laid = c.args.given.start + c.args.given.commas - c.args.start in
     let which : (c.min.result ≡ laid) ⊎ (c.min.result ≡ c.args.n) = ⊎_elim (λ less. inr (omega (arith, c.min.ensures, less))) (λ more. inl (omega (arith, c.min.ensures, more))) (cases_lt c.args.n laid) in
     (both k c.min.result which (omega (arith, c.min.ensures)) c.lift.new.cells c.lift.ensures).1

@@ -4,7 +4,7 @@ use Rattle.trac_store.proofs.LaidBorders.{up-to-first, up-to-next, text-borders,
 use Rattle.trac_store.proofs.borders.lay_borders.Goals as goal
 
 pub loop-count-init : goal.loop-count-init
-loop-count-init c = up-to-first c.args.space.now c.args.part.0 c.args.part.1 c.requires.text_part c.requires.some
+loop-count-init c = up-to-first c.args.space.now c.args.part.from c.args.part.to c.requires.text_part c.requires.some
 
 pub next_border-border-requires-clause-borders : goal.next_border-border-requires-clause-borders
 next_border-border-requires-clause-borders c =
@@ -15,14 +15,14 @@ pub laid-requires-clause-takes : goal.laid-requires-clause-takes
 laid-requires-clause-takes c =
     let old = c.args.space.now in
     let now = c.loop-count.space in
-    let less : c.loop-count.count < c.args.part.1 - c.args.part.0 = omega (arith, c.loop-count-test.true) in
+    let less : c.loop-count.count < c.args.part.to - c.args.part.from = omega (arith, c.loop-count-test.true) in
     ap takes_number (cell-is old now _ _ _ _ c.requires.text_part c.loop-count.invariant less c.neutral_part-text.result.now c.neutral_part-text.ensures ∙ here-is old now _ _ _ _ c.requires.text_part c.loop-count.invariant less c.neutral_part-text.result.now c.neutral_part-text.ensures)
 
 pub write_neutral-requires-clause-for_no_call : goal.write_neutral-requires-clause-for_no_call
 write_neutral-requires-clause-for_no_call c =
     let old = c.args.space.now in
     let now = c.loop-count.space in
-    let less : c.loop-count.count < c.args.part.1 - c.args.part.0 = omega (arith, c.loop-count-test.true) in
+    let less : c.loop-count.count < c.args.part.to - c.args.part.from = omega (arith, c.loop-count-test.true) in
     ap is_call (in-neutral old now _ _ _ _ c.requires.text_part c.loop-count.invariant less c.neutral_part-text.result.now c.neutral_part-text.ensures ∙ here-is old now _ _ _ _ c.requires.text_part c.loop-count.invariant less c.neutral_part-text.result.now c.neutral_part-text.ensures)
 
 pub loop-count-preserved : goal.loop-count-preserved
@@ -31,4 +31,4 @@ loop-count-preserved c =
 
 pub returns-clause-laid : goal.returns-clause-laid
 returns-clause-laid c =
-    laid-all c.args.space.now c.loop-count.space c.args.part.0 c.args.part.1 c.loop-count.count c.loop-count.border c.requires.text_part c.loop-count.invariant (omega (arith, c.loop-count-test.false))
+    laid-all c.args.space.now c.loop-count.space c.args.part.from c.args.part.to c.loop-count.count c.loop-count.border c.requires.text_part c.loop-count.invariant (omega (arith, c.loop-count-test.false))

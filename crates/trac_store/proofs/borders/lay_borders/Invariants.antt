@@ -3,4 +3,4 @@ use Rattle.trac_store.proofs.borders.lay_borders.Given as goal
 
 -- the borders of so many beginnings are laid
 abbrev pub invariant-loop-count : goal.invariant-loop-count
-invariant-loop-count l = BordersUpTo l.fn.space l.space l.part.0 l.part.1 l.count l.border
+invariant-loop-count l = BordersUpTo l.fn.space l.space l.part.from l.part.to l.count l.border

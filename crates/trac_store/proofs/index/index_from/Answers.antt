@@ -8,7 +8,7 @@ same : (c : After-index_form) → c.index_form.new.space.store ≡ c.args.space.
 same c = ap (λ (w : Lists). w.store) c.index_form.ensures.same ∙ ap (λ (w : Lists). w.store) c.loop-k.invariant.same
 
 found : (c : After-index_form) → Stands (forms_in c.args.space.now.store) c.args.space.now.store c.loop-k.k c.loop-k.start
-found c = stands _ _ _ _ c.requires.whole (omega (arith, c.loop-k-test.true, c.requires.count_is)) c.loop-k.invariant.begins
+found c = stands _ _ _ _ c.requires.forms.whole (omega (arith, c.loop-k-test.true, c.requires.count_is)) c.loop-k.invariant.begins
 
 name : (c : After-index_form) (n : ℕ) → n ≡ head_at c.index_form.new.space.store c.loop-k.start → n ≡ length (form_at (forms_in c.args.space.now.store) c.loop-k.k).name
 name c n read = read ∙ ap (λ store. head_at store c.loop-k.start) (same c) ∙ (found c).name_len
@@ -19,21 +19,21 @@ body c n read = read ∙ ap (λ store. head_at store (c.loop-k.start + 1)) (same
 pub overflow_add-start : goal.overflow_add-start
 overflow_add-start c =
     let k = (goal.at.overflow_add-start c).After-index_form in
-    omega (arith, (found k).end, name k _ c.head.ensures, c.requires.bounded)
+    omega (arith, (found k).end, name k _ c.head.ensures, c.requires.forms.bounded)
 
 pub overflow_add-start-in-loop-k : goal.overflow_add-start-in-loop-k
 overflow_add-start-in-loop-k c =
-    omega (arith, (found (goal.at.overflow_add-start-in-loop-k c).After-index_form).end, c.requires.bounded)
+    omega (arith, (found (goal.at.overflow_add-start-in-loop-k c).After-index_form).end, c.requires.forms.bounded)
 
 pub overflow_add-start-in-loop-k-2 : goal.overflow_add-start-in-loop-k-2
 overflow_add-start-in-loop-k-2 c =
     let k = (goal.at.overflow_add-start-in-loop-k-2 c).After-index_form in
-    omega (arith, (found k).end, name k _ c.head.ensures, body k _ c.head-in-loop-k.ensures, c.requires.bounded)
+    omega (arith, (found k).end, name k _ c.head.ensures, body k _ c.head-in-loop-k.ensures, c.requires.forms.bounded)
 
 pub overflow_add-start-in-loop-k-3 : goal.overflow_add-start-in-loop-k-3
 overflow_add-start-in-loop-k-3 c =
     let k = (goal.at.overflow_add-start-in-loop-k-3 c).After-index_form in
-    omega (arith, (found k).end, name k _ c.head.ensures, body k _ c.head-in-loop-k.ensures, c.requires.bounded)
+    omega (arith, (found k).end, name k _ c.head.ensures, body k _ c.head-in-loop-k.ensures, c.requires.forms.bounded)
 
 pub loop-k-preserved : goal.loop-k-preserved
 loop-k-preserved c =

@@ -1,20 +1,15 @@
 use Rattle.trac_forms.proofs.Words.{texts_between}
-use Rattle.trac_forms.proofs.Removed.{formed, none-marked, marks-whole, marks-bounded, marks-count, removed-shown, removed-stored}
+use Rattle.trac_forms.proofs.Removed.{formed, none-marked, marks-forms, marks-count, removed-shown, removed-stored}
 use Rattle.trac_forms.proofs.work.Work.delete_named.Goals as goal
 
 pub mark_all-first-requires-clause-formed : goal.mark_all-first-requires-clause-formed
 mark_all-first-requires-clause-formed c =
-    formed c.self.inside.space c.self.inside.count c.self.inside.last c.self.inside.start c.self.invariant
+    formed c.self.inside.space c.self.inside.count c.self.inside.last.number c.self.inside.last.start c.self.invariant
 
-pub take_out_marked-self-inside-requires-clause-whole :
-    goal.take_out_marked-self-inside-requires-clause-whole
-take_out_marked-self-inside-requires-clause-whole c =
-    marks-whole (texts_between c.self.inside.space.neutral c.args.from c.args.end) c.self.invariant c.mark_all-first.ensures.marked
-
-pub take_out_marked-self-inside-requires-clause-bounded :
-    goal.take_out_marked-self-inside-requires-clause-bounded
-take_out_marked-self-inside-requires-clause-bounded c =
-    marks-bounded (texts_between c.self.inside.space.neutral c.args.from c.args.end) c.self.invariant c.mark_all-first.ensures.marked
+pub take_out_marked-self-inside-requires-clause-forms :
+    goal.take_out_marked-self-inside-requires-clause-forms
+take_out_marked-self-inside-requires-clause-forms c =
+    marks-forms (texts_between c.self.inside.space.neutral c.args.from c.args.end) c.self.invariant c.mark_all-first.ensures.marked
 
 pub take_out_marked-self-inside-requires-clause-count_is :
     goal.take_out_marked-self-inside-requires-clause-count_is
@@ -35,4 +30,4 @@ returns-clause-sound c = (invariant_of-self c).sound
 
 pub mark_all-first-requires-clause-plain : goal.mark_all-first-requires-clause-plain
 mark_all-first-requires-clause-plain c =
-    none-marked c.self.inside.space c.self.inside.count c.self.inside.last c.self.inside.start c.self.invariant
+    none-marked c.self.inside.space c.self.inside.count c.self.inside.last.number c.self.inside.last.start c.self.invariant

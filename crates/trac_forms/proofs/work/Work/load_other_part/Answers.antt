@@ -1,18 +1,18 @@
-use Rattle.trac_forms.proofs.Words.{◌+◌, ◌-◌, ◌≤◌, ◌++◌, length, slice_range, refl, ap, ◌∙◌, arith, length-between, Lists, way-kept}
+use Rattle.trac_forms.proofs.Words.{◌+◌, ◌-◌, ◌≤◌, ◌++◌, length, slice_range, refl, ap, ◌∙◌, arith, length-between, Lists, claimed-kept}
 use Rattle.trac_space.specs.Lists as lists
 use Rattle.trac_forms.proofs.Strings.{used-stored, before-active}
 use Rattle.trac_forms.proofs.work.Work.load_other_part.Goals as goal
 
 pub returns-then-free-b-clause-loaded : goal.returns-then-free-b-clause-loaded
 returns-then-free-b-clause-loaded c =
-    let used = used-stored c.self.inside.space c.self.invariant.whole in
+    let used = used-stored c.self.inside.space c.self.invariant.forms.whole in
     rw (← c.self.view_is) (λ e. cc, λ fits. absurd (omega arith))
 
 pub load_from_neutral-requires-clause-within : goal.load_from_neutral-requires-clause-within
 load_from_neutral-requires-clause-within c =
     let part = rw (← c.self.view_is) at c.requires in
     let within = part.within in
-    rw c.make_way.ensures.same within
+    rw c.claim.ensures.same within
 
 pub invariant_of-self : goal.invariant_of-self
 invariant_of-self c =
@@ -21,20 +21,20 @@ invariant_of-self c =
     let b = c.args.b in
     let more = slice_range s.neutral a b in
     let part = rw (← c.self.view_is) at c.requires in
-    let used = used-stored s c.self.invariant.whole in
-    let mid = c.make_way.new.self in
+    let used = used-stored s c.self.invariant.forms.whole in
+    let mid = c.claim.new.self in
     let room : lists.used s + length more ≤ s.room = omega (arith, length-between s.neutral a b part.within) in
-    before-active _ s mid _ _ _ _ more (way-kept (b - a) s) c.self.invariant part.bytes room c.make_way.ensures.same
-    (c.load_from_neutral.ensures ∙ ap (λ (l : Lists). record mid { active = slice_range l.neutral a b ++ mid.active }) c.make_way.ensures.same)
+    before-active _ s mid _ _ _ _ more (claimed-kept (b - a) s) c.self.invariant part.bytes room c.claim.ensures.same
+    (c.load_from_neutral.ensures ∙ ap (λ (l : Lists). record mid { active = slice_range l.neutral a b ++ mid.active }) c.claim.ensures.same)
 
 pub returns-clause-loaded : goal.returns-clause-loaded
 returns-clause-loaded c =
-    let used = used-stored c.self.inside.space c.self.invariant.whole in
+    let used = used-stored c.self.inside.space c.self.invariant.forms.whole in
     rw (← c.self.view_is) (λ e. omega arith, λ fits. refl)
 
 pub returns-clause-first : goal.returns-clause-first
 returns-clause-first c =
-    rw (← c.self.view_is, c.load_from_neutral.ensures, c.make_way.ensures.same) refl
+    rw (← c.self.view_is, c.load_from_neutral.ensures, c.claim.ensures.same) refl
 
 pub returns-clause-sound : goal.returns-clause-sound
 returns-clause-sound c = (invariant_of-self c).sound

@@ -3,9 +3,9 @@ use Rattle.trac_space.specs.Lists as lists
 use Rattle.trac_forms.proofs.Strings.{used-stored, before-active}
 use Rattle.trac_forms.proofs.work.Work.load_part.Goals as goal
 
-pub returns-then-size-way-clause-loaded : goal.returns-then-size-way-clause-loaded
-returns-then-size-way-clause-loaded c =
-    let used = used-stored c.self.inside.space c.self.invariant.whole in
+pub returns-then-size-free_beside_spare-clause-loaded : goal.returns-then-size-free_beside_spare-clause-loaded
+returns-then-size-free_beside_spare-clause-loaded c =
+    let used = used-stored c.self.inside.space c.self.invariant.forms.whole in
     rw (← c.self.view_is) (λ e. omega arith, λ fits. refl)
 
 pub invariant_of-self : goal.invariant_of-self
@@ -16,5 +16,5 @@ invariant_of-self c =
     let room : lists.used s + length more ≤ s.room = omega (arith, length-between s.neutral c.args.a c.args.b part.within) in
     before-active s.spare s s _ _ _ _ more (inl refl) c.self.invariant part.bytes room refl c.load_from_neutral.ensures
 
-pub returns-then-size-way-clause-sound : goal.returns-then-size-way-clause-sound
-returns-then-size-way-clause-sound c = (invariant_of-self c).sound
+pub returns-then-size-free_beside_spare-clause-sound : goal.returns-then-size-free_beside_spare-clause-sound
+returns-then-size-free_beside_spare-clause-sound c = (invariant_of-self c).sound

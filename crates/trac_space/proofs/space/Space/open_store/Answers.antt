@@ -10,13 +10,13 @@ pub returns : goal.returns
 returns c =
     let h = c.self.invariant in
     let size = sizes h c.self.view_is in
-    let moved = parts-open h c.args.n c.copy_on.new.cells (omega (arith, c.requires)) c.copy_on.ensures.after in
-    (map seen (take c.args.n (drop c.self.inside.store c.copy_on.new.cells)), of_front seen c.self.inside.store c.args.n c.copy_on.new.cells (omega (arith, c.copy_on.ensures.len, h.fits, h.behind, c.requires)), rw (← c.self.view_is) (shown _ moved ∙ simp maps))
+    let moved = parts-open h c.args.n c.copy_higher.new.cells (omega (arith, c.requires)) c.copy_higher.ensures.after in
+    (map seen (take c.args.n (drop c.self.inside.store c.copy_higher.new.cells)), of_front seen c.self.inside.store c.args.n c.copy_higher.new.cells (omega (arith, c.copy_higher.ensures.len, h.fits, h.behind, c.requires)), rw (← c.self.view_is) (shown _ moved ∙ simp maps))
 
 -- neutral is as it was
 pub invariant_of-self : goal.invariant_of-self
 invariant_of-self c =
     let h = c.self.invariant in
     let size = sizes h c.self.view_is in
-    let moved = parts-open h c.args.n c.copy_on.new.cells (omega (arith, c.requires)) c.copy_on.ensures.after in
+    let moved = parts-open h c.args.n c.copy_higher.new.cells (omega (arith, c.requires)) c.copy_higher.ensures.after in
     laid _ h moved refl (omega arith) (omega arith) h.calls h.linked

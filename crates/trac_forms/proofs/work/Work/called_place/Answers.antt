@@ -1,0 +1,25 @@
+use Rattle.trac_forms.proofs.Words.{arith, AreItems, items}
+use Rattle.trac_forms.proofs.work.Work.called_place.Goals as goal
+use Rattle.trac_forms.proofs.work.Work.called_place.Goals.{After-heads_of-heads}
+
+called : (c : After-heads_of-heads) → AreItems c.self.inside.space c.args.form.number c.args.form.start c.heads_of-heads.result.name c.heads_of-heads.result.body c.heads_of-heads.result.pointer
+called c =
+    let heads = c.heads_of-heads.ensures in
+    items _ _ _ _ _ _ c.self.invariant.forms.whole c.self.invariant.sound.forms (rw (← c.self.view_is) at c.requires.known) (rw (← c.self.view_is) at c.requires.begins) heads.name heads.body heads.pointer
+
+pub overflow_add-place : goal.overflow_add-place
+overflow_add-place c = omega (arith, called (goal.at.overflow_add-place c).After-heads_of-heads)
+
+pub overflow_add-place-2 : goal.overflow_add-place-2
+overflow_add-place-2 c = omega (arith, called (goal.at.overflow_add-place-2 c).After-heads_of-heads)
+
+pub overflow_add-result : goal.overflow_add-result
+overflow_add-result c = omega (arith, called (goal.at.overflow_add-result c).After-heads_of-heads)
+
+pub overflow_add-result-2 : goal.overflow_add-result-2
+overflow_add-result-2 c = omega (arith, called (goal.at.overflow_add-result-2 c).After-heads_of-heads)
+
+pub returns : goal.returns
+returns c =
+    let i = called (goal.at.returns c).After-heads_of-heads in
+    rw (← c.self.view_is, c.self.invariant.forms.whole) (record { order = omega (arith, i.order); within = i.behind; items = i.are })

@@ -1,0 +1,8 @@
+//! A part of a list of cells.
+
+/// The cells of a list from place `from` up to place `to`.
+#[derive(Clone, Copy, Debug)]
+pub struct Part {
+    pub from: u32,
+    pub to: u32,
+}

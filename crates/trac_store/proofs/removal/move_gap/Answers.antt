@@ -1,6 +1,0 @@
-use Rattle.trac_store.proofs.Sweeping.{unmoved}
-use Rattle.trac_store.proofs.removal.move_gap.Goals as goal
-
-pub returns-then-gap-clause-moved : goal.returns-then-gap-clause-moved
-returns-then-gap-clause-moved c =
-    unmoved c.args.space.now c.args.gap.0 c.args.gap.1 c.args.from c.if-gap.true c.requires.order

@@ -1,0 +1,457 @@
+//! Forms in the cells of a store: where they stand, and how they are found and read.
+//!
+//! A search is told the form that was used last and where it begins. Reading that form costs no walk
+//! over the others, and reading the forms in turn costs one walk in all.
+ghost use Rattle.std.specs.Prelude.{◌≡◌, ◌+◌, ◌-◌, ◌≤◌, ◌<◌, [], length, map, slice_range};
+ghost use Rattle.std.specs.Prelude.{slice_index_or, All, Some, MatchOption, Decides, IsTrue};
+ghost use Rattle.trac_language.specs.Store.{NoneNamed};
+ghost use Rattle.trac_space.specs.declared.cell.Cell.TheVariants.{Byte, Head};
+ghost use Rattle.trac_space.specs.Cells.{seen};
+ghost use Rattle.trac_space.specs.Texts.{character_of, text_of_cells, IsByte};
+ghost use Rattle.trac_store.specs.FlatForms.{flat_forms};
+ghost use Rattle.trac_store.specs.Parts.{IsTextPart, part_text};
+ghost use Rattle.trac_store.specs.Index.{IsIndexed};
+ghost use Rattle.trac_store.specs.Stored.{AreForms, forms_in, start_of, head_number, head_at, stored_item};
+ghost use Rattle.trac_store.specs.Stored.{IsPlace, IsFoundAt, item_of};
+
+use crate::index::look_up;
+use crate::located::{FIRST_FORM, Located};
+use trac_language::Item;
+use trac_space::{Cell, Part, Space, byte_in};
+
+/// The number in the head cell at place `i` of the store, 0 where no head cell stands there.
+#[inline]
+pub fn head(space: &Space, i: u32) -> u32
+    ensures { result ≡ head_at space.now.store i }
+{
+    match space.store_at(i) {
+        Some(cell) => number(cell),
+        None => 0,
+    }
+}
+
+/// The numbers in the head cells of a form: the lengths of its name and of its body, and its pointer.
+#[derive(Clone, Copy)]
+pub struct Heads {
+    pub name: u32,
+    pub body: u32,
+    pub pointer: u32,
+}
+
+/// The heads of the form that begins at a place of the store.
+#[inline]
+pub fn heads_at(space: &Space, start: u32) -> Heads
+    requires within { start + 3 ≤ length space.now.store }
+    requires bounded { length space.now.store ≤ 16777216 }
+    ensures name { result.name ≡ head_at space.now.store start }
+    ensures body { result.body ≡ head_at space.now.store (start + 1) }
+    ensures pointer { result.pointer ≡ head_at space.now.store (start + 2) }
+{
+    let cells = space.store_part(start, start + 3);
+    Heads {
+        name: number(cells[0]),
+        body: number(cells[1]),
+        pointer: number(cells[2]),
+    }
+}
+
+/// The heads of a form whose place is known: they need no test.
+#[inline]
+pub fn heads_of(space: &Space, form: Located) -> Heads
+    requires forms { AreForms space.now.store }
+    requires known { form.number < length (forms_in space.now.store) }
+    requires begins { form.start ≡ start_of (forms_in space.now.store) form.number }
+    ensures name { result.name ≡ head_at space.now.store form.start }
+    ensures body { result.body ≡ head_at space.now.store (form.start + 1) }
+    ensures pointer { result.pointer ≡ head_at space.now.store (form.start + 2) }
+{
+    let cells = space.store_part(form.start, form.start + 3);
+    Heads {
+        name: number_in_head(cells[0]),
+        body: number_in_head(cells[1]),
+        pointer: number_in_head(cells[2]),
+    }
+}
+
+/// The item in the cell at place `i` of the store, a gap of ordinal 0 where none stands there.
+pub fn item_in(space: &Space, i: u32) -> Item
+    ensures { result ≡ stored_item space.now.store i }
+{
+    match space.store_at(i) {
+        Some(cell) => item_of(&cell),
+        None => Item::Gap(0),
+    }
+}
+
+/// The item of a cell, a gap of ordinal 0 of one that is none.
+pub fn item_of(cell: &Cell) -> Item
+    ensures { result ≡ item_of cell.now }
+{
+    match *cell {
+        Cell::Byte(byte) => Item::Byte(byte),
+        Cell::Gap(ordinal) => Item::Gap(ordinal),
+        _ => Item::Gap(0),
+    }
+}
+
+// Where form `k` begins in the store, which stands at the place of another or behind it.
+fn walk(space: &Space, from: Located, k: u32) -> u32
+    requires forms { AreForms space.now.store }
+    requires begins { from.start ≡ start_of (forms_in space.now.store) from.number }
+    requires order { from.number ≤ k }
+    requires within { k ≤ length (forms_in space.now.store) }
+    ensures { result ≡ start_of (forms_in space.now.store) k }
+{
+    let mut start = from.start;
+    for _form in from.number..k {
+        start += 3 + head(space, start) + head(space, start + 1);
+    }
+    start
+}
+
+/// Where form `k` begins in the store. Costs a walk from the form used last, or from the first one
+/// where that stands behind form `k`.
+#[inline]
+pub fn place_of(space: &Space, last: Located, k: u32) -> u32
+    requires forms { AreForms space.now.store }
+    requires begins { last.start ≡ start_of (forms_in space.now.store) last.number }
+    requires within { k ≤ length (forms_in space.now.store) }
+    ensures { result ≡ start_of (forms_in space.now.store) k }
+{
+    if last.number == k {
+        last.start
+    } else if last.number < k {
+        walk(space, last, k)
+    } else {
+        walk(space, FIRST_FORM, k)
+    }
+}
+
+// The number in a head cell.
+#[inline]
+pub(crate) fn number(cell: Cell) -> u32
+    ensures { result ≡ head_number (Some cell) }
+{
+    match cell {
+        Cell::Head(number) => number,
+        _ => 0,
+    }
+}
+
+// What an arm reads that is never reached: nothing, so that the compiler makes no test for it.
+const NO_NUMBER: [u32; 0] = [];
+
+/// How many forms are too few for a search to start at the form used last.
+pub const FEW_FORMS: u32 = 8;
+// From how many forms on an index of them is made and used.
+pub(crate) const FORMS_FOR_INDEX: u32 = 12;
+
+/// The number in a cell that is a head.
+#[inline]
+pub fn number_in_head(cell: Cell) -> u32
+    requires { cell ≡ Head (head_number (Some cell)) }
+    ensures { result ≡ head_number (Some cell) }
+{
+    match cell {
+        Cell::Head(number) => number,
+        _ => NO_NUMBER[0],
+    }
+}
+
+// Whether the characters are those of a text that is as long.
+#[inline]
+pub(crate) fn is_text(cells: &[Cell], text: &[Cell]) -> bool
+    requires cell_bytes { All IsByte cells.now }
+    requires bytes { All IsByte text.now }
+    requires same { length cells.now ≡ length text.now }
+    ensures { Decides result (text_of_cells cells.now ≡ text_of_cells text.now) }
+{
+    for i in 0..text.len() {
+        if byte_in(&cells[i]) != byte_in(&text[i]) {
+            return false;
+        }
+    }
+    true
+}
+
+// The same, from the last character on, where most texts differ.
+#[inline(always)]
+fn is_text_back(cells: &[Cell], text: &[Cell]) -> bool
+    requires cell_bytes { All IsByte cells.now }
+    requires bytes { All IsByte text.now }
+    requires same { length cells.now ≡ length text.now }
+    ensures { IsTrue result → text_of_cells cells.now ≡ text_of_cells text.now }
+{
+    let mut left = text.len();
+    while left > 0 {
+        if byte_in(&cells[left - 1]) != byte_in(&text[left - 1]) {
+            return false;
+        }
+        left -= 1;
+    }
+    true
+}
+
+// Whether the `len` cells from place `from` on are the text, of which `last` is the last
+// character: most names differ there.
+#[inline]
+fn is_text_at(cells: &[Cell], from: usize, len: usize, text: &[Cell], last: u8) -> bool
+    requires within { from + len ≤ length cells.now }
+    requires part_bytes { All IsByte (map seen (slice_range cells.now from (from + len))) }
+    requires bytes { All IsByte (map seen text.now) }
+    requires some { 0 < length text.now }
+    requires last { last ≡ character_of (slice_index_or text.now (length text.now - 1) (Byte 0)) }
+    ensures { Decides result
+        (map seen (slice_range cells.now from (from + len)) ≡ map seen text.now) }
+{
+    if len != text.len() || byte_in(&cells[from + len - 1]) != last {
+        return false;
+    }
+    is_text(&cells[from..from + len], text)
+}
+
+// Whether the form has the name.
+#[inline(always)]
+fn is_named(store: &[Cell], form: Located, name: &[Cell]) -> bool
+    requires whole { flat_forms (forms_in (map seen store.now)) ≡ map seen store.now }
+    requires bounded { length store.now ≤ 16777216 }
+    requires begins { IsPlace (forms_in (map seen store.now)) form.number form.start }
+    requires within { form.number < length (forms_in (map seen store.now)) }
+    requires bytes { All IsByte (map seen name.now) }
+    ensures { let forms = forms_in (map seen store.now) in
+        let text = text_of_cells (map seen name.now) in
+        IsTrue result → IsFoundAt forms text form.number form.start }
+{
+    let start = form.start as usize;
+    let len = number_in_head(store[start]) as usize;
+    len == name.len() && is_text_back(&store[start + 3..start + 3 + len], name)
+}
+
+/// Whether the first form has the name that is the part of neutral.
+#[inline(always)]
+pub fn is_first_named(space: &Space, count: u32, part: Part) -> bool
+    requires forms { AreForms space.now.store }
+    requires count_is { count ≡ length (forms_in space.now.store) }
+    requires some { 0 < count }
+    requires name_part { IsTextPart space.now.neutral part.from part.to }
+    ensures { let name = part_text space.now.neutral part.from part.to in
+        IsTrue result → IsFoundAt (forms_in space.now.store) name 0 0 }
+{
+    let store = space.store_part(0, space.store_len());
+    is_named(store, FIRST_FORM, space.neutral_part(part.from, part.to))
+}
+
+// The form of the null name among the cells of the store.
+fn find_null(store: &[Cell], count: u32) -> Option<Located>
+    requires whole { flat_forms (forms_in (map seen store.now)) ≡ map seen store.now }
+    requires bounded { length store.now ≤ 16777216 }
+    requires count_is { count ≡ length (forms_in (map seen store.now)) }
+    ensures { MatchOption result
+        (NoneNamed [] (forms_in (map seen store.now)))
+        (λ found. IsFoundAt (forms_in (map seen store.now)) [] found.number found.start) }
+{
+    let mut start = 0;
+    for k in 0..count {
+        let len = number_in_head(store[start]) as usize;
+        if len == 0 {
+            return Some(Located {
+                number: k,
+                start: start as u32,
+            });
+        }
+        start += 3 + len + number_in_head(store[start + 1]) as usize;
+    }
+    None
+}
+
+// The form of a name that is not null among those from one on, up to place `end` of the list.
+#[inline(always)]
+fn search_some(store: &[Cell], from: Located, end: u32, name: &[Cell]) -> Option<Located>
+    requires whole { flat_forms (forms_in (map seen store.now)) ≡ map seen store.now }
+    requires bounded { length store.now ≤ 16777216 }
+    requires begins { IsPlace (forms_in (map seen store.now)) from.number from.start }
+    requires order { from.number ≤ end }
+    requires within { end ≤ length (forms_in (map seen store.now)) }
+    requires bytes { All IsByte (map seen name.now) }
+    requires some { 0 < length name.now }
+    ensures { let forms = forms_in (map seen store.now) in
+        let text = text_of_cells (map seen name.now) in
+        MatchOption result
+        (NoneNamed text (slice_range forms from.number end))
+        (λ found. IsFoundAt forms text found.number found.start) }
+{
+    let last = byte_in(&name[name.len() - 1]);
+    let mut at = from.start as usize + 3;
+    let mut left = end - from.number;
+    while left > 0 {
+        let len = number_in_head(store[at - 3]) as usize;
+        if is_text_at(store, at, len, name, last) {
+            return Some(Located {
+                number: end - left,
+                start: (at - 3) as u32,
+            });
+        }
+        at += 3 + len + number_in_head(store[at - 2]) as usize;
+        left -= 1;
+    }
+    None
+}
+
+// The same, as a function of its own, so that its loop has the registers.
+#[inline(never)]
+fn find_some(store: &[Cell], from: Located, end: u32, name: &[Cell]) -> Option<Located>
+    requires whole { flat_forms (forms_in (map seen store.now)) ≡ map seen store.now }
+    requires bounded { length store.now ≤ 16777216 }
+    requires begins { IsPlace (forms_in (map seen store.now)) from.number from.start }
+    requires order { from.number ≤ end }
+    requires within { end ≤ length (forms_in (map seen store.now)) }
+    requires bytes { All IsByte (map seen name.now) }
+    requires some { 0 < length name.now }
+    ensures { let forms = forms_in (map seen store.now) in
+        let text = text_of_cells (map seen name.now) in
+        MatchOption result
+        (NoneNamed text (slice_range forms from.number end))
+        (λ found. IsFoundAt forms text found.number found.start) }
+{
+    search_some(store, from, end, name)
+}
+
+// The form of a name that is not null: first among those from the one used last on, then among
+// those before it.
+#[inline(never)]
+fn find_round(store: &[Cell], last: Located, count: u32, name: &[Cell]) -> Option<Located>
+    requires whole { flat_forms (forms_in (map seen store.now)) ≡ map seen store.now }
+    requires bounded { length store.now ≤ 16777216 }
+    requires count_is { count ≡ length (forms_in (map seen store.now)) }
+    requires last { IsPlace (forms_in (map seen store.now)) last.number last.start }
+    requires bytes { All IsByte (map seen name.now) }
+    requires some { 0 < length name.now }
+    ensures { let forms = forms_in (map seen store.now) in
+        let text = text_of_cells (map seen name.now) in
+        MatchOption result
+        (NoneNamed text forms)
+        (λ found. IsFoundAt forms text found.number found.start) }
+{
+    match search_some(store, last, count, name) {
+        None => search_some(store, FIRST_FORM, last.number, name),
+        found => found,
+    }
+}
+
+/// The form whose name is the part of neutral. Among many forms the search starts at the one that was
+/// used last, since the next is often that one or near behind it. None where no form has that name.
+///
+/// To `search_cost` is added what the search has cost: forms and slots looked at beyond a few.
+#[inline(always)]
+pub fn find_named(
+    space: &Space,
+    count: u32,
+    last: Located,
+    part: Part,
+    search_cost: &mut u32,
+) -> Option<Located>
+    requires forms { AreForms space.now.store }
+    requires count_is { count ≡ length (forms_in space.now.store) }
+    requires last { IsPlace (forms_in space.now.store) last.number last.start }
+    requires name_part { IsTextPart space.now.neutral part.from part.to }
+    requires index { IsIndexed space.now.spare (forms_in space.now.store) }
+    ensures { let name = part_text space.now.neutral part.from part.to in
+        MatchOption result
+        (NoneNamed name (forms_in space.now.store))
+        (λ found. IsFoundAt (forms_in space.now.store) name found.number found.start) }
+{
+    let store = space.store_part(0, space.store_len());
+    let name = space.neutral_part(part.from, part.to);
+    if count >= FORMS_FOR_INDEX {
+        return find_among_many(space, store, count, last, name, search_cost);
+    }
+    if name.is_empty() {
+        return find_null(store, count);
+    }
+    if count < FEW_FORMS {
+        return search_some(store, FIRST_FORM, count, name);
+    }
+    find_round(store, last, count, name)
+}
+
+/// The same, where there are so few forms that the search starts at the first.
+#[inline(always)]
+pub fn find_few(space: &Space, count: u32, part: Part) -> Option<Located>
+    requires forms { AreForms space.now.store }
+    requires count_is { count ≡ length (forms_in space.now.store) }
+    requires name_part { IsTextPart space.now.neutral part.from part.to }
+    ensures { let name = part_text space.now.neutral part.from part.to in
+        MatchOption result
+        (NoneNamed name (forms_in space.now.store))
+        (λ found. IsFoundAt (forms_in space.now.store) name found.number found.start) }
+{
+    let store = space.store_part(0, space.store_len());
+    let name = space.neutral_part(part.from, part.to);
+    if name.is_empty() {
+        return find_null(store, count);
+    }
+    search_some(store, FIRST_FORM, count, name)
+}
+
+// As `find_named`, by the index if there is one. Else looks at forms beyond a few are added to
+// `search_cost`.
+#[inline(always)]
+fn find_among_many(
+    space: &Space,
+    store: &[Cell],
+    count: u32,
+    last: Located,
+    name: &[Cell],
+    search_cost: &mut u32,
+) -> Option<Located>
+    requires is_store { map seen store.now ≡ space.now.store }
+    requires whole { flat_forms (forms_in (map seen store.now)) ≡ map seen store.now }
+    requires bounded { length store.now ≤ 16777216 }
+    requires count_is { count ≡ length (forms_in (map seen store.now)) }
+    requires last { IsPlace (forms_in (map seen store.now)) last.number last.start }
+    requires bytes { All IsByte (map seen name.now) }
+    requires index { IsIndexed space.now.spare (forms_in (map seen store.now)) }
+    ensures { let forms = forms_in (map seen store.now) in
+        let text = text_of_cells (map seen name.now) in
+        MatchOption result
+        (NoneNamed text forms)
+        (λ found. IsFoundAt forms text found.number found.start) }
+{
+    if space.spare_len() > 0 {
+        return look_up(store, space.spare_cells(), name, search_cost);
+    }
+    if name.is_empty() {
+        let found = find_null(store, count);
+        add_search_cost(search_cost, looked_at(found, count));
+        return found;
+    }
+    if let Some(form) = find_some(store, last, count, name) {
+        add_search_cost(search_cost, form.number.wrapping_sub(last.number));
+        return Some(form);
+    }
+    let found = find_some(store, FIRST_FORM, last.number, name);
+    add_search_cost(
+        search_cost,
+        count
+            .wrapping_sub(last.number)
+            .saturating_add(looked_at(found, last.number)),
+    );
+    found
+}
+
+// How many forms a search from the first up to one has looked at.
+#[inline]
+fn looked_at(found: Option<Located>, end: u32) -> u32 {
+    match found {
+        Some(form) => form.number,
+        None => end,
+    }
+}
+
+// Adds what a search has cost that looked at so many forms, beyond what one by an index would.
+#[inline]
+fn add_search_cost(search_cost: &mut u32, looks: u32) {
+    if looks > FEW_FORMS {
+        *search_cost = search_cost.saturating_add(looks - FEW_FORMS);
+    }
+}

@@ -1,0 +1,64 @@
+//! The cells of forms, put into the store and taken out of it.
+ghost use Rattle.std.specs.Prelude.{◌≡◌, ◌+◌, ◌-◌, ◌≤◌, ◌<◌, ◌++◌, length};
+ghost use Rattle.std.specs.Prelude.{take, drop, slice_range};
+ghost use Rattle.trac_space.specs.Lists as lists;
+ghost use Rattle.trac_store.specs.FlatForms.{flat_form};
+ghost use Rattle.trac_store.specs.Parts.{IsTextPart, new_form};
+ghost use Rattle.trac_store.specs.Index.{IsKept};
+ghost use Rattle.trac_store.specs.Stored.{head_at};
+
+use crate::form_cells::head;
+use trac_space::{Cell, Part, Space};
+
+/// Takes the form that begins at `start` out of the store.
+pub fn remove_form(space: &mut Space, start: u32)
+    requires bounded { length space.old.store ≤ 16777216 }
+    requires within { let store = space.old.store in
+        let cells = 3 + head_at store start + head_at store (start + 1) in
+        start + cells ≤ length store }
+    ensures { let store = space.old.store in
+        let cells = 3 + head_at store start + head_at store (start + 1) in
+        space.new ≡ record space.old {
+          store = take start store ++ drop (start + cells) store;
+        } }
+{
+    let cells = 3 + head(space, start) + head(space, start + 1);
+    space.remove_store(start, start + cells);
+}
+
+/// Puts the cells of a new form, of which there are `need`, at the end of the store.
+pub fn store_form(space: &mut Space, need: u32, name: Part, text: Part)
+    requires name_part { IsTextPart space.old.neutral name.from name.to }
+    requires text_part { IsTextPart space.old.neutral text.from text.to }
+    requires need { need ≡ 3 + (name.to - name.from) + (text.to - text.from) }
+    requires room { lists.used space.old + need ≤ space.old.room }
+    ensures kept { IsKept space.old.spare space.new.spare }
+    ensures stored { let form = new_form space.old.neutral name.from name.to text.from text.to in
+        space.new ≡ record space.old {
+          store = space.old.store ++ flat_form form;
+          spare = space.new.spare;
+        } }
+{
+    space.claim(need);
+    let start = space.store_len();
+    space.open_store(need);
+    prove!(space.used() <= space.room());
+    write_form(space, start, name, text);
+}
+
+// Writes the cells of a new form over the last ones of the store, from a place on.
+fn write_form(space: &mut Space, start: u32, name: Part, text: Part)
+    requires name_part { IsTextPart space.old.neutral name.from name.to }
+    requires text_part { IsTextPart space.old.neutral text.from text.to }
+    requires bounded { length space.old.store ≤ 16777216 }
+    requires last { length space.old.store ≡
+        start + (3 + (name.to - name.from) + (text.to - text.from)) }
+    ensures { let form = new_form space.old.neutral name.from name.to text.from text.to in
+        space.new ≡ record space.old { store = take start space.old.store ++ flat_form form } }
+{
+    space.write_store(start, Cell::Head(name.to - name.from));
+    space.write_store(start + 1, Cell::Head(text.to - text.from));
+    space.write_store(start + 2, Cell::Head(0));
+    space.write_part(start + 3, name.from, name.to);
+    space.write_part(start + 3 + (name.to - name.from), text.from, text.to);
+}

@@ -1,0 +1,156 @@
+//! Bodies of forms, their gaps filled, put at the end of neutral, and such without gaps, put before
+//! active.
+ghost use Rattle.std.specs.Prelude.{◌≡◌, ◌+◌, ◌≤◌, ◌<◌, ◌↔◌, ◌++◌};
+ghost use Rattle.std.specs.Prelude.{length, map, slice_range, All, IsTrue, MatchOption};
+ghost use Rattle.std.specs.Bool.{OnTrue, OnFalse};
+ghost use Rattle.trac_language.specs.Store.{IsStore};
+ghost use Rattle.trac_language.specs.Form.{text_of};
+ghost use Rattle.trac_space.specs.Cells.{NoCall};
+ghost use Rattle.trac_space.specs.Filled.{HaveCommas, filled};
+ghost use Rattle.trac_space.specs.Lists.{used as cells_used, claimed};
+ghost use Rattle.trac_space.specs.Overlay.{under};
+ghost use Rattle.trac_space.specs.Texts.{flat_text, IsByte};
+ghost use Rattle.trac_store.specs.Loading.{called_part, AreCharacters};
+ghost use Rattle.trac_store.specs.Arguments.{AreParted, filled_cells};
+ghost use Rattle.trac_store.specs.FlatForms.{flat_forms};
+ghost use Rattle.trac_store.specs.Index.{IsKept};
+ghost use Rattle.trac_store.specs.Stored.{forms_in, start_of};
+
+use trac_space::{Part, Space};
+
+/// Puts items of the store before active, where they are all characters and fit, and gives how many
+/// they are. None where it does not put them.
+#[inline(always)]
+pub fn load_items(space: &mut Space, items: Part) -> Option<u32>
+    requires order { items.from ≤ items.to }
+    requires within { items.to ≤ length space.old.store }
+    ensures { let cells = slice_range space.old.store items.from items.to in
+        MatchOption result (space.new ≡ space.old)
+        (λ n. All IsByte cells × (items.from + n ≡ items.to) × (cells_used space.old + n ≤ space.old.room)
+        × (space.new ≡ record (claimed n space.old) { active = cells ++ space.old.active })) }
+{
+    // The lists fit in the block.
+    prove!(space.free_beside_spare() <= space.room());
+    let size = items.to - items.from;
+    if size == 0 {
+        return Some(0);
+    }
+    if space.free_beside_spare() < size {
+        return load_items_over_spare(space, items);
+    }
+    if space.load_characters(items.from, items.to) {
+        Some(size)
+    } else {
+        None
+    }
+}
+
+// The same where the spare list may be in the way.
+#[inline(never)]
+fn load_items_over_spare(space: &mut Space, items: Part) -> Option<u32>
+    requires order { items.from ≤ items.to }
+    requires within { items.to ≤ length space.old.store }
+    ensures { let cells = slice_range space.old.store items.from items.to in
+        MatchOption result (space.new ≡ space.old)
+        (λ n. All IsByte cells × (items.from + n ≡ items.to) × (cells_used space.old + n ≤ space.old.room)
+        × (space.new ≡ record (claimed n space.old) { active = cells ++ space.old.active })) }
+{
+    let size = items.to - items.from;
+    if space.characters_from(items.from, items.to) < size || space.free() < size {
+        return None;
+    }
+    space.claim(size);
+    space.load_from_store(items.from, items.to);
+    Some(size)
+}
+
+/// Puts items of the store at the end of neutral, each gap of ordinal k replaced by the k-th, from 1,
+/// of the texts between the comma marks of a part of neutral, and by nothing where there is none.
+/// False where they don't fit.
+#[inline(always)]
+pub fn fill_items(space: &mut Space, items: Part, texts: Part) -> bool
+    requires order { items.from ≤ items.to }
+    requires within { items.to ≤ length space.old.store }
+    requires bounded { length space.old.store ≤ 16777216 }
+    requires arguments { AreParted space.old.neutral texts.from texts.to }
+    ensures put { let text = filled_cells space.old items.from items.to texts.from texts.to in
+        IsTrue result ↔ (cells_used space.old + length text ≤ space.old.room) }
+    ensures last { let text = filled_cells space.old items.from items.to texts.from texts.to in
+        OnTrue result (space.new ≡ record space.old {
+          neutral = space.old.neutral ++ flat_text text;
+          spare = space.new.spare;
+        }) }
+    ensures full { OnFalse result (space.new ≡ record space.old { spare = space.new.spare }) }
+    ensures kept { IsKept space.old.spare space.new.spare }
+{
+    // The lists fit in the block.
+    prove!(space.free_beside_spare() <= space.room());
+    if items.from == items.to {
+        return true;
+    }
+    let gap = items.from + space.characters_from(items.from, items.to);
+    if gap == items.to {
+        return space.copy_short(items.from, items.to);
+    }
+    fill_gaps(space, items, texts)
+}
+
+// The same, where there may be gaps among them: the places of the comma marks lie meanwhile over
+// the texts.
+#[inline(always)]
+fn fill_gaps(space: &mut Space, items: Part, texts: Part) -> bool
+    requires order { items.from ≤ items.to }
+    requires within { items.to ≤ length space.old.store }
+    requires bounded { length space.old.store ≤ 16777216 }
+    requires arguments { AreParted space.old.neutral texts.from texts.to }
+    ensures put { let text = filled_cells space.old items.from items.to texts.from texts.to in
+        IsTrue result ↔ (cells_used space.old + length text ≤ space.old.room) }
+    ensures last { let text = filled_cells space.old items.from items.to texts.from texts.to in
+        OnTrue result (space.new ≡ record space.old {
+          neutral = space.old.neutral ++ flat_text text;
+          spare = space.new.spare;
+        }) }
+    ensures full { OnFalse result (space.new ≡ record space.old { spare = space.new.spare }) }
+    ensures kept { IsKept space.old.spare space.new.spare }
+{
+    let first = texts.from.min(texts.to);
+    let commas = space.lay_commas(first, texts.to);
+    let given = Part {
+        from: first,
+        to: texts.to,
+    };
+    let filled = put_filled(space, items, given, commas);
+    space.lift_neutral(first, first + commas);
+    filled
+}
+
+// Puts items of the store at the end of neutral, each gap replaced
+// by the part of its ordinal of those between so many comma marks, whose places lie over the given
+// cells of neutral. False where they don't fit. The spare list is let go where it is in their way.
+#[inline(always)]
+fn put_filled(space: &mut Space, items: Part, given: Part, commas: u32) -> bool
+    requires order { items.from ≤ items.to }
+    requires within { items.to ≤ length space.old.store }
+    requires given_order { given.from ≤ given.to }
+    requires given_within { given.to ≤ length space.old.neutral }
+    requires commas { HaveCommas (slice_range space.old.neutral given.from given.to) commas }
+    requires no_call { let texts = map under (slice_range space.old.neutral given.from given.to) in
+        NoCall (filled texts (slice_range space.old.store items.from items.to)) }
+    ensures put { let texts = map under (slice_range space.old.neutral given.from given.to) in
+        let more = filled texts (slice_range space.old.store items.from items.to) in
+        IsTrue result ↔ (cells_used space.old + length more ≤ space.old.room) }
+    ensures last { let texts = map under (slice_range space.old.neutral given.from given.to) in
+        let more = filled texts (slice_range space.old.store items.from items.to) in
+        OnTrue result (space.new ≡ record space.old {
+          neutral = space.old.neutral ++ more;
+          spare = space.new.spare;
+        }) }
+    ensures full { OnFalse result (space.new ≡ record space.old { spare = space.new.spare }) }
+    ensures kept { IsKept space.old.spare space.new.spare }
+{
+    if space.put_filled(items.from, items.to, given.from, given.to, commas) {
+        return true;
+    }
+    space.drop_spare();
+    space.put_filled(items.from, items.to, given.from, given.to, commas)
+}

@@ -1,0 +1,96 @@
+//! Places among the cells of a body.
+ghost use Rattle.std.specs.Prelude.{◌≡◌, ◌-◌, ◌≤◌, ◌<◌, length, MatchOption};
+ghost use Rattle.std.specs.Prelude.{slice_range};
+ghost use Rattle.trac_space.specs.Texts.{byte_cell_at};
+ghost use Rattle.trac_store.specs.Parts.{IsTextPart, part_text};
+ghost use Rattle.trac_store.specs.Search.{NonePasses, IsFirst};
+ghost use Rattle.trac_store.specs.Search.{IsLast};
+ghost use Rattle.trac_store.specs.Gaps.{is_gap_cell, gap_cell_at, text_cells_at};
+
+use crate::borders::{first_place, lay_borders};
+use trac_space::{Cell, Part, Space, is_character};
+
+// Whether the cell is a gap.
+#[inline]
+fn is_gap(cell: &Cell) -> bool
+    ensures { result ≡ is_gap_cell cell.now }
+{
+    matches!(cell, Cell::Gap(_))
+}
+
+/// The place of the first gap at `from` or after. None where there is none.
+#[inline]
+pub fn first_gap(cells: &[Cell], from: u32) -> Option<u32>
+    requires within { from ≤ length cells.now }
+    requires bounded { length cells.now ≤ 16777216 }
+    ensures { MatchOption result
+        (NonePasses (gap_cell_at cells.now) from (length cells.now))
+        (λ place. IsFirst (gap_cell_at cells.now) from (length cells.now) place) }
+{
+    for i in from..cells.len() as u32 {
+        if is_gap(&cells[i as usize]) {
+            return Some(i);
+        }
+    }
+    None
+}
+
+/// The place of the first character at `from` or after. None where there is none.
+pub fn first_character(cells: &[Cell], from: u32) -> Option<u32>
+    requires within { from ≤ length cells.now }
+    requires bounded { length cells.now ≤ 16777216 }
+    ensures { MatchOption result
+        (NonePasses (byte_cell_at cells.now) from (length cells.now))
+        (λ place. IsFirst (byte_cell_at cells.now) from (length cells.now) place) }
+{
+    for i in from..cells.len() as u32 {
+        if is_character(&cells[i as usize]) {
+            return Some(i);
+        }
+    }
+    None
+}
+
+/// The place of the last character before `from`. None where there is none.
+pub fn last_character(cells: &[Cell], from: u32) -> Option<u32>
+    requires within { from ≤ length cells.now }
+    ensures { MatchOption result
+        (NonePasses (byte_cell_at cells.now) 0 from)
+        (λ place. IsLast (byte_cell_at cells.now) from place) }
+{
+    let mut end = from;
+    while end > 0 {
+        end -= 1;
+        if is_character(&cells[end as usize]) {
+            return Some(end);
+        }
+    }
+    None
+}
+
+/// The first place at `from` or after at which the part of neutral stands in a part of the store.
+/// None where there is none.
+///
+/// Places count from the first of the cells of the store. One pass over the cells of the store, and two over the
+/// part; afterwards nothing has changed.
+pub fn find_text(space: &mut Space, body: Part, from: u32, part: Part) -> Option<u32>
+    requires order { body.from ≤ body.to }
+    requires within { body.to ≤ length space.old.store }
+    requires bounded { body.to ≤ 16777216 }
+    requires begin { from ≤ body.to - body.from }
+    requires text_part { IsTextPart space.old.neutral part.from part.to }
+    requires text_bounded { part.to ≤ 16777216 }
+    requires some { part.from < part.to }
+    ensures found { let text = part_text space.old.neutral part.from part.to in
+        let cells = slice_range space.old.store body.from body.to in
+        MatchOption result
+        (NonePasses (text_cells_at text cells) from (length cells))
+        (λ place. IsFirst (text_cells_at text cells) from (length cells) place) }
+    ensures same { space.new ≡ space.old }
+{
+    lay_borders(space, part);
+    let text = space.neutral_part(part.from, part.to);
+    let found = first_place(space.store_part(body.from, body.to), from, text);
+    space.lift_neutral(part.from, part.to);
+    found
+}
