@@ -1,5 +1,5 @@
-"""Each command that a document shows runs as it stands there, over a copy of the repository, and ends as the text says. A
-command that can't be run here stands in NOT_RUN with the reason; one that is neither run nor there fails."""
+"""Each command that a document shows runs as it stands there, over a copy of the repository, and ends as the text
+says. A command that can't be run here stands in NOT_RUN with the reason; one that is neither run nor there fails."""
 import glob
 import os
 import re
@@ -13,9 +13,11 @@ from trac import IN_C, TOP
 
 KIT = 'needs the Rattle kit'
 SESSION = 'a session at a terminal, which the checks of that program have'
-TRACE = 'the tracer is proved before it is built; proved/test_man_page.py, test_warnings.py and test_manual_traces.py run it'
+TRACE = ('the tracer is proved before it is built; '
+         'proved/test_man_page.py, test_warnings.py and test_manual_traces.py run it')
 # The programs that are shown and not run here, and why.
-NO_PROGRAMS = {'rt': KIT, 'trac_trace': TRACE, './trac_trace': TRACE, 'trac_terminal': SESSION, './trac_terminal': SESSION}
+NO_PROGRAMS = {'rt': KIT, 'trac_trace': TRACE, './trac_trace': TRACE,
+               'trac_terminal': SESSION, './trac_terminal': SESSION}
 # The other commands that are shown and not run, and why.
 NOT_RUN = {
     'make install PREFIX=/usr/local': 'writes outside of a temporary folder; test_install.py installs elsewhere',

@@ -56,7 +56,8 @@ def exercises():
     for name, text in re.findall(r'^### (\d+\. [^\n]*)\n(.*?)(?=^##)', read('docs', 'EXERCISES.md') + '##',
                                  re.MULTILINE | re.DOTALL):
         blocks = dict(re.findall(r'^```(input|output)\n(.*?)^```$', text, re.MULTILINE | re.DOTALL))
-        words = re.sub(r'^```(?:input|output)\n.*?^```$| \[A solution\]\([^)]*\)\.', '', text, flags=re.MULTILINE | re.DOTALL)
+        words = re.sub(r'^```(?:input|output)\n.*?^```$| \[A solution\]\([^)]*\)\.', '', text,
+                       flags=re.MULTILINE | re.DOTALL)
         parts = [part.strip() for part in re.split(r'```(?:trac)?\n|\n\n', words) if part.strip()]
         yield {'name': name, 'task': [part if part.startswith('#(') else part.replace('\n', ' ') for part in parts],
                'input': blocks.get('input', ''), 'output': blocks['output']}
