@@ -10,7 +10,7 @@ LIBDIR = lib
 PYTHON = /usr/bin/python3
 VERSION != cat VERSION
 SOURCES != find crates.txt crates -name out -prune -o -type f \( -name '*.rt' -o -name '*.antt' -o -name crates.txt \) -print
-PAGE != find hosts/page hosts/js examples docs/EXERCISES.md docs/LANGUAGE.md -type f ! -name '*.pyc'
+PAGE != find hosts/page hosts/js examples docs/EXERCISES.md docs/LANGUAGE.md docs/LESSON.md -type f ! -name '*.pyc'
 # The crates of which `make edits` tries the edits that the gate leaves out.
 CRATES != ls further-edits
 

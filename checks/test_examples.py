@@ -11,7 +11,7 @@ from trac import TOP, run
 FOLDER = os.path.join(TOP, 'examples')
 EXERCISE = re.compile(r'^### (\d+)\. .*\n((?:(?!###? ).*\n)*)', re.MULTILINE)
 BLOCK = re.compile(r'^```(\w+)\n((?:(?!```).*\n)*)```$', re.MULTILINE)
-LEVEL = re.compile(r'^\n(Easy|Middling|Hard), (\d+) minutes\.\n')
+LEVEL = re.compile(r'^(Easy|Middling|Hard), (\d+) minutes\. \[A solution\]\(')
 SOLUTION = re.compile(r'\]\(\.\./examples/(exercises/(\d+)-\S+\.trac)\)')
 
 

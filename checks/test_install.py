@@ -75,7 +75,8 @@ class Install(unittest.TestCase):
         self.assertEqual((ran.stdout, ran.stderr), ('hello\n', ''))
         there = files(self.there)
         self.assertLessEqual({'include/trac.h', 'lib/libtrac.a', 'lib/libtrac.so', 'lib/libtrac.so.0',
-                              'share/man/man1/trac.1', 'share/man/man1/trac_terminal.1', 'share/man/man3/trac.3', 'share/man/man7/trac.7',
+                              'share/man/man1/trac.1', 'share/man/man1/trac_terminal.1',
+                              'share/man/man3/trac.3', 'share/man/man7/trac.7',
                               f'{DOC}/docs/LANGUAGE.md', f'{DOC}/examples/hanoi.trac',
                               'share/zsh/site-functions/_trac'}, there)
         for program in ('trac', 'trac_trace', 'trac_terminal'):

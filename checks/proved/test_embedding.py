@@ -9,7 +9,7 @@ import unittest
 
 from trac import TOP
 
-SECTION = re.compile(r'^## From nothing to a proved program\n(.*?)^## ', re.MULTILINE | re.DOTALL)
+SECTION = re.compile(r'^### From nothing to a proved program\n(.*?)^### ', re.MULTILINE | re.DOTALL)
 COMMANDS = re.compile(r'^```sh\n(.*?)^```$', re.MULTILINE | re.DOTALL)
 FILE = re.compile(r'^`(crates/\S+)`[^\n]*:\n\n```rust\n(.*?)^```$', re.MULTILINE | re.DOTALL)
 OUTPUT = re.compile(r'^```output\n(.*?)^```$', re.MULTILINE | re.DOTALL)

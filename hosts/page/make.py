@@ -44,10 +44,10 @@ def examples():
 
 
 def lesson():
-    """The scripts of lesson.md: each with its sentence and what it prints."""
+    """The scripts of docs/LESSON.md: each with its sentence and what it prints."""
     for name, says, script, output in re.findall(
-            r'^### ([^\n]*)\n\n(.*?)\n\n```trac\n(.*?)\n```\n```output\n(.*?)\n```$',
-            read('hosts', 'page', 'lesson.md'), re.MULTILINE | re.DOTALL):
+            r'^## (\d+\. [^\n]*)\n+([^`]*?)\n```trac\n(.*?)\n```\n```output\n(.*?)\n```$',
+            read('docs', 'LESSON.md'), re.MULTILINE | re.DOTALL):
         yield {'name': name, 'says': says.replace('\n', ' '), 'script': script, 'output': output}
 
 
@@ -56,7 +56,8 @@ def exercises():
     for name, text in re.findall(r'^### (\d+\. [^\n]*)\n(.*?)(?=^##)', read('docs', 'EXERCISES.md') + '##',
                                  re.MULTILINE | re.DOTALL):
         blocks = dict(re.findall(r'^```(input|output)\n(.*?)^```$', text, re.MULTILINE | re.DOTALL))
-        words = re.sub(r'^```(?:input|output)\n.*?^```$|\[A solution\].*', '', text, flags=re.MULTILINE | re.DOTALL)
+        words = re.sub(r'^```(?:input|output)\n.*?^```$| \[A solution\]\([^)]*\)\.', '', text,
+                       flags=re.MULTILINE | re.DOTALL)
         parts = [part.strip() for part in re.split(r'```(?:trac)?\n|\n\n', words) if part.strip()]
         yield {'name': name, 'task': [part if part.startswith('#(') else part.replace('\n', ' ') for part in parts],
                'input': blocks.get('input', ''), 'output': blocks['output']}

@@ -92,8 +92,8 @@ fn place_of_check(words: &[String]) -> usize
 /// Reads the options from the program's words, its name first: `trac_trace [--cells N] [--steps N]
 /// [--from N] [--to N] [--last N] [--width N] [--columns N] [--calls] [--forms] [--warn]`. Where the
 /// words don't say, there are 65536 cells and 1000000 steps, all steps are shown, and 100 bytes of a
-/// text in lines of any length. The error is clap's, for words that it refuses, numbers out of range among them, for help, or for want of
-/// memory. The command is this processor's own choice.
+/// text in lines of any length. The error is clap's, for words that it refuses, numbers out of range
+/// among them, for help, or for want of memory. The command is this processor's own choice.
 fn options_from(alloc: Global, words: Vec<String>) -> Result<Options, Error>
     ensures taken { let texts = map string_bytes words.items in
         IfOk result (λ o. AreValuesOf false (matches_of trace_command texts) o.settings) }

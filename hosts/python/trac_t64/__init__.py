@@ -1,4 +1,4 @@
-"""TRAC T-64, the text language of Calvin Mooers, in a workspace of fixed size.
+"""Cenotesieve: TRAC T-64, the text language of Calvin Mooers, in a workspace of fixed size.
 
 `run` runs a script to its end. A `Session` keeps one machine: its input comes in pieces, its steps
 can be made one by one, and its forms stay from one script to the next.

@@ -128,7 +128,7 @@ class TracKernel(Kernel):
 
     implementation = NAME
     implementation_version = VERSION
-    banner = f'TRAC T-64 {VERSION}. %help says what there is.'
+    banner = f'Cenotesieve {VERSION}, TRAC T-64. %help says what there is.'
     language_info = {
         'name': 'trac', 'version': 'T-64', 'mimetype': 'text/x-trac', 'file_extension': '.trac',
         'pygments_lexer': 'text',
