@@ -158,6 +158,11 @@ class AtATerminal(unittest.TestCase):
         self.assertEqual(typist.wait('\n'), '\n')
         self.assertEqual(typist.status(), 0)
 
+    def stop(self, typist):
+        """Interrupts what runs."""
+        typist.type('\x03')
+        self.assertRegex(typist.wait('\n> '), r'^\^C\ntrac: stopped at step \d+\n> $')
+
     def test_a_session(self):
         typist = self.begin()
         typist.type("#(ps,hello)'\n")
@@ -222,8 +227,7 @@ class AtATerminal(unittest.TestCase):
         typist = self.begin('--steps', FOREVER)
         typist.type("#(cm,!)#(ds,A,kept)#(ds,L,(#(cl,L)))'#(ps,begun)#(cl,L)!\n")
         typist.wait('\nbegun')
-        typist.type('\x03')
-        self.assertRegex(typist.wait('\n> '), r'^\^C\ntrac: stopped at step \d+\n> $')
+        self.stop(typist)
         typist.type("#(cl,A)!\n")
         self.assertIn('\nkept\n> ', typist.wait('\n> '))
         self.end(typist)
@@ -234,15 +238,13 @@ class AtATerminal(unittest.TestCase):
             file.flush()
             typist = Typist('--quiet', '--steps', FOREVER, file.name, file.name)
             typist.wait('begun')
-            typist.type('\x03')
-            self.assertRegex(typist.wait('\n> '), r'^\^C\ntrac: stopped at step \d+\n> $')
+            self.stop(typist)
         typist.type("#(cl,A)#(ps,( ..))#(rs)'\n")
         typist.wait(' ..')
         typist.wait(' ..')
         typist.type('half')
         typist.wait('half')
-        typist.type('\x03')
-        self.assertRegex(typist.wait('\n> '), r'^\^C\ntrac: stopped at step \d+\n> $')
+        self.stop(typist)
         typist.type("##(cl,A)'\n")
         self.assertIn('\nkept\n> ', typist.wait('\n> '))
         self.end(typist)

@@ -545,13 +545,17 @@ class Files(Lecture):
         os.remove(path)
         return content
 
-    def test_any_bytes(self):
-        script = b"#(ps,(\xff\xc3(\r\n\xe9t\xc3\xa9\t\x00\xf0\x9f\x98\x80)))'"
+    def open_file(self, script):
+        """Opens a file that holds this script."""
         path = os.path.join(self.folder.name, 'odd.trac')
         with open(path, 'wb') as file:
             file.write(script)
         self.find('file').send_keys(path)
         self.wait(lambda: 'opened' in self.text('told'))
+
+    def test_any_bytes(self):
+        script = b"#(ps,(\xff\xc3(\r\n\xe9t\xc3\xa9\t\x00\xf0\x9f\x98\x80)))'"
+        self.open_file(script)
         self.assertEqual(self.saved('save', 'script.trac'), script)
         self.run_it()
         self.assertEqual(self.saved('save-output', 'output.txt'), run(script)[0])
@@ -565,11 +569,7 @@ class Files(Lecture):
 
     def test_many_odd_bytes(self):
         script = b"#(ps,(" + bytes(byte for byte in range(256) if byte not in b"'()") * 40 + b"))'"
-        path = os.path.join(self.folder.name, 'odd.trac')
-        with open(path, 'wb') as file:
-            file.write(script)
-        self.find('file').send_keys(path)
-        self.wait(lambda: 'opened' in self.text('told'))
+        self.open_file(script)
         self.assertEqual(self.saved('save', 'script.trac'), script)
 
     def test_the_trace(self):
