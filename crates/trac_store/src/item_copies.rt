@@ -90,7 +90,7 @@ pub fn fill_items(space: &mut Space, items: Part, texts: Part) -> bool
     }
     let gap = items.from + space.characters_from(items.from, items.to);
     if gap == items.to {
-        return space.copy_short(items.from, items.to);
+        return space.copy_store_inline(items.from, items.to);
     }
     fill_gaps(space, items, texts)
 }
