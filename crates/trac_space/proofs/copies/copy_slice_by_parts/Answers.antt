@@ -1,5 +1,5 @@
 use Rattle.trac_space.proofs.Words.{◌≡◌, ℕ, ◌+◌, ◌-◌, ◌≤◌, List, ◌++◌, length, take, drop, slice_range, arith, rules, places, same_lists, put_mid}
-use Rattle.trac_space.proofs.copies.copy_parts.Goals as goal
+use Rattle.trac_space.proofs.copies.copy_slice_by_parts.Goals as goal
 
 -- the next cells are copied
 copied-more : {X : Type 0} (from was now part : List X) (k n : ℕ) → k + n ≤ length from → length from ≡ length was → now ≡ take k from ++ drop k was → part ≡ slice_range from k (k + n) → put_mid k (k + n - k) now part ≡ take (k + n) from ++ drop (k + n) was

@@ -1,7 +1,7 @@
 use Rattle.trac_space.proofs.Words.{◌≡◌, suc, ◌+◌, ◌<◌, ◌∙◌, ap, arith, sym, length, slice_range, length-between, numbered_part, parts_at, map}
 use Rattle.trac_space.specs.Overlay.{under}
 use Rattle.trac_space.proofs.Filled.{end-last, number-in, numbered-in}
-use Rattle.trac_space.proofs.filling.end_of.Goals as goal
+use Rattle.trac_space.proofs.filling.part_end.Goals as goal
 
 pub returns-then-place-given : goal.returns-then-place-given
 returns-then-place-given c =

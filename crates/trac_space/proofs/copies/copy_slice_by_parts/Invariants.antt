@@ -1,5 +1,5 @@
 use Rattle.trac_space.proofs.Words.{◌≡◌, ◌-◌, ◌≤◌, ◌++◌, length, take, drop}
-use Rattle.trac_space.proofs.copies.copy_parts.Given as goal
+use Rattle.trac_space.proofs.copies.copy_slice_by_parts.Given as goal
 
 -- the first cells are copied, and the others are as they were
 abbrev pub invariant-loop-done : goal.invariant-loop-done

@@ -1,5 +1,5 @@
 use Rattle.trac_store.proofs.Words.{◌≡◌, ◌+◌, ◌-◌, ◌≤◌, map, slice_range, NoneNamed, seen, text_of_cells, forms_in, start_of}
-use Rattle.trac_store.proofs.form_cells.search_some.Given as goal
+use Rattle.trac_store.proofs.form_cells.find_between.Given as goal
 
 -- the name of the form that is next begins at the place, and no form before it has the name
 abbrev pub invariant-loop-left : goal.invariant-loop-left

@@ -3,8 +3,8 @@ use Rattle.trac_store.proofs.Finding.{Begins, begins_at, number_is, bytes-flat}
 use Rattle.trac_store.proofs.HeadCells.{is_head}
 use Rattle.trac_store.proofs.FlatLemmas.{Byte-character_of, character_of-Byte}
 use Rattle.trac_store.proofs.DistinctForms.{NoneNamed-further}
-use Rattle.trac_store.proofs.form_cells.search_some.Goals as goal
-use Rattle.trac_store.proofs.form_cells.search_some.Goals.{In-loop-left}
+use Rattle.trac_store.proofs.form_cells.find_between.Goals as goal
+use Rattle.trac_store.proofs.form_cells.find_between.Goals.{In-loop-left}
 
 -- the form that is next
 abbrev next_form : In-loop-left → Form

@@ -1,6 +1,6 @@
 use Rattle.trac_space.proofs.Words.{◌+◌, arith}
 use Rattle.trac_space.proofs.Moves.{move_one}
-use Rattle.trac_space.proofs.copies.copy_apart_higher.Goals as goal
+use Rattle.trac_space.proofs.copies.copy_short_higher.Goals as goal
 
 pub returns-then-n-eq1-clause-after : goal.returns-then-n-eq1-clause-after
 returns-then-n-eq1-clause-after c = λ to is.

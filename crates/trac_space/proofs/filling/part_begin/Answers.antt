@@ -1,7 +1,7 @@
 use Rattle.trac_space.proofs.Words.{◌≡◌, ℕ, suc, ◌+◌, ◌-◌, ◌<◌, ◌∙◌, ap, arith, sym, get_or, slice_range, length-between, Byte, numbered_part, parts_at, map}
 use Rattle.trac_space.specs.Overlay.{has_number, under, over}
 use Rattle.trac_space.proofs.Filled.{begin-first, begin-next, number-in, numbered-in}
-use Rattle.trac_space.proofs.filling.begin_of.Goals as goal
+use Rattle.trac_space.proofs.filling.part_begin.Goals as goal
 
 pub returns-then-place-eq0 : goal.returns-then-place-eq0
 returns-then-place-eq0 c =

@@ -1,7 +1,7 @@
 use Rattle.trac_space.proofs.Words.{◌≡◌, ◌+◌, ◌-◌, ◌<◌, length, drop, set, sym, ap, ◌∙◌, subst, slice_index_or, arith, length-drop, length-map, paste_more, paste, Byte, is_comma, IsByte, character_of, number_in, turned, turned_by}
 use Rattle.trac_space.proofs.Runs.{run-cell, byte-at, run-more, turned-at, turned-byte, turned-one, plain-more, plain-none}
-use Rattle.trac_space.proofs.copies.copy_run.Goals as goal
-use Rattle.trac_space.proofs.copies.copy_run.Goals.{then-number-eq0, else-number-eq0+then-number-eq1}
+use Rattle.trac_space.proofs.copies.copy_turned.Goals as goal
+use Rattle.trac_space.proofs.copies.copy_turned.Goals.{then-number-eq0, else-number-eq0+then-number-eq1}
 
 pub byte_in-byte-requires : goal.byte_in-byte-requires
 byte_in-byte-requires c =
