@@ -365,8 +365,30 @@ pub fn find_named(
         (NoneNamed name (forms_in space.now.store))
         (λ found. IsFoundAt (forms_in space.now.store) name found.number found.start) }
 {
-    let store = space.store_part(0, space.store_len());
     let name = space.neutral_part(part.from, part.to);
+    find_by_name(space, count, last, name, search_cost)
+}
+
+/// The same, of a name that need not stand in the block.
+#[inline(always)]
+pub fn find_by_name(
+    space: &Space,
+    count: u32,
+    last: Located,
+    name: &[Cell],
+    search_cost: &mut u32,
+) -> Option<Located>
+    requires forms { AreForms space.now.store }
+    requires count_is { count ≡ length (forms_in space.now.store) }
+    requires last { IsPlace (forms_in space.now.store) last.number last.start }
+    requires bytes { All IsByte (map seen name.now) }
+    requires index { IsIndexed space.now.spare (forms_in space.now.store) }
+    ensures { let text = text_of_cells (map seen name.now) in
+        MatchOption result
+        (NoneNamed text (forms_in space.now.store))
+        (λ found. IsFoundAt (forms_in space.now.store) text found.number found.start) }
+{
+    let store = space.store_part(0, space.store_len());
     if count >= FORMS_FOR_INDEX {
         return find_among_many(space, store, count, last, name, search_cost);
     }

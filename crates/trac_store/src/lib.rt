@@ -22,8 +22,8 @@ mod marked_forms;
 
 pub use arguments::before_comma;
 pub use form_cells::{
-    FEW_FORMS, Heads, find_from_first, find_named, head, heads_at, heads_of, is_first_named,
-    item_in, item_of, number_in_head, place_of,
+    FEW_FORMS, Heads, find_by_name, find_from_first, find_named, head, heads_at, heads_of,
+    is_first_named, item_in, item_of, number_in_head, place_of,
 };
 pub use form_writing::{remove_form, store_form};
 pub use gap_making::segment_store;

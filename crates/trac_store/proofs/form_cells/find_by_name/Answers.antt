@@ -1,5 +1,5 @@
 use Rattle.trac_store.proofs.Words.{arith, common_steps}
-use Rattle.trac_store.proofs.form_cells.find_named.Goals as goal
+use Rattle.trac_store.proofs.form_cells.find_by_name.Goals as goal
 
 pub returns-then-count-ge-FORMS_FOR_INDEX : goal.returns-then-count-ge-FORMS_FOR_INDEX
 returns-then-count-ge-FORMS_FOR_INDEX c = grind (arith, common_steps)
