@@ -1,10 +1,10 @@
-//! What has a neutral string to which bytes can be appended.
+//! What a source sees of a machine: a neutral string to which it can append bytes.
 ghost use Rattle.std.specs.Prelude.{◌≡◌, ◌<◌, ◌≤◌, ◌⊎◌, ◌==◌, [], Some, false, length, take, slice_get};
 ghost use Rattle.std.specs.List.{list_any};
 ghost use Rattle.trac_language.specs.Text.{Text};
 
-/// A value with a neutral string, to whose end a source can put bytes. So a source needs to know
-/// nothing else of the machine that reads from it.
+/// A value with a neutral string, to which a source can append the bytes that it holds. A source sees
+/// nothing else of the machine that reads from it. This processor's own choice.
 pub trait Neutral {
     /// What holds of each such value.
     ghost sound: { Self → Type 0 };
@@ -16,7 +16,7 @@ pub trait Neutral {
     ghost full: { Self → Type 0 };
 
     /// Appends the bytes of `text` before its first `stop` to the neutral string, as many as fit, and
-    /// gives how many these are.
+    /// gives how many these are. Each takes one cell.
     fn push_before(&mut self, stop: u8, text: &[u8]) -> usize
         ensures within { result ≤ length text.now }
         ensures before { list_any (λ byte. byte == stop) (take result text.now) ≡ false }
