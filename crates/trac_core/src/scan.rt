@@ -10,6 +10,7 @@ ghost use Rattle.trac_core.specs.StepsInRow.{ComesTo, AsksFor, IsPlainFrom, Keep
 ghost use Rattle.trac_space.specs.Calls.{IsLastCall};
 ghost use Rattle.trac_functions.specs.Calls.{KeepsRoom};
 
+use crate::machine::closing::closed_call;
 use crate::runs::{KINDS, layout_characters, matching, ordinary_characters};
 use trac_forms::Work;
 use trac_language::{Fate, Mode};
@@ -72,14 +73,19 @@ pub(crate) struct InnermostCall {
 }
 
 /// One step that performs no call. Gives what the step asks for instead where it does perform one.
-pub(crate) fn scan_once(work: &mut Work) -> Option<Front>
+/// From the plain place on no comma mark stands in the neutral string.
+pub(crate) fn scan_once(work: &mut Work, plain: u32) -> Option<Front>
+    requires plain { IsPlainFrom plain work.old.neutral }
     requires sound { IsSound work.old }
     ensures comes { MatchOption result
         (Advances 1 work.old work.new)
         (λ front. (work.new ≡ work.old) × AsksFor front work.old) }
     ensures keeps { KeepsRoom work.old work.new }
 {
-    let mut plain = work.neutral_len();
+    if let Some(place) = closed_call(work) {
+        return Some(Front::Closes(InnermostCall { place, plain }));
+    }
+    let mut plain = plain;
     let mut long = 0;
     match pass(work, 1, &mut plain, &mut long) {
         Ok(_) => None,
