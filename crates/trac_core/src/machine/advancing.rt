@@ -36,14 +36,14 @@ pub(super) struct Advance {
 }
 
 impl<'a> Machine<'a> {
-    /// Makes steps, at most so many, as `step` does, but none that reads or prints, so that it
-    /// needs no device: it stops before a call of `rs`, `rc`, `ps` or `pf`. Gives how many steps
-    /// were done after which the run went on. They are fewer than so many only if it stopped there,
-    /// the allowance is used up, or the next step ended the run, by `hl` or since it needs more than
-    /// the room; with the allowance used up the run isn't over before the next call of `step`. Where
-    /// the run is over before, nothing is done. This processor's own choice.
+    /// Makes at most `most` steps, as `step` does, but none that reads or prints, so that it needs
+    /// no device: it stops before a call of `rs`, `rc`, `ps` or `pf`. Gives how many steps were done
+    /// after which the run went on. They are fewer than `most` only if it stopped there, the allowance
+    /// is used up, or the next step ended the run, by `hl` or since it needs more than the room. With
+    /// the allowance used up, the next call of `step` ends the run. Where the run is over before,
+    /// nothing is done. This processor's own choice.
     pub fn advance(&mut self, most: u64) -> Progress
-        // so many steps of the definition, whatever the devices hold, and why they are no more
+        // these are steps of the definition, whatever the devices hold, and this is why no more are done
         ensures advanced { self.old.fate ≡ None → Advanced most result.done self.old self.new }
         ensures few { result.done ≤ most }
         // where they are fewer, what the next step performs
@@ -75,8 +75,8 @@ impl<'a> Machine<'a> {
     }
 }
 
-/// Makes steps that touch no device, at most so many, of a run that isn't over and has these
-/// counters, which are single values here, as in `run_to_end`.
+/// Makes at most `most` steps that touch no device, of a run that isn't over and has these counters.
+/// They are single values here, so that they need not stand in memory.
 #[inline(never)]
 fn go_alone(work: &mut Work, meta: &mut u8, at: Counters, most: u64) -> Advance
     requires sound { IsSound work.old }

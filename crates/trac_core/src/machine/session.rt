@@ -29,9 +29,9 @@ pub enum Awaits {
 }
 
 impl<'a> Machine<'a> {
-    /// Clears both strings, with the calls that are open, and begins a new run with an allowance of
-    /// so many steps. The run isn't over then; the steps and the peak count from 0. The forms with
-    /// their pointers, the meta character and the block stay. This processor's own choice.
+    /// Clears both strings, with the calls that are open, and begins a new run that may make `steps`
+    /// steps. The run isn't over then; the steps and the peak count from 0. The forms with their
+    /// pointers, the meta character and the block stay. This processor's own choice.
     pub fn again(&mut self, steps: u64)
         ensures after { self.new ≡ record self.old {
           memory = record self.old.memory { active = []; base = []; calls = [] };
@@ -81,7 +81,7 @@ impl<'a> Machine<'a> {
           peak = self.new.peak;
         } }
         ensures fate { self.new.fate ≡ Some result.fate }
-        // the failures of the devices are told, and no others
+        // each failure of a device is answered, and no other is
         ensures input_failed { I.failure_count source.new ≡
             I.failure_count source.old + input_failures self.old.fate (Some result.fate) }
         ensures output_failed { O.failure_count sink.new ≡
