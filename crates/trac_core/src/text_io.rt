@@ -5,8 +5,7 @@ ghost use Rattle.trac_language.specs.Text.{Text};
 ghost use Rattle.trac_space.specs.Texts.{character_of, text_of_cells};
 ghost use Rattle.trac_forms.specs.Contents.{used, IsSound};
 ghost use Rattle.trac_devices.specs.Devices.{failures_of, Prints, Breaks};
-ghost use Rattle.trac_devices.specs.HeldBytes.{Reads};
-ghost use Rattle.trac_core.specs.ReadTexts.{StreamsTo, failures_of_read};
+ghost use Rattle.trac_core.specs.ReadTexts.{Reads, StreamsTo, failures_of_read};
 
 use trac_devices::{Next, Sink, SinkFailed, Source};
 use trac_forms::Work;
