@@ -5,6 +5,7 @@ import re
 import subprocess
 import tempfile
 import unittest
+from concurrent.futures import ThreadPoolExecutor
 
 from rows import rows as known
 from trac import PROGRAM, TRACER, instructions, trace
@@ -332,6 +333,16 @@ class Views(unittest.TestCase):
         self.assertEqual(status, 3)
         # so many instructions a step, whatever a run takes without a trace
         self.assertLess(instructions([TRACER, *words, '--last', '20'], script), 700 * 100000)
+
+    def test_costs_grow_as_the_forms(self):
+        def script(forms):
+            return b''.join(b'#(ds,F%d,x)#(ps,#(cl,F%d))#(dd,T)' % (k, k) for k in range(forms)) + b"'"
+        for view in ('--forms', '--calls', '--warn'):
+            words = [TRACER, view, '--cells', '1000000', '--steps', '1000000']
+            with self.subTest(view=view), ThreadPoolExecutor() as pool:
+                least, more, most = pool.map(lambda n: instructions(words, script(n)), (500, 1000, 2000))
+                self.assertLess(more, 2.2 * least)
+                self.assertLess(most, 2.2 * more)
 
 
 def trace_bytes(script, *words):
