@@ -1,6 +1,6 @@
 //! Calls: one is performed when its right parenthesis is scanned.
 ghost use Rattle.std.specs.Prelude.{◌≡◌, ◌≢◌, ◌-◌, ◌<◌, ◌≤◌, ◌^◌, ℕ};
-ghost use Rattle.std.specs.Prelude.{length, None, Some, true, false, MatchOption, ⊤};
+ghost use Rattle.std.specs.Prelude.{length, None, Some, true, false, IfOk, MatchResult};
 ghost use Rattle.trac_language.specs.Text.{Text};
 ghost use Rattle.trac_space.specs.Calls.{IsLastCall};
 ghost use Rattle.trac_forms.specs.Contents.{IsSound, used};
@@ -10,7 +10,7 @@ ghost use Rattle.trac_core.specs.Performed.{is_plain, performs, touches_device};
 ghost use Rattle.trac_core.specs.Attempts.{scene, Tried, TriedCall, function_at, TakesFrom};
 ghost use Rattle.trac_core.specs.Attempts.{TakesAtMost, AnswersCall, Stands, fate_after};
 ghost use Rattle.trac_core.specs.Attempts.{LeavesSource, LeavesSink, EndsQuietly, NoneFailed, HasArguments};
-ghost use Rattle.trac_core.specs.NamedCalls.{IsNamed, TriedAlone, TouchesDevice};
+ghost use Rattle.trac_core.specs.NamedCalls.{IsNamed, TriedAlone, StopsBefore};
 ghost use Rattle.trac_devices.specs.Devices.{Stream};
 ghost use Rattle.trac_core.specs.StepsInRow.{AsksFor, IsPlainFrom};
 ghost use Rattle.trac_functions.specs.Calls.{KeepsRoom};
@@ -65,27 +65,32 @@ pub(crate) fn carry_out<I: Source, O: Sink>(
     }
 }
 
-/// The step that `carry_out` makes, where it touches no device. None where it reads or prints: then
-/// nothing is done.
+/// The step that `carry_out` makes, where it touches no device. An error is the function that reads
+/// or prints: then nothing is done.
 #[inline(always)]
-pub(crate) fn carry_alone(work: &mut Work, front: Front, meta: &mut u8) -> Option<Attempt>
+pub(crate) fn carry_alone(
+    work: &mut Work,
+    front: Front,
+    meta: &mut u8,
+) -> Result<Attempt, Option<Function>>
     requires sound { IsSound work.old }
     requires asks { AsksFor front work.old }
-    ensures tried { MatchOption result
-        (TouchesDevice (memory_of meta.old work.old) × (work.new ≡ work.old) × (meta.new ≡ meta.old))
-        (λ attempt. TriedAlone work.old meta.old attempt.fate attempt.need work.new meta.new) }
-    ensures fits { MatchOption result ⊤ (λ attempt. attempt.need ≤ work.old.room) }
+    ensures tried { MatchResult result
+        (λ attempt. TriedAlone work.old meta.old attempt.fate attempt.need work.new meta.new)
+        (λ function. StopsBefore function (memory_of meta.old work.old)
+        × (work.new ≡ work.old) × (meta.new ≡ meta.old)) }
+    ensures fits { IfOk result (λ attempt. attempt.need ≤ work.old.room) }
     ensures keeps { KeepsRoom work.old work.new }
 {
     match front {
-        Front::Empty => Some(load_idling(work)),
+        Front::Empty => Ok(load_idling(work)),
         Front::Closes(call) => {
             let call = named(work, call);
             if touches_device(call.function) {
-                return None;
+                return Err(call.function);
             }
             work.drop_active(1);
-            Some(perform_alone(work, call, meta))
+            Ok(perform_alone(work, call, meta))
         }
     }
 }

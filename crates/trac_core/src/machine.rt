@@ -28,6 +28,7 @@ pub(crate) mod printing;
 pub(crate) mod session;
 pub(crate) mod view;
 
+pub use advancing::Progress;
 pub use session::Awaits;
 pub use view::ScanningRule;
 

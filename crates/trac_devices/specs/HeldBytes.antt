@@ -1,4 +1,4 @@
--- Bytes that a source holds already, put into free cells.
+-- Bytes that a source already holds, put into free cells.
 use Rattle.std.specs.Prelude.{◌≡◌, ℕ, ◌<◌, ◌≤◌, ◌⊎◌, false, List, ◌++◌, length, take}
 use Rattle.std.specs.Prelude.{slice_get, Some}
 use Rattle.trac_language.specs.Text.{Text}
@@ -11,8 +11,8 @@ pub record Reads (meta : ℕ) (old new : Contents) (text : Text) : Type 0 where
   pub pushed : new ≡ record old { neutral = old.neutral ++ flat_text text }
   pub no_meta : has_byte meta text ≡ false
 
--- so many of the bytes that a source held were put at the end of the neutral string: all, or those
--- before the stop, or as many as there were free cells
+-- the first `count` bytes that a source held were put at the end of the neutral string: all of them, those
+-- before the stop, or as many as fit
 pub record TakesHeld (stop : ℕ) (held : List ℕ) (count : ℕ) (old new : Contents) : Type 0 where
   pub within : count ≤ length held
   pub put : new ≡ record old { neutral = old.neutral ++ flat_text (take count held) }

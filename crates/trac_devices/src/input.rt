@@ -11,9 +11,9 @@ use std::io::Read;
 use std::marker::Model;
 use trac_forms::Work;
 
-/// A source over a reader behind a buffer, which gives what the buffer holds at once. A read that
-/// was interrupted is tried again, each other error is a failure; after a read of no byte it has
-/// ended, and reads no more. This processor's own choice.
+/// A source over a reader with a buffer of 8192 bytes, whose bytes it can give at once. It makes an
+/// interrupted read again; any other error is a failure. After a read of no byte it has ended, and reads
+/// no more. This processor's own choice.
 #[derive(Drop)]
 pub struct Input<R> {
     reader: BufferedReader<RetryingReader<R>>,

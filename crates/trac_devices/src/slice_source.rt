@@ -10,8 +10,8 @@ use crate::device::{Next, Source};
 use std::marker::Model;
 use trac_forms::Work;
 
-/// A source over bytes in memory, for embedding and for tests; it
-/// may be told to fail at a place. This processor's own choice.
+/// A source over bytes in memory, for embedding and for tests. It fails at a place that you can choose.
+/// This processor's own choice.
 #[derive(Drop)]
 pub struct SliceSource<'a> {
     bytes: &'a [u8],
@@ -37,8 +37,8 @@ impl<'a> Model for SliceSource<'a> {
 }
 
 impl<'a> SliceSource<'a> {
-    /// A source that gives all the bytes and then ends; or, with a place that is at most their
-    /// number, the bytes before that place, and then fails at each call.
+    /// A source that gives all the bytes and then ends. If `fails_at` is at most their number, it gives only
+    /// the bytes before that place, and then fails at each call.
     pub fn new(bytes: &'a [u8], fails_at: Option<u64>) -> SliceSource<'a>
         ensures { result ≡ slice_input bytes.now fails_at }
     {
@@ -58,7 +58,7 @@ impl<'a> SliceSource<'a> {
         }
     }
 
-    /// The bytes that are still to come.
+    /// The bytes still to come.
     pub fn rest(&self) -> &[u8]
         ensures { result.now ≡ self.now.bytes }
     {

@@ -3,17 +3,16 @@ pub use Rattle.std.proofs.Common.{List, None, Option, Some, [], ap, arith, drop,
 pub use Rattle.std.proofs.lemmas.List.{drop-append-le, drop_all, get_or-append-add, get_or_append_left, length-drop, length-take-le, length_push, take-append-le, take_all, take_more}
 pub use Rattle.std.proofs.lemmas.List.Elements.{All-append}
 pub use Rattle.std.proofs.lemmas.List.Sums.{count_by_more_no, count_by_more_yes}
-pub use Rattle.std.specs.List.{position_or_len}
+pub use Rattle.std.specs.List.{list_all, position_or_len}
 pub use Rattle.std.specs.Prelude.{MatchOption, count_by}
 pub use Rattle.trac_events.specs.Calls.{IsInnermost, argument_of}
 pub use Rattle.trac_events.specs.Changes.{is_same}
 pub use Rattle.trac_events.specs.Places.{behind_layout, behind_text}
 pub use Rattle.trac_events.specs.declared.call.OpenCall.{OpenCall}
 pub use Rattle.trac_functions.specs.Flat.{mode_of}
-pub use Rattle.trac_language.specs.Store.{form_named}
 pub use Rattle.trac_language.specs.declared.mode.Mode.{Mode}
 pub use Rattle.trac_space.specs.Calls.{IsLastCall}
 pub use Rattle.trac_space.specs.Cells.{IsNoCall, NoCall, is_call, is_comma}
-pub use Rattle.trac_space.specs.Texts.{text_of_cells}
+pub use Rattle.trac_space.specs.Texts.{is_byte_cell, text_of_cells}
 pub use Rattle.trac_space.specs.declared.cell.Cell.{Cell}
 pub use Rattle.trac_space.specs.declared.cell.Cell.TheVariants.{Byte, Call, Comma, Gap, Head}

@@ -1,5 +1,6 @@
 -- What a call makes of forms.
-use Rattle.std.specs.Prelude.{ℕ, Bool, List, Option, option_map, bytes_eq}
+use Rattle.std.specs.Prelude.{ℕ, Bool, List, Option, None, option_map, bytes_eq, if◌then◌else◌}
+use Rattle.std.specs.List.{list_all}
 use Rattle.trac_language.specs.declared.function.Function.{Function}
 use Rattle.trac_language.specs.declared.function.Function.TheVariants.{DefineString, SegmentString}
 use Rattle.trac_language.specs.declared.function.Function.TheVariants.{DeleteDefinition, DeleteAll}
@@ -9,6 +10,8 @@ use Rattle.trac_language.specs.declared.function.Function.TheVariants.{CallResto
 use Rattle.trac_language.specs.Text.{Text}
 use Rattle.trac_language.specs.Form.{Form}
 use Rattle.trac_language.specs.Store.{form_named}
+use Rattle.trac_space.specs.declared.cell.Cell.{Cell}
+use Rattle.trac_space.specs.Texts.{is_byte_cell, text_of_cells}
 use Rattle.trac_events.specs.declared.change.Touched.{Touched}
 use Rattle.trac_events.specs.declared.change.Touched.TheVariants.{Nothing, First, Each, All}
 
@@ -25,9 +28,14 @@ touched_by DeleteDefinition = Each
 touched_by DeleteAll = All
 touched_by _ = Nothing
 
--- the pointer of the form of this name
-abbrev pub pointer_of : Text → List Form → Option ℕ
-pointer_of name forms = option_map (λ form. form.pointer) (form_named name forms)
+-- the form whose name these cells are; none where one of them is no character
+abbrev pub form_of : List Cell → List Form → Option Form
+form_of name forms =
+    if list_all is_byte_cell name then form_named (text_of_cells name) forms else None
+
+-- the pointer of that form
+abbrev pub pointer_of : List Cell → List Form → Option ℕ
+pointer_of name forms = option_map (λ form. form.pointer) (form_of name forms)
 
 -- whether two texts are the same
 abbrev pub is_same : Text → Text → Bool

@@ -114,11 +114,11 @@ impl Named {
         ensures function { result.function ≡
             function_named (text_of_cells (argument_of arguments.now 0)) }
         ensures pointer { result.pointer ≡
-            pointer_of (text_of_cells (argument_of arguments.now 1)) machine.now.memory.forms }
+            pointer_of (argument_of arguments.now 1) machine.now.memory.forms }
     {
         Named {
             function: function_named(argument(arguments, 0)),
-            pointer: pointer_of(machine.forms(), argument(arguments, 1)),
+            pointer: pointer_of(machine, argument(arguments, 1)),
         }
     }
 }

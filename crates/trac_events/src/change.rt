@@ -1,12 +1,12 @@
 //! What a call makes of forms.
 ghost use Rattle.std.specs.Prelude.{◌≡◌};
-ghost use Rattle.trac_language.specs.Store.{form_named};
-ghost use Rattle.trac_space.specs.Texts.{text_of_cells};
-ghost use Rattle.trac_events.specs.Changes.{pointer_of, is_same, touched_by};
+ghost use Rattle.std.specs.List.{list_all};
+ghost use Rattle.trac_space.specs.Texts.{is_byte_cell, text_of_cells};
+ghost use Rattle.trac_events.specs.Changes.{form_of, pointer_of, is_same, touched_by};
 
-use trac_forms::{Forms, StoredForm};
+use trac_core::{Machine, StoredForm};
 use trac_language::Function;
-use trac_space::{Cell, character_of};
+use trac_space::{Cell, character_of, is_character};
 
 /// The forms that a call of a function can make, change or delete.
 #[derive(Clone, Copy, Debug, PartialEq, Eq)]
@@ -39,24 +39,35 @@ pub fn touched_by(function: Function) -> Touched
     }
 }
 
-/// The form that has the name. None where there is no such form.
-pub fn find_form<'f>(forms: Forms<'f>, name: &[Cell]) -> Option<StoredForm<'f>>
-    ensures { result ≡ form_named (text_of_cells name.now) forms.entry }
+/// The form whose name these cells are. None where no form has it, or where one of them is no character.
+pub fn find_form<'m>(machine: &'m Machine, name: &[Cell]) -> Option<StoredForm<'m>>
+    ensures { result ≡ form_of name.now machine.now.memory.forms }
 {
-    for form in forms {
-        if is_same(form.name(), name) {
-            return Some(form);
-        }
+    if are_characters(name) {
+        machine.form_named(name)
+    } else {
+        None
     }
-    None
 }
 
-/// The pointer of the form that has the name. None where there is no such form.
-pub fn pointer_of(forms: Forms, name: &[Cell]) -> Option<u32>
-    ensures { result ≡ pointer_of (text_of_cells name.now) forms.entry }
+/// The pointer of that form. None where there is no such form.
+pub fn pointer_of(machine: &Machine, name: &[Cell]) -> Option<u32>
+    ensures { result ≡ pointer_of name.now machine.now.memory.forms }
 {
-    let form = find_form(forms, name)?;
+    let form = find_form(machine, name)?;
     Some(form.pointer())
+}
+
+// Whether all cells are characters.
+fn are_characters(cells: &[Cell]) -> bool
+    ensures { result ≡ list_all is_byte_cell cells.now }
+{
+    for cell in cells {
+        if !is_character(cell) {
+            return false;
+        }
+    }
+    true
 }
 
 /// Whether two texts have the same characters.

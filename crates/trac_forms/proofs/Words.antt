@@ -16,7 +16,7 @@ pub use Rattle.trac_forms.specs.Loading.{IsLoaded}
 pub use Rattle.trac_forms.specs.Stored.{IsStored, shown}
 pub use Rattle.trac_language.specs.Form.{Form, is_character, items_of, text_of}
 pub use Rattle.trac_language.specs.Segment.{segment}
-pub use Rattle.trac_language.specs.Store.{IsStore, NoneNamed, defined, form_cells, without}
+pub use Rattle.trac_language.specs.Store.{IsStore, NoneNamed, defined, form_cells, form_named, without}
 pub use Rattle.trac_language.specs.Text.{Text}
 pub use Rattle.trac_language.specs.declared.item.Item.{Item}
 pub use Rattle.trac_space.specs.Cells.{IsNoCall, NoCall, bytes, seen}
@@ -37,7 +37,7 @@ pub use Rattle.trac_store.proofs.Places.{Stands, removed-lists, repointed, stand
 pub use Rattle.trac_store.proofs.Removals.{IsStore-filter, cells-filter, length-marks, no-mark, own-names, unmarked-marks}
 pub use Rattle.trac_store.proofs.Searches.{begins-within, body_len, characters-agree, first-agrees, gaps-agree, last-agrees, texts-agree}
 pub use Rattle.trac_store.proofs.Segments.{flat-segment, regapped, written}
-pub use Rattle.trac_store.proofs.DistinctForms.{NoneNamed-after, without-at, without-none, IsStore-defined, IsStore-push, IsStore-remove, IsStore-set, cells-remove, cells-set, cells-without, defined-last, pointer-within}
+pub use Rattle.trac_store.proofs.DistinctForms.{NoneNamed-after, form_named-at, form_named-none, without-at, without-none, IsStore-defined, IsStore-push, IsStore-remove, IsStore-set, cells-remove, cells-set, cells-without, defined-last, pointer-within}
 pub use Rattle.trac_store.specs.Arguments.{texts_between}
 pub use Rattle.trac_store.specs.FlatForms.{flat_form, flat_forms, flat_item}
 pub use Rattle.trac_store.specs.Forms.{body_at, form_at, name_at}

@@ -1,20 +1,21 @@
-//! The forms of a `Work`, to be looked at one after the other. Nothing here changes a cell.
-ghost use Rattle.std.specs.Prelude.{◌≡◌, ◌≤◌, ◌<◌, List, length, slice_get, Some};
+//! Reads the forms of a `Work` one after the other. Nothing here changes a cell.
+ghost use Rattle.std.specs.Prelude.{◌≡◌, ◌≤◌, ◌<◌, All, List, length, slice_get, Some};
 ghost use Rattle.std.specs.Iterator.{YieldsFirst, item_count};
 ghost use Rattle.trac_language.specs.Form.{Form};
-ghost use Rattle.trac_space.specs.Texts.{text_of_cells};
+ghost use Rattle.trac_language.specs.Store.{form_named};
+ghost use Rattle.trac_space.specs.Texts.{IsByte, text_of_cells};
 ghost use Rattle.trac_store.specs.Forms.{form_at};
 ghost use Rattle.trac_forms.specs.Contents.{form_place};
-ghost use Rattle.trac_store.specs.Stored.{item_of};
+ghost use Rattle.trac_store.specs.Stored.{item_of, start_of};
 
 use crate::item::FormId;
 use crate::work::Work;
 use std::marker::Model;
 use trac_language::Item;
 use trac_space::Cell;
-use trac_store::{heads_at, item_of, number_in_head};
+use trac_store::{Located, find_by_name, heads_at, item_of, number_in_head};
 
-/// A form as it stands in the block.
+/// A form as it stands in the block. You can read it, and not change it.
 #[derive(Drop)]
 pub struct StoredForm<'a> {
     name: &'a [Cell],
@@ -50,7 +51,7 @@ impl<'a> StoredForm<'a> {
         self.body.len() as u32
     }
 
-    /// The item at place `i` of the body, from 0. None where it has no such place.
+    /// The item at place `i` of the body, from 0. None if it has no such place.
     #[inline]
     pub fn item(&self, i: u32) -> Option<Item>
         ensures { result ≡ slice_get self.now.body i }
@@ -72,10 +73,10 @@ impl<'a> StoredForm<'a> {
     }
 }
 
-/// Forms, in the order in which they were defined: an iterator.
+/// An iterator over forms, in the order in which they were defined.
 #[derive(Drop)]
 pub struct Forms<'a> {
-    // The cells of the forms that are still to come, and how many these are.
+    // The cells of the forms still to come, and how many forms these are.
     cells: &'a [Cell],
     count: u32,
 }
@@ -128,7 +129,7 @@ impl<'a> Iterator for Forms<'a> {
 }
 
 impl<'a> Work<'a> {
-    /// The forms, to be looked at in the order in which they were defined.
+    /// Iterates over the forms, in the order in which they were defined.
     pub fn listed(&self) -> Forms<'_>
         ensures { result ≡ self.now.forms }
     {
@@ -138,8 +139,8 @@ impl<'a> Work<'a> {
         }
     }
 
-    /// The form at place `k` of the list, from 0, to be looked at; `None` past the last. It costs a walk
-    /// from the form that `form` told last, where that stands before it.
+    /// The form at place `k` of the list, from 0, to be read. None past the last. Walks there from the form
+    /// used last, or from the first form if the one used last stands behind it.
     pub fn listed_at(&self, k: u32) -> Option<StoredForm<'_>>
         ensures { result ≡ slice_get self.now.forms k }
     {
@@ -150,16 +151,37 @@ impl<'a> Work<'a> {
         }
     }
 
-    /// A form, to be looked at.
+    /// The form whose name is these characters, to be looked at; they need not stand in the block. `None`
+    /// where no form has the name. It is found by the index of the forms, where there is one.
+    pub fn stored_named(&self, name: &[Cell]) -> Option<StoredForm<'_>>
+        requires { All IsByte name.now }
+        ensures { result ≡ form_named (text_of_cells name.now) self.now.forms }
+    {
+        let mut search_cost = 0;
+        match find_by_name(&self.space, self.count, self.last, name, &mut search_cost) {
+            Some(form) => Some(self.stored_at(form)),
+            None => None,
+        }
+    }
+
+    /// The form, to be read.
     pub fn stored(&self, form: FormId) -> StoredForm<'_>
         requires { form_place form < length self.now.forms }
         ensures { result ≡ form_at self.now.forms (form_place form) }
     {
-        let at = self.locate(form);
-        let heads = heads_at(&self.space, at.start);
-        let from = at.start + 3 + heads.name;
+        self.stored_at(self.locate(form))
+    }
+
+    // The same, of a form whose place is known.
+    fn stored_at(&self, form: Located) -> StoredForm<'_>
+        requires known { form.number < length self.now.forms }
+        requires begins { form.start ≡ start_of self.now.forms form.number }
+        ensures { result ≡ form_at self.now.forms form.number }
+    {
+        let heads = heads_at(&self.space, form.start);
+        let from = form.start + 3 + heads.name;
         StoredForm {
-            name: self.space.store_part(at.start + 3, from),
+            name: self.space.store_part(form.start + 3, from),
             body: self.space.store_part(from, from + heads.body),
             pointer: heads.pointer,
         }

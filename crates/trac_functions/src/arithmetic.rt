@@ -1,11 +1,13 @@
 //! The functions of arithmetic: `ad`, `su`, `ml` and `dv`.
-ghost use Rattle.std.specs.Prelude.{◌≡◌, ◌+◌, ◌-◌, ◌≤◌, ◌∷◌, ◌++◌, false, length, List};
+ghost use Rattle.std.specs.Prelude.{◌≡◌, ◌+◌, ◌-◌, ◌^◌, ◌/◌, ◌%◌, ◌≤◌, ◌∷◌, ◌++◌, false, length, List};
+ghost use Rattle.std.specs.Prelude.{replicate, unsigned_abs};
 ghost use Rattle.std.specs.Fmt.{signed_decimal};
 ghost use Rattle.trac_language.specs.declared.function.Function.{Function};
 ghost use Rattle.trac_language.specs.declared.function.Function.TheVariants.{Arithmetic};
 ghost use Rattle.trac_language.specs.Text.{Text};
 ghost use Rattle.trac_space.specs.Texts.{flat_text};
 ghost use Rattle.trac_forms.specs.Contents.{used, part_text, IsTextPart, IsSound};
+ghost use Rattle.trac_values.specs.Digits.{padded_text, signed};
 ghost use Rattle.trac_functions.specs.Calls.{AreArguments, texts, Valued, Makes};
 ghost use Rattle.trac_functions.specs.Calls.{KeepsRoom};
 
@@ -14,6 +16,13 @@ use crate::writing::put_bytes;
 use itoa::Buffer;
 use trac_forms::Work;
 use trac_language::Arith;
+
+// 10 ^ 19, the greatest power of ten that 64 bits hold, and 2 ^ 127 divided by it.
+const POWER: u128 = 10_000_000_000_000_000_000;
+
+const INVERSE: u128 = 17_014_118_346_046_923_173;
+
+const ZEROS: &[u8; 19] = b"0000000000000000000";
 
 /// `ad,N1,N2,Z`, `su,N1,N2,Z`, `ml,N1,N2,Z` and `dv,N1,N2,Z`: the prefix of N1 and after it the
 /// sum, difference, product or quotient of the numbers of N1 and N2 in decimal (Mooers 1966). Z,
@@ -57,6 +66,9 @@ fn give_number(work: &mut Work, prefix: (u32, u32), number: i128, scanned: bool)
     ensures unmade { result ≡ Made.Full → work.new.forms ≡ work.old.forms }
     ensures keeps { KeepsRoom work.old work.new }
 {
+    if number.unsigned_abs() >= POWER {
+        return give_long_number(work, prefix, number, scanned);
+    }
     let mut buffer = Buffer::new();
     let digits = decimal(&mut buffer, number);
     let free = work.free();
@@ -84,6 +96,101 @@ fn decimal(buffer: &mut Buffer, number: i128) -> &[u8]
         Ok(short) => buffer.format(short).as_bytes(),
         Err(_) => buffer.format(number).as_bytes(),
     }
+}
+
+/// What `give_number` does with a number of more than nineteen digits: its last nineteen, and those
+/// before them with the sign, are numbers of 64 bits.
+#[inline(never)]
+fn give_long_number(work: &mut Work, prefix: (u32, u32), number: i128, scanned: bool) -> Made
+    requires prefix { IsTextPart work.old.neutral prefix.0 prefix.1 }
+    requires long { 10 ^ 19 ≤ unsigned_abs number }
+    ensures makes { (function : Function) (args : List Text) →
+        let before = part_text work.old.neutral prefix.0 prefix.1 in
+        let value = before ++ signed_decimal number in
+        Valued function args work.old.forms value false work.old.forms →
+        Makes function args scanned work.old result work.new }
+    ensures unmade { result ≡ Made.Full → work.new.forms ≡ work.old.forms }
+    ensures keeps { KeepsRoom work.old work.new }
+{
+    let (quotient, rest) = parted(number.unsigned_abs());
+    let mut front = Buffer::new();
+    let mut back = Buffer::new();
+    let first = front.format(with_sign(quotient, number < 0)).as_bytes();
+    give_digits(work, prefix, first, back.format(rest).as_bytes(), scanned)
+}
+
+/// A part of the neutral string, digits, and nineteen digits of which zeros at the front are left
+/// out here, are the value of a call.
+fn give_digits(
+    work: &mut Work,
+    prefix: (u32, u32),
+    first: &[u8],
+    last: &[u8],
+    scanned: bool,
+) -> Made
+    requires prefix { IsTextPart work.old.neutral prefix.0 prefix.1 }
+    requires short { (length first.now ≤ 40) × (length last.now ≤ 19) }
+    ensures makes { (function : Function) (args : List Text) →
+        let before = part_text work.old.neutral prefix.0 prefix.1 in
+        let value = before ++ (first.now ++ padded_text 19 last.now) in
+        Valued function args work.old.forms value false work.old.forms →
+        Makes function args scanned work.old result work.new }
+    ensures unmade { result ≡ Made.Full → work.new.forms ≡ work.old.forms }
+    ensures keeps { KeepsRoom work.old work.new }
+{
+    let free = work.free();
+    let size = prefix.1 - prefix.0 + first.len() as u32 + 19;
+    if free < size {
+        return Made::Full;
+    }
+    if scanned {
+        work.load_bytes(last);
+        work.load_bytes(zeros_before(last));
+        work.load_bytes(first);
+        load_prefix(work, prefix);
+        return Made::Placed(size);
+    }
+    put_prefix(work, prefix);
+    put_bytes(work, first);
+    put_bytes(work, zeros_before(last));
+    put_bytes(work, last);
+    Made::Value
+}
+
+/// A number, or its negative.
+fn with_sign(number: u64, negative: bool) -> i128
+    ensures number { result ≡ signed negative number }
+{
+    if negative {
+        -i128::from(number)
+    } else {
+        i128::from(number)
+    }
+}
+
+/// The zeros that make nineteen digits of these, which are no more.
+fn zeros_before(digits: &[u8]) -> &'static [u8]
+    requires { length digits.now ≤ 19 }
+    ensures { result.now ≡ replicate (19 - length digits.now) 48 }
+{
+    let zeros: &[u8] = ZEROS;
+    &zeros[digits.len()..]
+}
+
+/// The quotient and the remainder of a number by 10 ^ 19. A guess that is too low by a few at most
+/// takes the place of a division of 128 bits, which many processors lack.
+fn parted(number: u128) -> (u64, u64)
+    requires { number ≤ 2 ^ 127 }
+    ensures quotient { result.0 ≡ number / 10 ^ 19 }
+    ensures remainder { result.1 ≡ number % 10 ^ 19 }
+{
+    let mut quotient = ((number >> 64) * INVERSE) >> 63;
+    let mut rest = number - quotient * POWER;
+    while rest >= POWER {
+        rest -= POWER;
+        quotient += 1;
+    }
+    (quotient as u64, rest as u64)
 }
 
 /// Puts a part of the neutral string once more at its end, which there are cells for. It mostly is

@@ -1,5 +1,5 @@
 -- A text whose lines are folded, byte by byte.
-use Rattle.std.proofs.Common.{◌≡◌, ◌∙◌, ◌<◌, ◌+◌, ℕ, List, [], ◌∷◌, ◌++◌, length, drop, ap, sym, append_assoc, append-nil, get_or}
+use Rattle.std.proofs.Common.{◌≡◌, ◌∙◌, ◌<◌, ◌+◌, ℕ, List, [], ◌++◌, length, drop, ap, sym, append_assoc, append-nil, get_or}
 use Rattle.std.proofs.lemmas.List.{drop_more}
 use Rattle.trac_trace.specs.Lines.{byte_at, column_behind, folded_text}
 

@@ -3,6 +3,7 @@ pub mod CommandLine
 pub mod Shown
 pub mod Told
 pub mod Faults
+pub mod Last
 pub mod Odd
 pub mod Largest
 pub mod Warned

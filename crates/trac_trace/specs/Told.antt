@@ -1,7 +1,7 @@
 -- The lines of calls, of forms and of faults.
 use Rattle.std.specs.Prelude.{ℕ, zero, suc, ◌-◌, ◌==◌, ◌&&◌, ◌||◌, Bool, true, false, not, List, []}
 use Rattle.std.specs.Prelude.{◌∷◌, ◌++◌, Option, Some, None, length, take, codes, count_by, decimal}
-use Rattle.std.specs.Prelude.{if◌then◌else◌, nat_le}
+use Rattle.std.specs.Prelude.{if◌then◌else◌, is_none, nat_le}
 use Rattle.std.specs.List.{flat_map, position_or_len}
 use Rattle.trac_language.specs.Form.{Form}
 use Rattle.trac_language.specs.Meaning.{show_form}
@@ -14,7 +14,7 @@ use Rattle.trac_space.specs.declared.cell.Cell.{Cell}
 use Rattle.trac_space.specs.declared.cell.Cell.TheVariants.{Byte, Call, Comma, Gap, Head}
 use Rattle.trac_space.specs.Texts.{text_of_cells}
 use Rattle.trac_events.specs.Calls.{argument_of}
-use Rattle.trac_events.specs.Changes.{is_same}
+use Rattle.trac_events.specs.Changes.{form_of, is_same}
 use Rattle.trac_events.specs.declared.change.Touched.{Touched}
 use Rattle.trac_events.specs.declared.change.Touched.TheVariants.{Nothing, First, Each, All}
 use Rattle.trac_events.specs.declared.place.Place.{Place}
@@ -73,7 +73,7 @@ called_text number mode depth arguments value printed form deleted oddity width 
     ++ cut_text width (flat_map raw_cell arguments) ++ codes ")"
     ++ results_text value printed form width ++ deleted ++ oddity_text oddity ++ codes "\n"
 
--- one of the arguments behind the function's name is this text: one that stands behind a comma mark
+-- one of the arguments behind the first is this text: one that stands behind a comma mark
 abbrev pub is_argument : List Cell → Text → Bool
 is_argument [] name = false
 is_argument (cell ∷ cells) name =
@@ -111,18 +111,33 @@ event_text views (Called call) =
     call.value.now call.printed.now call.form.now call.deleted.now call.oddity views.width
     else (if views.forms then changes_text call.number call.form.now call.deleted.now else [])
 
--- a call of a function that deletes these forms deletes one of this name
-abbrev pub deletes : Touched → List Cell → Text → Bool
-deletes Nothing arguments name = false
-deletes First arguments name = false
-deletes Each arguments name = is_argument arguments name
-deletes All arguments name = true
+-- that a form of this name is deleted
+abbrev pub deletion : ℕ → Text → List ℕ
+deletion width name = codes " deletes " ++ cut_text width name
 
--- the forms that a call deletes
-abbrev pub deleted_text : Touched → List Cell → ℕ → Form → List ℕ
-deleted_text touched arguments width form =
-    if deletes touched arguments form.name then codes " deletes " ++ cut_text width form.name
-    else []
+-- that a form is deleted
+abbrev pub form_deleted : ℕ → Form → List ℕ
+form_deleted width form = deletion width form.name
+
+-- the first of these arguments where it names a form, unless a later one is the same
+abbrev pub first_deleted : ℕ → List Form → List Cell → List ℕ
+first_deleted width forms arguments =
+    let name = argument_of arguments 0 in
+    if is_none (form_of name forms) || is_argument arguments (text_of_cells name) then []
+    else deletion width (text_of_cells name)
+
+-- those of the arguments behind the function's name that name a form, each once
+abbrev pub named_deleted : ℕ → List Form → List Cell → List ℕ
+named_deleted width forms [] = []
+named_deleted width forms (cell ∷ cells) =
+    (if is_comma cell then first_deleted width forms cells else []) ++ named_deleted width forms cells
+
+-- the forms that a call with these arguments deletes, which can delete so many
+abbrev pub deleted_text : ℕ → Touched → List Form → List Cell → List ℕ
+deleted_text width Nothing forms arguments = []
+deleted_text width First forms arguments = []
+deleted_text width Each forms arguments = named_deleted width forms arguments
+deleted_text width All forms arguments = flat_map (form_deleted width) forms
 
 -- the cells before the first call mark
 abbrev pub until_call : List Cell → List Cell

@@ -2,64 +2,101 @@
 ghost use Rattle.std.specs.Prelude.{◌≡◌, ◌++◌, OnOk};
 ghost use Rattle.std.specs.List.{flat_map};
 ghost use Rattle.trac_space.specs.Texts.{text_of_cells};
-ghost use Rattle.trac_trace.specs.Told.{deleted_text, deletes, is_argument};
+ghost use Rattle.trac_trace.specs.Told.{deleted_text, deletion, first_deleted, form_deleted};
+ghost use Rattle.trac_trace.specs.Told.{is_argument, named_deleted};
 
 use crate::escapes::push_name;
 use crate::lines::push;
 use std::alloc::{AllocError, Global};
-use trac_core::{Cell, Forms, StoredForm};
-use trac_events::{Touched, argument, is_same};
+use trac_core::{Cell, Forms, Machine};
+use trac_events::{Touched, argument, find_form, is_same};
 
-/// Adds the names of those forms that a call with these arguments deletes. An error is want of
-/// memory.
+/// Adds the names of those forms that a call with these arguments deletes, which can delete so many: of
+/// the arguments that name a form in their order, or of all forms in the order of their definition. An
+/// error is want of memory.
 pub fn push_deleted(
     line: &mut Vec<u8>,
     alloc: Global,
     touched: Touched,
     arguments: &[Cell],
-    forms: Forms,
+    machine: &Machine,
     width: u32,
 ) -> Result<(), AllocError>
     ensures { OnOk result (line.new.items ≡ line.old.items
-        ++ flat_map (deleted_text touched arguments.now width) forms.entry) }
+        ++ deleted_text width touched machine.now.memory.forms arguments.now) }
+{
+    match touched {
+        Touched::Nothing | Touched::First => Ok(()),
+        Touched::Each => push_named(line, alloc, machine, arguments, width),
+        Touched::All => push_all(line, alloc, machine.forms(), width),
+    }
+}
+
+// Adds the names of all forms.
+fn push_all(line: &mut Vec<u8>, alloc: Global, forms: Forms, width: u32) -> Result<(), AllocError>
+    ensures { OnOk result (line.new.items ≡ line.old.items
+        ++ flat_map (form_deleted width) forms.entry) }
 {
     for form in forms {
-        push_if_deleted(line, alloc, touched, arguments, &form, width)?;
+        push_deletion(line, alloc, form.name(), width)?;
     }
     Ok(())
 }
 
-// Adds the name of a form that a call with these arguments deletes, and of another form nothing.
-fn push_if_deleted(
+// Adds those of the arguments behind the function's name that name a form, each once.
+fn push_named(
     line: &mut Vec<u8>,
     alloc: Global,
-    touched: Touched,
+    machine: &Machine,
     arguments: &[Cell],
-    form: &StoredForm,
     width: u32,
 ) -> Result<(), AllocError>
     ensures { OnOk result (line.new.items ≡ line.old.items
-        ++ deleted_text touched arguments.now width form.now) }
+        ++ named_deleted width machine.now.memory.forms arguments.now) }
 {
-    if !deletes(touched, arguments, form.name()) {
+    let mut rest = arguments;
+    for cell in arguments {
+        rest = &rest[1..];
+        if matches!(cell, Cell::Comma) {
+            push_first(line, alloc, machine, rest, width)?;
+        }
+    }
+    Ok(())
+}
+
+// Adds the first of these arguments where it names a form, unless a later one is the same.
+fn push_first(
+    line: &mut Vec<u8>,
+    alloc: Global,
+    machine: &Machine,
+    arguments: &[Cell],
+    width: u32,
+) -> Result<(), AllocError>
+    ensures { OnOk result (line.new.items ≡ line.old.items
+        ++ first_deleted width machine.now.memory.forms arguments.now) }
+{
+    let name = argument(arguments, 0);
+    if find_form(machine, name).is_none() || is_argument(arguments, name) {
         return Ok(());
     }
-    push(line, b" deletes ")?;
-    push_name(line, alloc, form.name(), width)
+    push_deletion(line, alloc, name, width)
 }
 
-// Whether a call with these arguments deletes a form of this name.
-fn deletes(touched: Touched, arguments: &[Cell], name: &[Cell]) -> bool
-    ensures { result ≡ deletes touched arguments.now (text_of_cells name.now) }
+// Adds that a form of this name is deleted.
+fn push_deletion(
+    line: &mut Vec<u8>,
+    alloc: Global,
+    name: &[Cell],
+    width: u32,
+) -> Result<(), AllocError>
+    ensures { OnOk result (line.new.items ≡ line.old.items
+        ++ deletion width (text_of_cells name.now)) }
 {
-    match touched {
-        Touched::Nothing | Touched::First => false,
-        Touched::Each => is_argument(arguments, name),
-        Touched::All => true,
-    }
+    push(line, b" deletes ")?;
+    push_name(line, alloc, name, width)
 }
 
-// Whether one of the arguments behind the function's name is this text.
+// Whether one of the arguments behind the first is this text.
 fn is_argument(arguments: &[Cell], name: &[Cell]) -> bool
     ensures { result ≡ is_argument arguments.now (text_of_cells name.now) }
 {

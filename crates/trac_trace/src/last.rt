@@ -1,53 +1,61 @@
 //! The last steps of which something was shown.
-ghost use Rattle.std.specs.Prelude.{◌≡◌, [], ◌++◌, ◌∷◌, OnOk};
+ghost use Rattle.std.specs.Prelude.{◌≡◌, [], OnErr, OnOk, slice_index_or};
+ghost use Rattle.trac_trace.specs.Last.{with_step};
 
 use std::alloc::{AllocError, Global};
+use std::collections::VecDeque;
+use std::marker::Model;
 
-/// The numbers of the last steps that were added, at most so many.
+/// The numbers of the last steps that were added, at most so many, in their order.
 #[derive(Drop)]
 pub struct LastSteps {
-    // At most `most` numbers, in a ring: behind the last cell comes the first.
-    numbers: Vec<u64>,
-    most: usize,
-    // The place of the oldest, once there are `most` of them.
-    oldest: usize,
+    numbers: VecDeque<u64>,
+    most: u64,
+}
+
+impl Model for LastSteps {
+    ghost use Rattle.std.specs.Prelude.{◌≤◌, length};
+    ghost use Rattle.trac_trace.specs.Last.{LastNumbers};
+
+    ghost Value = { LastNumbers };
+
+    ghost view = { λ s. record { numbers = s.numbers.items; most = s.most } };
+
+    ghost invariant = { λ s. length s.numbers.items ≤ s.most };
 }
 
 impl LastSteps {
     /// None of at most so many.
     pub fn new(alloc: Global, most: u64) -> LastSteps
-        ensures { result.numbers.items ≡ [] }
+        ensures { result ≡ record { numbers = []; most = most } }
     {
         LastSteps {
-            numbers: Vec::new(alloc),
-            most: most as usize,
-            oldest: 0,
+            numbers: VecDeque::new(alloc),
+            most,
         }
     }
 
-    /// Adds a step of which these lines are shown, if there are any, in the place of the oldest where
-    /// there is no other. An error is want of memory.
-    pub fn add(&mut self, number: u64, lines: &[u8]) -> Result<(), AllocError> {
+    /// Adds a step of which these lines are shown, if there are any, and lets the first go where there
+    /// are too many then. An error is want of memory, and nothing is changed then.
+    pub fn add(&mut self, number: u64, lines: &[u8]) -> Result<(), AllocError>
+        ensures ok { OnOk result (self.new ≡ with_step number lines.now self.old) }
+        ensures err { OnErr result (self.new ≡ self.old) }
+    {
         if lines.is_empty() {
             return Ok(());
         }
-        if self.numbers.len() < self.most {
-            self.numbers.push(number)?;
-            return Ok(());
-        }
-        if self.oldest < self.numbers.len() {
-            self.numbers[self.oldest] = number;
-            self.oldest += 1;
-        }
-        if self.oldest == self.numbers.len() {
-            self.oldest = 0;
+        self.numbers.push_back(number)?;
+        if self.numbers.len() as u64 > self.most {
+            self.numbers.pop_front();
         }
         Ok(())
     }
 
     /// The first of them, 1 where there is none.
-    pub fn first(&self) -> u64 {
-        match self.numbers.get(self.oldest) {
+    pub fn first(&self) -> u64
+        ensures { result ≡ slice_index_or self.now.numbers 0 1 }
+    {
+        match self.numbers.front() {
             Some(number) => *number,
             None => 1,
         }

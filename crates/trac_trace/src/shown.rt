@@ -99,14 +99,12 @@ impl Shown {
         self.arguments.clear();
         self.arguments.extend_from_slice(arguments)?;
         self.deleted.clear();
-        let touched = touched_of(&named);
-        let forms = machine.forms();
         push_deleted(
             &mut self.deleted,
             self.alloc,
-            touched,
+            touched_of(&named),
             arguments,
-            forms,
+            machine,
             self.views.width,
         )
     }
@@ -192,7 +190,7 @@ impl Shown {
         }
         let arguments = self.arguments.as_slice();
         let name = argument(arguments, 1);
-        let pointer = pointer_of(machine.forms(), name);
+        let pointer = pointer_of(machine, name);
         self.form.clear();
         push_touched(
             &mut self.form,
@@ -292,7 +290,7 @@ fn push_touched(
     if touched_of(named) != Touched::First {
         return Ok(());
     }
-    match find_form(machine.forms(), name) {
+    match find_form(machine, name) {
         Some(form) => push_form(text, alloc, &form, width),
         None => Ok(()),
     }

@@ -56,7 +56,7 @@ pub fn look_at_call(
 // What is suspicious in a name that is no function's: one that a form has is said to be that.
 fn suspicion_of_call(machine: &Machine, name: &[Cell]) -> Option<Suspicion> {
     match suspicion_of_name(name) {
-        Some(Suspicion::NoFunction) if find_form(machine.forms(), name).is_some() => {
+        Some(Suspicion::NoFunction) if find_form(machine, name).is_some() => {
             Some(Suspicion::FormAsFunction)
         }
         suspicion => suspicion,
@@ -147,7 +147,7 @@ fn look_at_form(
         return Ok(());
     }
     let name = argument(ending.arguments, 1);
-    match find_form(machine.forms(), name) {
+    match find_form(machine, name) {
         None if is_missing(function, name, ending) => {
             warn(warnings, alloc, Suspicion::NoForm, ending.begin, name)
         }

@@ -295,7 +295,7 @@ impl Watch {
         let Some(written) = self.written.get(&text).copied() else {
             return Ok(begin);
         };
-        let pointer = pointer_of(machine.forms(), name).unwrap_or(0);
+        let pointer = pointer_of(machine, name).unwrap_or(0);
         Ok(written.body.in_value(written.number, pointer as usize))
     }
 

@@ -1,6 +1,8 @@
 //! Sessions: a machine that is looked at, fed in pieces and used again.
 ghost use Rattle.std.specs.Prelude.{◌≡◌, ◌≢◌, ◌+◌, ◌-◌, ◌^◌, ◌<◌, ◌≤◌, ℕ, [], None};
-ghost use Rattle.std.specs.Prelude.{Some, IsSome, slice_get};
+ghost use Rattle.std.specs.Prelude.{All, Some, IsSome, slice_get};
+ghost use Rattle.trac_language.specs.Store.{form_named};
+ghost use Rattle.trac_space.specs.Texts.{IsByte, text_of_cells};
 ghost use Rattle.trac_devices.specs.Devices.{Sent};
 ghost use Rattle.trac_functions.specs.Flat.{memory_of};
 ghost use Rattle.trac_core.specs.Performed.{performs};
@@ -11,7 +13,7 @@ ghost use Rattle.trac_core.specs.Session.{awaited, next_function};
 use super::closing::{closed_call, named_at};
 use super::{Counters, Machine, run_to_end};
 use trac_devices::{Sink, Source};
-use trac_forms::{Forms, StoredForm, Work};
+use trac_forms::{Cell, Forms, StoredForm, Work};
 use trac_language::{Fate, Function, Report};
 
 /// What the next step of a machine reads.
@@ -141,6 +143,15 @@ impl<'a> Machine<'a> {
         ensures { result ≡ slice_get self.now.memory.forms k }
     {
         self.work.listed_at(k)
+    }
+
+    /// The form whose name is these characters, a cell for each, to be looked at. `None` where no form
+    /// has the name. The machine finds it as its own calls find forms, so that it need not look at each.
+    pub fn form_named(&self, name: &[Cell]) -> Option<StoredForm<'_>>
+        requires { All IsByte name.now }
+        ensures { result ≡ form_named (text_of_cells name.now) self.now.memory.forms }
+    {
+        self.work.stored_named(name)
     }
 
     /// Keeps in mind where the form at place `k` begins, so that `form` needs no walk over those before

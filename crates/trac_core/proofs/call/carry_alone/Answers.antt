@@ -10,7 +10,7 @@ returns-then-touches_device-clause-tried c =
     let asks = subst (λ front. AsksFor front w) c.in-Closes.is c.requires.asks in
     let n = c.named-call.ensures.named in
     let names = sym (performs-innermost w c.named-call.result.place c.args.meta.now c.requires.sound asks.0 n.innermost) ∙ sym n.names in
-    (ap touches_device names ∙ sym c.touches_device.ensures ∙ c.if-touches_device.true, refl, refl)
+    ((names, sym c.touches_device.ensures ∙ c.if-touches_device.true), refl, refl)
 
 pub returns-in-Empty-clause-tried : goal.returns-in-Empty-clause-tried
 returns-in-Empty-clause-tried c =
