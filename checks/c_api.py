@@ -139,11 +139,11 @@ class Engine:
                     if place + 1 < len(steps) and numbers[0] not in ends:
                         after = steps[place + 1]
                         self.assertEqual(active[takes:], after[2])
-                        is_lost = numbers[0] == 2 and after[1] == neutral and takes > 2
+                        is_lost = numbers[0] == 2 and after[1] == neutral and active[:2] != [*b'()']
                         self.assertEqual(drops, takes if is_lost else 0)
                         taken += takes > 3
                         dropped += drops > 0
-        self.assertGreater(min(taken, dropped, opened), 20)
+        self.assertGreater(min(taken, dropped, opened), 5)
 
     def test_the_forms_of_each_row(self):
         compared = 0

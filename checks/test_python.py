@@ -136,7 +136,7 @@ def test_the_steps_of_the_manual(trac_t64):
 def test_what_comes_next(trac_t64):
     session = trac_t64.Session()
     session.feed("#(ps,a##(eq,b,(c,(d)),#(ad,1", most=0)
-    session.feed("))))'(lost", most=0)
+    session.feed("))))'((lost", most=0)
     session.end(most=0)
     ends, dropped = ('idling', 'end of call'), []
     for _ in range(200):
@@ -154,7 +154,7 @@ def test_what_comes_next(trac_t64):
             break
         if rule not in ends:
             assert session.active == text[takes:] and session.steps_to_call() == ahead - 1
-    assert sorted(dropped)[-2:] == [0, 5] and session.fate is trac_t64.Fate.INPUT_ENDED
+    assert sorted(dropped)[-2:] == [0, 7] and session.fate is trac_t64.Fate.INPUT_ENDED
     for call in (session.neutral_part, session.active_part):
         with pytest.raises(ValueError, match='start must be from 0'):
             call(-1)

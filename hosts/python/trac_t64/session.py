@@ -306,13 +306,13 @@ class Session:
         """The active string, the next character first."""
         return bytes(_codes(self._machine.active()))
 
-    def neutral_part(self, start: SupportsIndex, most: SupportsIndex = MOST_CELLS) -> tuple[int, ...]:
+    def neutral_part(self, start: SupportsIndex = 0, most: SupportsIndex = MOST_CELLS) -> tuple[int, ...]:
         """At most so many codes of the neutral string, from a place on, which counts from 0; none behind its
         end."""
         first, count = _whole('start', start, 0, MOST_CELLS), _whole('most', most, 0, MOST_CELLS)
         return _codes(self._machine.neutral_part(first, count))
 
-    def active_part(self, start: SupportsIndex, most: SupportsIndex = MOST_CELLS) -> bytes:
+    def active_part(self, start: SupportsIndex = 0, most: SupportsIndex = MOST_CELLS) -> bytes:
         """At most so many bytes of the active string, from a place on, which counts from 0; none behind its
         end."""
         first, count = _whole('start', start, 0, MOST_CELLS), _whole('most', most, 0, MOST_CELLS)
