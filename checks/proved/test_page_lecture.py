@@ -255,12 +255,12 @@ class Long(Lecture):
         self.assertEqual(self.steps()[0], there)
 
     def test_the_largest_block(self):
-        self.run_script(LOOP.format(1000000), '', 16777216, 4000000)
-        for place in (3999999, 1500000):
+        self.run_script(LOOP.format(3000000), '', 16777216, 60000000)
+        for place in (59999999, 31234567):
             self.go(place)
             for name in ('back', 'call-back'):
                 with self.subTest(place=place, name=name):
-                    self.quick(name, 1000, 200, count=3)
+                    self.quick(name, 300, 150, count=3)
 
     GAP = """
         const done = arguments[0];

@@ -6,7 +6,7 @@
  */
 
 import { Session } from '../js/trac.mjs';
-import { ACTIVE_CALL, innermostCall } from './codes.js';
+import { ACTIVE_CALL, FRONT_OF_LINE, innermostCall } from './codes.js';
 import { changesForms } from './functions.js';
 import {
     Kept, Pace, SLICE, Walker, pause,
@@ -144,7 +144,8 @@ class Printings {
  * What a call gave.
  * @typedef {object} Value
  * @property {boolean} isActive whether it stands in front of the active string, to be scanned again
- * @property {Uint32Array} codes
+ * @property {number} length
+ * @property {Uint32Array} front its codes, as many as a line shows
  * @property {string[]} words the arguments of the call, the name of the function first
  */
 
@@ -244,10 +245,9 @@ export class History {
     listSome(goal) {
         const { lister } = this;
         while (lister.state.step < goal) {
-            const { step } = lister.state;
-            const { steps, isCall } = lister.toCall();
-            if (isCall && step + steps < goal) this.calls.push(step + steps);
-            lister.advance(Math.min(isCall ? steps + 1 : steps, goal - step));
+            if (!lister.comeToCall(goal)) continue;
+            this.calls.push(lister.state.step);
+            lister.advance(1);
         }
         this.listed = goal;
     }
@@ -323,7 +323,7 @@ export class History {
     coming() {
         const { machine } = this;
         if (machine.rule() !== 'end of call') return null;
-        const call = innermostCall(machine.neutral());
+        const call = innermostCall(machine);
         return call && { ...call, active: machine.parts().active };
     }
 
@@ -344,11 +344,16 @@ export class History {
     value(call = this.performed) {
         if (!call || !GIVES_VALUES.has(this.shown.state.fate)) return null;
         const { machine } = this;
-        const grown = machine.parts().active - (call.active - 1);
-        if (grown > 0 || call.mark === ACTIVE_CALL) {
-            return { isActive: true, codes: machine.active(grown), words: call.words };
-        }
-        return { isActive: false, codes: machine.neutral().subarray(call.place), words: call.words };
+        const { active, neutral } = machine.parts();
+        const grown = active - (call.active - 1);
+        const isActive = grown > 0 || call.mark === ACTIVE_CALL;
+        return {
+            isActive,
+            length: isActive ? grown : neutral - call.place,
+            front: isActive ? machine.active(Math.min(grown, FRONT_OF_LINE))
+                : machine.neutralPart(call.place, FRONT_OF_LINE),
+            words: call.words,
+        };
     }
 
     /**

@@ -93,7 +93,7 @@ fn put_characters<O: Sink>(text: &[Cell], sink: &mut O) -> Result<(), SinkFailed
     }
 }
 
-// The same, one by one.
+// Puts the characters of cells into a sink, one by one.
 fn put_each<O: Sink>(text: &[Cell], sink: &mut O) -> Result<(), SinkFailed>
     requires { O.failure_count sink.old < 2 ^ 64 - 1 }
     ensures prints { O.tells sink.old →
