@@ -21,7 +21,7 @@ use crate::input_output::{change_meta, print_string, read_character, read_string
 use crate::scan::{Attempt, Front, InnermostCall, load_idling};
 use trac_devices::{Sink, Source};
 use trac_forms::Work;
-use trac_functions::arguments::{Arguments, Made};
+use trac_functions::arguments::{Arguments, CallResult};
 use trac_functions::{arithmetic, bit_strings, comparing, form_calls, form_parts};
 use trac_language::{Fate, Function};
 
@@ -209,7 +209,7 @@ fn answer<I: Source, O: Sink>(
     meta: &mut u8,
     source: &mut I,
     sink: &mut O,
-) -> Made
+) -> CallResult
     requires innermost { IsLastCall work.old.neutral call.place }
     requires plain { IsPlainFrom call.plain work.old.neutral }
     requires source_counts { I.failure_count source.old < 2 ^ 64 - 1 }
@@ -223,7 +223,7 @@ fn answer<I: Source, O: Sink>(
         (function_at work.old.neutral call.place) source.old source.new }
     ensures sink { LeavesSink O.tells O.flushed O.written O.lent O.failure_count (fate_after result)
         (function_at work.old.neutral call.place) sink.old sink.new }
-    ensures unspent { result ≢ Made.Over Fate.Steps }
+    ensures unspent { result ≢ CallResult.Over Fate.Steps }
     ensures stay { fate_after result ≢ None →
         (work.new.forms ≡ work.old.forms) × (meta.new ≡ meta.old) }
     ensures takes { I.tells source.old → (taken : Text) ×
@@ -237,7 +237,7 @@ fn answer<I: Source, O: Sink>(
         scanned: is_active_call(work, call.place),
     };
     let Some(function) = arguments.function(work) else {
-        return Made::Defined(0);
+        return CallResult::Null(0);
     };
     match function {
         Function::ReadString => read_string(work, *meta, source),
@@ -250,7 +250,7 @@ fn answer<I: Source, O: Sink>(
 
 /// What the function of a call answers that touches no device.
 #[inline(always)]
-fn answer_alone(work: &mut Work, call: NamedCall, meta: &mut u8) -> Made
+fn answer_alone(work: &mut Work, call: NamedCall, meta: &mut u8) -> CallResult
     requires named { IsNamed call work.old }
     requires alone { touches_device call.function ≡ false }
     ensures answers { (source : Stream) (written : Text) →
@@ -263,14 +263,19 @@ fn answer_alone(work: &mut Work, call: NamedCall, meta: &mut u8) -> Made
     ensures keeps { KeepsRoom work.old work.new }
 {
     match call.function {
-        None => Made::Defined(0),
+        None => CallResult::Null(0),
         Some(function) => made_alone(work, function, call.arguments, meta),
     }
 }
 
 /// What a function that touches no device makes of the arguments that follow its name.
 #[inline(always)]
-fn made_alone(work: &mut Work, function: Function, arguments: Arguments, meta: &mut u8) -> Made
+fn made_alone(
+    work: &mut Work,
+    function: Function,
+    arguments: Arguments,
+    meta: &mut u8,
+) -> CallResult
     requires arguments { AreArguments work.old arguments }
     requires alone { touches_device (Some function) ≡ false }
     ensures answers { (place : ℕ) (source : Stream) (written : Text) →
@@ -286,7 +291,7 @@ fn made_alone(work: &mut Work, function: Function, arguments: Arguments, meta: &
 {
     match function {
         Function::ChangeMeta => change_meta(work, arguments, meta),
-        Function::Halt => Made::Over(Fate::Halted),
+        Function::Halt => CallResult::Over(Fate::Halted),
         _ => value_of(work, function, arguments),
     }
 }
@@ -294,11 +299,11 @@ fn made_alone(work: &mut Work, function: Function, arguments: Arguments, meta: &
 /// What the function makes of the arguments that follow its name; a null value of those that touch
 /// a device or the meta character, or end the run.
 #[inline(always)]
-fn value_of(work: &mut Work, function: Function, arguments: Arguments) -> Made
+fn value_of(work: &mut Work, function: Function, arguments: Arguments) -> CallResult
     requires arguments { AreArguments work.old arguments }
     ensures makes { is_plain function ≡ true →
         Performs function work.old arguments result work.new }
-    ensures unmade { result ≡ Made.Full → work.new.forms ≡ work.old.forms }
+    ensures unmade { result ≡ CallResult.Full → work.new.forms ≡ work.old.forms }
     ensures keeps { KeepsRoom work.old work.new }
 {
     match function {
@@ -326,6 +331,6 @@ fn value_of(work: &mut Work, function: Function, arguments: Arguments) -> Made
         | Function::PrintString
         | Function::PrintForm
         | Function::ChangeMeta
-        | Function::Halt => Made::Value,
+        | Function::Halt => CallResult::AtEnd,
     }
 }
