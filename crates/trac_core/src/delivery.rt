@@ -18,7 +18,12 @@ use trac_space::Cell;
 /// its end: a value that isn't placed yet, and stands from the second place on, is delivered. So
 /// many cells were used before.
 #[inline(always)]
-pub(crate) fn settle(work: &mut Work, places: (u32, u32), before: u32, made: CallResult) -> Attempt
+pub(crate) fn finish_call(
+    work: &mut Work,
+    places: (u32, u32),
+    before: u32,
+    made: CallResult,
+) -> Attempt
     requires order { places.0 < places.1 }
     requires stands { Stands made before places.1 work.old }
     requires sound { IsSound work.old }
