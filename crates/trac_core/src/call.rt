@@ -15,13 +15,13 @@ ghost use Rattle.trac_devices.specs.Devices.{Stream};
 ghost use Rattle.trac_core.specs.StepsInRow.{AsksFor, IsPlainFrom};
 ghost use Rattle.trac_functions.specs.Calls.{KeepsRoom};
 
-use crate::delivery::{is_active_call, settle};
+use crate::delivery::{finish_call, is_active_call};
 use crate::display::print_form;
 use crate::input_output::{change_meta, print_string, read_character, read_string};
-use crate::scan::{Attempt, Front, InnermostCall, load_idling};
+use crate::scan::{Attempt, InnermostCall, Pending, load_idling};
 use trac_devices::{Sink, Source};
 use trac_forms::Work;
-use trac_functions::arguments::{Arguments, Made};
+use trac_functions::arguments::{Arguments, CallResult};
 use trac_functions::{arithmetic, bit_strings, comparing, form_calls, form_parts};
 use trac_language::{Fate, Function};
 
@@ -29,9 +29,9 @@ use trac_language::{Fate, Function};
 /// the idling procedure is loaded, or the right parenthesis is deleted and the innermost call
 /// performed.
 #[inline(always)]
-pub(crate) fn carry_out<I: Source, O: Sink>(
+pub(crate) fn perform_pending<I: Source, O: Sink>(
     work: &mut Work,
-    front: Front,
+    pending: Pending,
     meta: &mut u8,
     source: &mut I,
     sink: &mut O,
@@ -39,7 +39,7 @@ pub(crate) fn carry_out<I: Source, O: Sink>(
     requires source_counts { I.failure_count source.old < 2 ^ 64 - 1 }
     requires sink_counts { O.failure_count sink.old < 2 ^ 64 - 1 }
     requires sound { IsSound work.old }
-    requires asks { AsksFor front work.old }
+    requires asks { AsksFor pending work.old }
     ensures tried { I.tells source.old → O.tells sink.old →
         Tried (scene work.old meta.old (I.stream source.old) (O.written sink.old))
         result.fate result.need
@@ -56,25 +56,25 @@ pub(crate) fn carry_out<I: Source, O: Sink>(
     ensures fits { result.need ≤ work.old.room }
     ensures keeps { KeepsRoom work.old work.new }
 {
-    match front {
-        Front::Empty => load_idling(work),
-        Front::Closes(call) => {
+    match pending {
+        Pending::Idling => load_idling(work),
+        Pending::EndOfCall(call) => {
             work.drop_active(1);
             perform(work, call, meta, source, sink)
         }
     }
 }
 
-/// The step that `carry_out` makes, where it touches no device. An error is the function that reads
+/// The step that `perform_pending` makes, where it touches no device. An error is the function that reads
 /// or prints: then nothing is done.
 #[inline(always)]
-pub(crate) fn carry_alone(
+pub(crate) fn perform_pending_alone(
     work: &mut Work,
-    front: Front,
+    pending: Pending,
     meta: &mut u8,
 ) -> Result<Attempt, Option<Function>>
     requires sound { IsSound work.old }
-    requires asks { AsksFor front work.old }
+    requires asks { AsksFor pending work.old }
     ensures tried { MatchResult result
         (λ attempt. TriedAlone work.old meta.old attempt.fate attempt.need work.new meta.new)
         (λ function. StopsBefore function (memory_of meta.old work.old)
@@ -82,9 +82,9 @@ pub(crate) fn carry_alone(
     ensures fits { IfOk result (λ attempt. attempt.need ≤ work.old.room) }
     ensures keeps { KeepsRoom work.old work.new }
 {
-    match front {
-        Front::Empty => Ok(load_idling(work)),
-        Front::Closes(call) => {
+    match pending {
+        Pending::Idling => Ok(load_idling(work)),
+        Pending::EndOfCall(call) => {
             let call = named(work, call);
             if touches_device(call.function) {
                 return Err(call.function);
@@ -128,7 +128,7 @@ fn perform<I: Source, O: Sink>(
     let before = work.used();
     let end = work.neutral_len();
     let made = answer(work, call, meta, source, sink);
-    settle(work, (call.place, end), before, made)
+    finish_call(work, (call.place, end), before, made)
 }
 
 /// Performs the innermost call, whose right parenthesis was deleted and which touches no device.
@@ -148,7 +148,7 @@ fn perform_alone(work: &mut Work, call: NamedCall, meta: &mut u8) -> Attempt
     let before = work.used();
     let end = work.neutral_len();
     let made = answer_alone(work, call, meta);
-    settle(work, (call.place, end), before, made)
+    finish_call(work, (call.place, end), before, made)
 }
 
 /// The innermost call by its parts.
@@ -209,7 +209,7 @@ fn answer<I: Source, O: Sink>(
     meta: &mut u8,
     source: &mut I,
     sink: &mut O,
-) -> Made
+) -> CallResult
     requires innermost { IsLastCall work.old.neutral call.place }
     requires plain { IsPlainFrom call.plain work.old.neutral }
     requires source_counts { I.failure_count source.old < 2 ^ 64 - 1 }
@@ -223,7 +223,7 @@ fn answer<I: Source, O: Sink>(
         (function_at work.old.neutral call.place) source.old source.new }
     ensures sink { LeavesSink O.tells O.flushed O.written O.lent O.failure_count (fate_after result)
         (function_at work.old.neutral call.place) sink.old sink.new }
-    ensures unspent { result ≢ Made.Over Fate.Steps }
+    ensures unspent { result ≢ CallResult.Over Fate.Steps }
     ensures stay { fate_after result ≢ None →
         (work.new.forms ≡ work.old.forms) × (meta.new ≡ meta.old) }
     ensures takes { I.tells source.old → (taken : Text) ×
@@ -237,7 +237,7 @@ fn answer<I: Source, O: Sink>(
         scanned: is_active_call(work, call.place),
     };
     let Some(function) = arguments.function(work) else {
-        return Made::Defined(0);
+        return CallResult::Null(0);
     };
     match function {
         Function::ReadString => read_string(work, *meta, source),
@@ -250,7 +250,7 @@ fn answer<I: Source, O: Sink>(
 
 /// What the function of a call answers that touches no device.
 #[inline(always)]
-fn answer_alone(work: &mut Work, call: NamedCall, meta: &mut u8) -> Made
+fn answer_alone(work: &mut Work, call: NamedCall, meta: &mut u8) -> CallResult
     requires named { IsNamed call work.old }
     requires alone { touches_device call.function ≡ false }
     ensures answers { (source : Stream) (written : Text) →
@@ -263,14 +263,19 @@ fn answer_alone(work: &mut Work, call: NamedCall, meta: &mut u8) -> Made
     ensures keeps { KeepsRoom work.old work.new }
 {
     match call.function {
-        None => Made::Defined(0),
+        None => CallResult::Null(0),
         Some(function) => made_alone(work, function, call.arguments, meta),
     }
 }
 
 /// What a function that touches no device makes of the arguments that follow its name.
 #[inline(always)]
-fn made_alone(work: &mut Work, function: Function, arguments: Arguments, meta: &mut u8) -> Made
+fn made_alone(
+    work: &mut Work,
+    function: Function,
+    arguments: Arguments,
+    meta: &mut u8,
+) -> CallResult
     requires arguments { AreArguments work.old arguments }
     requires alone { touches_device (Some function) ≡ false }
     ensures answers { (place : ℕ) (source : Stream) (written : Text) →
@@ -286,7 +291,7 @@ fn made_alone(work: &mut Work, function: Function, arguments: Arguments, meta: &
 {
     match function {
         Function::ChangeMeta => change_meta(work, arguments, meta),
-        Function::Halt => Made::Over(Fate::Halted),
+        Function::Halt => CallResult::Over(Fate::Halted),
         _ => value_of(work, function, arguments),
     }
 }
@@ -294,11 +299,11 @@ fn made_alone(work: &mut Work, function: Function, arguments: Arguments, meta: &
 /// What the function makes of the arguments that follow its name; a null value of those that touch
 /// a device or the meta character, or end the run.
 #[inline(always)]
-fn value_of(work: &mut Work, function: Function, arguments: Arguments) -> Made
+fn value_of(work: &mut Work, function: Function, arguments: Arguments) -> CallResult
     requires arguments { AreArguments work.old arguments }
     ensures makes { is_plain function ≡ true →
         Performs function work.old arguments result work.new }
-    ensures unmade { result ≡ Made.Full → work.new.forms ≡ work.old.forms }
+    ensures unmade { result ≡ CallResult.Full → work.new.forms ≡ work.old.forms }
     ensures keeps { KeepsRoom work.old work.new }
 {
     match function {
@@ -326,6 +331,6 @@ fn value_of(work: &mut Work, function: Function, arguments: Arguments) -> Made
         | Function::PrintString
         | Function::PrintForm
         | Function::ChangeMeta
-        | Function::Halt => Made::Value,
+        | Function::Halt => CallResult::AtEnd,
     }
 }

@@ -14,8 +14,8 @@ ghost use Rattle.trac_forms.specs.Contents.{IsSound};
 ghost use Rattle.trac_functions.specs.Calls.{KeepsRoom};
 ghost use Rattle.trac_functions.specs.Flat.{memory_of};
 
-use crate::call::carry_out;
-use crate::scan::{Attempt, pass, scan_once};
+use crate::call::perform_pending;
+use crate::scan::{Attempt, scan_once, scan_steps};
 use std::marker::Model;
 use trac_devices::{Sink, Source};
 use trac_forms::Work;
@@ -157,11 +157,11 @@ impl<'a> Machine<'a> {
             });
         }
         let need = self.work.used();
-        let Some(front) = scan_once(&mut self.work, self.plain) else {
+        let Some(pending) = scan_once(&mut self.work, self.plain) else {
             self.plain = self.work.neutral_len();
             return self.count(Attempt { fate: None, need });
         };
-        let attempt = carry_out(&mut self.work, front, &mut self.meta, source, sink);
+        let attempt = perform_pending(&mut self.work, pending, &mut self.meta, source, sink);
         self.plain = self.work.neutral_len();
         self.count(attempt)
     }
@@ -277,13 +277,13 @@ fn run_to_end<I: Source, O: Sink>(
     let mut plain = work.neutral_len();
     let mut long = 0;
     while left > 0 {
-        match pass(work, left, &mut plain, &mut long) {
+        match scan_steps(work, left, &mut plain, &mut long) {
             Ok(done) => {
                 left -= done;
                 peak = peak.max(need);
             }
-            Err(front) => {
-                let last = carry_out(work, front, meta, source, sink);
+            Err(pending) => {
+                let last = perform_pending(work, pending, meta, source, sink);
                 if let Some(fate) = last.fate {
                     return ended(fate, last.need, at.allowance - left, peak);
                 }

@@ -56,11 +56,11 @@ pub(crate) fn is_at(work: &Work, place: u32, byte: u8) -> bool
 
 /// What the beginning of the active string asks for where no rule fits that only scans.
 #[derive(Clone, Copy, Debug, PartialEq, Eq)]
-pub(crate) enum Front {
+pub(crate) enum Pending {
     /// It is empty: the idling procedure.
-    Empty,
+    Idling,
     /// A right parenthesis: the innermost call.
-    Closes(InnermostCall),
+    EndOfCall(InnermostCall),
 }
 
 /// The innermost call that is open.
@@ -74,22 +74,22 @@ pub(crate) struct InnermostCall {
 
 /// One step that performs no call. Gives what the step asks for instead where it does perform one.
 /// From the plain place on no comma mark stands in the neutral string.
-pub(crate) fn scan_once(work: &mut Work, plain: u32) -> Option<Front>
+pub(crate) fn scan_once(work: &mut Work, plain: u32) -> Option<Pending>
     requires plain { IsPlainFrom plain work.old.neutral }
     requires sound { IsSound work.old }
     ensures comes { MatchOption result
         (Advances 1 work.old work.new)
-        (λ front. (work.new ≡ work.old) × AsksFor front work.old) }
+        (λ pending. (work.new ≡ work.old) × AsksFor pending work.old) }
     ensures keeps { KeepsRoom work.old work.new }
 {
     if let Some(place) = closed_call(work) {
-        return Some(Front::Closes(InnermostCall { place, plain }));
+        return Some(Pending::EndOfCall(InnermostCall { place, plain }));
     }
     let mut plain = plain;
     let mut long = 0;
-    match pass(work, 1, &mut plain, &mut long) {
+    match scan_steps(work, 1, &mut plain, &mut long) {
         Ok(_) => None,
-        Err(front) => Some(front),
+        Err(pending) => Some(pending),
     }
 }
 
@@ -99,12 +99,12 @@ pub(crate) fn scan_once(work: &mut Work, plain: u32) -> Option<Front>
 /// no call. From `plain` on no comma mark stands in the neutral string; `long` counts the long runs
 /// that followed one another before.
 #[inline]
-pub(crate) fn pass(
+pub(crate) fn scan_steps(
     work: &mut Work,
     most: u64,
     plain: &mut u32,
     long: &mut u32,
-) -> Result<u64, Front>
+) -> Result<u64, Pending>
     requires some { 0 < most }
     requires plain { IsPlainFrom plain.old work.old.neutral }
     requires sound { IsSound work.old }
@@ -113,7 +113,7 @@ pub(crate) fn pass(
     ensures keeps { KeepsRoom work.old work.new }
 {
     match character(work, 0) {
-        None => return Err(Front::Empty),
+        None => return Err(Pending::Idling),
         Some(b'\t' | b'\n' | b'\r') => return Ok(delete_layout(work, most)),
         Some(b'(') => protect(work),
         Some(b')') => return end_call(work, *plain),
@@ -127,7 +127,7 @@ pub(crate) fn pass(
 /// A right parenthesis closes the innermost call, or, where none is
 /// open, is deleted (this processor's own choice).
 #[inline]
-fn end_call(work: &mut Work, plain: u32) -> Result<u64, Front>
+fn end_call(work: &mut Work, plain: u32) -> Result<u64, Pending>
     requires closes { slice_get (text_of_cells work.old.active) 0 ≡ Some 41 }
     requires plain { IsPlainFrom plain work.old.neutral }
     requires sound { IsSound work.old }
@@ -136,7 +136,7 @@ fn end_call(work: &mut Work, plain: u32) -> Result<u64, Front>
     ensures keeps { KeepsRoom work.old work.new }
 {
     match work.last_call() {
-        Some(place) => Err(Front::Closes(InnermostCall { place, plain })),
+        Some(place) => Err(Pending::EndOfCall(InnermostCall { place, plain })),
         None => {
             work.drop_active(1);
             Ok(1)

@@ -11,7 +11,7 @@ ghost use Rattle.trac_values.specs.Digits.{padded_text, signed};
 ghost use Rattle.trac_functions.specs.Calls.{AreArguments, texts, Valued, Makes};
 ghost use Rattle.trac_functions.specs.Calls.{KeepsRoom};
 
-use crate::arguments::{Arguments, Made, give, load_part, put_part, text};
+use crate::arguments::{Arguments, CallResult, give, load_part, put_part, text};
 use crate::writing::put_bytes;
 use itoa::Buffer;
 use trac_forms::Work;
@@ -29,12 +29,12 @@ const ZEROS: &[u8; 19] = b"0000000000000000000";
 /// which goes to the active string whatever the call's mode, where a number or the result is
 /// outside the range of arithmetic or a divisor is 0; the range and that the quotient is rounded
 /// towards 0 are this processor's own choice.
-pub fn arithmetic(work: &mut Work, operation: Arith, mut arguments: Arguments) -> Made
+pub fn arithmetic(work: &mut Work, operation: Arith, mut arguments: Arguments) -> CallResult
     requires { AreArguments work.old arguments }
     ensures makes { (name : Text) →
         let args = name ∷ texts work.old arguments in
         Makes (Arithmetic operation) args arguments.scanned work.old result work.new }
-    ensures unmade { result ≡ Made.Full → work.new.forms ≡ work.old.forms }
+    ensures unmade { result ≡ CallResult.Full → work.new.forms ≡ work.old.forms }
     ensures keeps { KeepsRoom work.old work.new }
 {
     let scanned = arguments.scanned;
@@ -56,14 +56,14 @@ pub fn arithmetic(work: &mut Work, operation: Arith, mut arguments: Arguments) -
 
 /// A part of the neutral string, and a number in decimal behind it, are the value of a call, which
 /// goes to the active string where it is scanned again.
-fn give_number(work: &mut Work, prefix: (u32, u32), number: i128, scanned: bool) -> Made
+fn give_number(work: &mut Work, prefix: (u32, u32), number: i128, scanned: bool) -> CallResult
     requires prefix { IsTextPart work.old.neutral prefix.0 prefix.1 }
     ensures makes { (function : Function) (args : List Text) →
         let before = part_text work.old.neutral prefix.0 prefix.1 in
         let value = before ++ signed_decimal number in
         Valued function args work.old.forms value false work.old.forms →
         Makes function args scanned work.old result work.new }
-    ensures unmade { result ≡ Made.Full → work.new.forms ≡ work.old.forms }
+    ensures unmade { result ≡ CallResult.Full → work.new.forms ≡ work.old.forms }
     ensures keeps { KeepsRoom work.old work.new }
 {
     if number.unsigned_abs() >= POWER {
@@ -74,16 +74,16 @@ fn give_number(work: &mut Work, prefix: (u32, u32), number: i128, scanned: bool)
     let free = work.free();
     let size = prefix.1 - prefix.0 + digits.len() as u32;
     if free < size {
-        return Made::Full;
+        return CallResult::Full;
     }
     if scanned {
         work.load_bytes(digits);
         load_prefix(work, prefix);
-        return Made::Placed(size);
+        return CallResult::InFront(size);
     }
     put_prefix(work, prefix);
     put_bytes(work, digits);
-    Made::Value
+    CallResult::AtEnd
 }
 
 /// A number in decimal, with its sign where it is negative. One that 64 bits hold takes less.
@@ -101,7 +101,7 @@ fn decimal(buffer: &mut Buffer, number: i128) -> &[u8]
 /// What `give_number` does with a number of more than nineteen digits: its last nineteen, and those
 /// before them with the sign, are numbers of 64 bits.
 #[inline(never)]
-fn give_long_number(work: &mut Work, prefix: (u32, u32), number: i128, scanned: bool) -> Made
+fn give_long_number(work: &mut Work, prefix: (u32, u32), number: i128, scanned: bool) -> CallResult
     requires prefix { IsTextPart work.old.neutral prefix.0 prefix.1 }
     requires long { 10 ^ 19 ≤ unsigned_abs number }
     ensures makes { (function : Function) (args : List Text) →
@@ -109,7 +109,7 @@ fn give_long_number(work: &mut Work, prefix: (u32, u32), number: i128, scanned: 
         let value = before ++ signed_decimal number in
         Valued function args work.old.forms value false work.old.forms →
         Makes function args scanned work.old result work.new }
-    ensures unmade { result ≡ Made.Full → work.new.forms ≡ work.old.forms }
+    ensures unmade { result ≡ CallResult.Full → work.new.forms ≡ work.old.forms }
     ensures keeps { KeepsRoom work.old work.new }
 {
     let (quotient, rest) = parted(number.unsigned_abs());
@@ -127,7 +127,7 @@ fn give_digits(
     first: &[u8],
     last: &[u8],
     scanned: bool,
-) -> Made
+) -> CallResult
     requires prefix { IsTextPart work.old.neutral prefix.0 prefix.1 }
     requires short { (length first.now ≤ 40) × (length last.now ≤ 19) }
     ensures makes { (function : Function) (args : List Text) →
@@ -135,26 +135,26 @@ fn give_digits(
         let value = before ++ (first.now ++ padded_text 19 last.now) in
         Valued function args work.old.forms value false work.old.forms →
         Makes function args scanned work.old result work.new }
-    ensures unmade { result ≡ Made.Full → work.new.forms ≡ work.old.forms }
+    ensures unmade { result ≡ CallResult.Full → work.new.forms ≡ work.old.forms }
     ensures keeps { KeepsRoom work.old work.new }
 {
     let free = work.free();
     let size = prefix.1 - prefix.0 + first.len() as u32 + 19;
     if free < size {
-        return Made::Full;
+        return CallResult::Full;
     }
     if scanned {
         work.load_bytes(last);
         work.load_bytes(zeros_before(last));
         work.load_bytes(first);
         load_prefix(work, prefix);
-        return Made::Placed(size);
+        return CallResult::InFront(size);
     }
     put_prefix(work, prefix);
     put_bytes(work, first);
     put_bytes(work, zeros_before(last));
     put_bytes(work, last);
-    Made::Value
+    CallResult::AtEnd
 }
 
 /// A number, or its negative.

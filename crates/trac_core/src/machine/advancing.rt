@@ -8,8 +8,8 @@ ghost use Rattle.trac_core.specs.Advancing.{Advanced, advanced_to};
 ghost use Rattle.trac_core.specs.Session.{next_function};
 
 use super::{Counters, Machine, ended};
-use crate::call::carry_alone;
-use crate::scan::pass;
+use crate::call::perform_pending_alone;
+use crate::scan::scan_steps;
 use trac_forms::Work;
 use trac_language::{Fate, Function};
 
@@ -99,13 +99,13 @@ fn go_alone(work: &mut Work, meta: &mut u8, at: Counters, most: u64) -> Advance
     let mut plain = work.neutral_len();
     let mut long = 0;
     while left > 0 {
-        match pass(work, left, &mut plain, &mut long) {
+        match scan_steps(work, left, &mut plain, &mut long) {
             Ok(done) => {
                 left -= done;
                 peak = peak.max(need);
             }
-            Err(front) => {
-                let last = match carry_alone(work, front, meta) {
+            Err(pending) => {
+                let last = match perform_pending_alone(work, pending, meta) {
                     Ok(last) => last,
                     Err(function) => return going(reach - left, function, plain, at.steps, peak),
                 };

@@ -11,7 +11,7 @@ loop-left-preserved-in-Ok c =
     let within = some.few in
     let fits = i.sound.fits in
     let old = c.loop-left.work in
-    let new = c.pass.new.work in
+    let new = c.scan_steps.new.work in
     record {
       few = omega arith;
       allowed = i.allowed;
@@ -32,39 +32,39 @@ returns-in-Some-clause-advanced c =
     let start = running c.args.work.now c.args.meta.now c.args.at in
     let done = c.min-reach.result - c.loop-left.left in
     let at = counters_after c.args.at done c.loop-left.peak in
-    let w = c.pass.new.work in
+    let w = c.scan_steps.new.work in
     let goes = subst (λ (w : Contents). GoesAlone done start (running w c.loop-left.meta at)) (sym same) i.goes in
-    let h = c.in-Ok-carry_alone.ensures in
-    let tried = subst (λ fate. TriedAlone w c.loop-left.meta fate c.in-Ok-carry_alone.last.need c.carry_alone.new.work c.carry_alone.new.meta) c.in-Some.is h.tried in
-    let counts = c.ended-report.ensures.counts (running w c.loop-left.meta at) (memory_of c.carry_alone.new.meta c.carry_alone.new.work) refl refl in
-    alone-ends start w c.carry_alone.new.work c.loop-left.meta c.args.at done c.loop-left.peak
-    c.args.most c.carry_alone.new.meta c.in-Ok-carry_alone.last.need c.neutral_len.result c.in-Some.fate _ h.keeps.room (omega (arith, i.allowed, i.few, c.loop-left-test.true)) (omega (arith, i.wanted, i.few, c.loop-left-test.true)) tried
+    let h = c.in-Ok-perform_pending_alone.ensures in
+    let tried = subst (λ fate. TriedAlone w c.loop-left.meta fate c.in-Ok-perform_pending_alone.last.need c.perform_pending_alone.new.work c.perform_pending_alone.new.meta) c.in-Some.is h.tried in
+    let counts = c.ended-report.ensures.counts (running w c.loop-left.meta at) (memory_of c.perform_pending_alone.new.meta c.perform_pending_alone.new.work) refl refl in
+    alone-ends start w c.perform_pending_alone.new.work c.loop-left.meta c.args.at done c.loop-left.peak
+    c.args.most c.perform_pending_alone.new.meta c.in-Ok-perform_pending_alone.last.need c.neutral_len.result c.in-Some.fate _ h.keeps.room (omega (arith, i.allowed, i.few, c.loop-left-test.true)) (omega (arith, i.wanted, i.few, c.loop-left-test.true)) tried
     (ap (λ report. record { progress = record { done = done; next = None }; plain = c.neutral_len.result; steps = report.steps; peak = report.peak; fate = Some report.fate }) counts) goes
 
 pub loop-left-preserved : goal.loop-left-preserved
 loop-left-preserved c =
     let i = c.loop-left.invariant in
     let same = c.in-Err.ensures.comes.0 in
-    let h = c.in-Ok-carry_alone.ensures in
+    let h = c.in-Ok-perform_pending_alone.ensures in
     let none = c.in_default.is in
     let len = c.neutral_len-plain-in-Err.ensures.value in
     let peak_is = c.max-peak-in-Err.ensures in
     let start = running c.args.work.now c.args.meta.now c.args.at in
     let done = c.min-reach.result - c.loop-left.left in
-    let w = c.pass.new.work in
+    let w = c.scan_steps.new.work in
     let goes = subst (λ (w : Contents). GoesAlone done start (running w c.loop-left.meta (counters_after c.args.at done c.loop-left.peak))) (sym same) i.goes in
-    let tried = subst (λ fate. TriedAlone w c.loop-left.meta fate c.in-Ok-carry_alone.last.need c.carry_alone.new.work c.carry_alone.new.meta) none h.tried in
+    let tried = subst (λ fate. TriedAlone w c.loop-left.meta fate c.in-Ok-perform_pending_alone.last.need c.perform_pending_alone.new.work c.perform_pending_alone.new.meta) none h.tried in
     record {
       few = omega arith;
       allowed = i.allowed;
       wanted = i.wanted;
       sound = h.keeps.sound;
       room = h.keeps.room ∙ c.in-Err.ensures.keeps.room ∙ i.room;
-      plain = λ k d within. absurd (omega (arith, len, length-drop c.neutral_len-plain-in-Err.result c.carry_alone.new.work.neutral));
+      plain = λ k d within. absurd (omega (arith, len, length-drop c.neutral_len-plain-in-Err.result c.perform_pending_alone.new.work.neutral));
       peak = omega (arith, h.keeps.room, c.in-Err.ensures.keeps.room, h.fits, i.peak, peak_is);
       need = inl c.used-need-in-Err.ensures.value;
-      goes = alone-step start w c.carry_alone.new.work c.loop-left.meta c.args.at done c.loop-left.peak
-          c.carry_alone.new.meta c.in-Ok-carry_alone.last.need c.max-peak-in-Err.result (c.min-reach.result - (c.loop-left.left - 1)) h.keeps.room (omega (arith, i.allowed, i.few, c.loop-left-test.true)) tried peak_is (omega (arith, i.few, c.loop-left-test.true)) goes;
+      goes = alone-step start w c.perform_pending_alone.new.work c.loop-left.meta c.args.at done c.loop-left.peak
+          c.perform_pending_alone.new.meta c.in-Ok-perform_pending_alone.last.need c.max-peak-in-Err.result (c.min-reach.result - (c.loop-left.left - 1)) h.keeps.room (omega (arith, i.allowed, i.few, c.loop-left-test.true)) tried peak_is (omega (arith, i.few, c.loop-left-test.true)) goes;
     }
 
 pub returns-clause-advanced : goal.returns-clause-advanced
