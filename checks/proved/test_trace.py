@@ -2,9 +2,11 @@
 of odd bytes and of faults."""
 import os
 import re
+import resource
 import subprocess
 import tempfile
 import unittest
+from concurrent.futures import ThreadPoolExecutor
 
 from rows import rows as known
 from trac import PROGRAM, TRACER, instructions, trace
@@ -142,6 +144,24 @@ class Lines(unittest.TestCase):
         with open('/dev/full', 'wb') as full:
             done = subprocess.run([TRACER], input=b'', stdout=full, stderr=subprocess.PIPE)
         self.assertEqual(done.returncode, 5)
+
+
+class StandardError(unittest.TestCase):
+    def test_each_text_is_one_write(self):
+        few = 40 * 1024 * 1024
+        for words, begins, limit in [
+                (['--what'], "error: unexpected argument '--what' found", None),
+                (['--cells', '9' * 3000], "error: invalid value '9999", None),
+                (['--check'], 'trac_trace: --check needs the name of a file\n', None),
+                (['--check', '/' + 'x' * 9 * 300], "trac_trace: can't read /xxx", None),
+                (['--cells', '16777216'], 'trac_trace: no memory\n',
+                 lambda: resource.setrlimit(resource.RLIMIT_AS, (few, few)))]:
+            with self.subTest(words=words[:2]), tempfile.NamedTemporaryFile('r') as calls:
+                done = subprocess.run(['strace', '-o', calls.name, '-e', 'trace=write', TRACER, *words],
+                                      input='', capture_output=True, text=True, preexec_fn=limit, timeout=60)
+                self.assertTrue(done.stderr.startswith(begins), done.stderr[:99])
+                self.assertEqual(re.findall(r'^write\(2,.* = (\d+)$', calls.read(), re.MULTILINE),
+                                 [str(len(done.stderr))])
 
 
 SCRIPT = (b"#(ds,A,(xTy))'#(ss,A,T)##(cl,A,\xc3\xa4)#(cs,A,Z)#(zz)#(cl,b)#(,remark)##(dv,1,0,Z)"
@@ -332,6 +352,16 @@ class Views(unittest.TestCase):
         self.assertEqual(status, 3)
         # so many instructions a step, whatever a run takes without a trace
         self.assertLess(instructions([TRACER, *words, '--last', '20'], script), 700 * 100000)
+
+    def test_costs_grow_as_the_forms(self):
+        def script(forms):
+            return b''.join(b'#(ds,F%d,x)#(ps,#(cl,F%d))#(dd,T)' % (k, k) for k in range(forms)) + b"'"
+        for view in ('--forms', '--calls', '--warn'):
+            words = [TRACER, view, '--cells', '1000000', '--steps', '1000000']
+            with self.subTest(view=view), ThreadPoolExecutor() as pool:
+                least, more, most = pool.map(lambda n: instructions(words, script(n)), (500, 1000, 2000))
+                self.assertLess(more, 2.2 * least)
+                self.assertLess(most, 2.2 * more)
 
 
 def trace_bytes(script, *words):

@@ -85,12 +85,18 @@ KINDS = [
      ['line 1, column 13: a left parenthesis has no match; characters dropped: 7',
       'line 1, column 20: the meta character ends the string inside parentheses']),
     # how it is written
-    (b":(ps,x)'", ['line 1, column 1: :( begins no call; write #( or ##(',
-                   'line 1, column 2: no number sign stands before the parenthesis, so this is no call of ps']),
-    (b"# (cl,x)'", ['line 1, column 1: a blank behind a number sign: no call begins here',
-                    'line 1, column 3: no number sign stands before the parenthesis, so this is no call of cl']),
+    (b":(ps,x)'", ['line 1, column 1: :( begins no call; write #( or ##(']),
+    (b"# (cl,x)##\n (rs)'", ['line 1, column 1: a blank behind a number sign: no call begins here',
+                            'line 1, column 10: a blank behind a number sign: no call begins here']),
     (b"#[ps,x]'", ['line 1, column 1: #[ begins no call; write #(',
                    'line 1, column 6: the function takes no notice of the argument x]']),
+    (b"#[ps,(a,b)]'(ps,x)", [
+        'line 1, column 1: #[ begins no call; write #(',
+        'line 1, column 7: the function takes no notice of the argument a,b]',
+        'line 1, column 13: no number sign stands before the parenthesis, so this is no call of ps',
+        'line 1, column 13: no meta character ends the string']),
+    # texts: no function is named
+    (b"#(ps,(item # (1), # (see, below), a#[1], #[] and :(a,b)))'", []),
     (b"10 #(ps,a)\n20 #(ps,b)\n30 #(ps,c)'",
      ['line 1, column 1: numbers stand at the heads of lines, and are text here']),
     (b"10 #(ps,a)\n20 #(ps,b)'", []),

@@ -12,7 +12,7 @@ use crate::filling::FillingSink;
 use crate::report::{TracReport, number, refused};
 use trac_core::{Cell, Machine, SliceSource};
 
-/// Runs a script in a block of so many cells, which is the caller's again afterwards. What it
+/// Runs a script in a block of `cells` cells, which is the caller's again afterwards. What it
 /// prints goes to the front of `output`. More than 16,777,216 cells are refused, and then nothing
 /// is touched.
 #[unsafe(no_mangle)]

@@ -18,14 +18,13 @@ pub(crate) enum Turn {
     Went,
     /// The next step waits for input; it wasn't done.
     Waits,
-    /// The next step prints so many bytes, more than there is room for; it wasn't done.
+    /// The next step prints this many bytes, more than there is room for; it wasn't done.
     Full(u32),
     /// The run is over.
     Over(Fate),
 }
 
-/// A turn: steps, at most so many, over these bytes, behind which the input
-/// ends where `ended` is not 0.
+/// A turn: at most `most` steps over these bytes, behind which the input ends where `ended` is not 0.
 pub(crate) fn take_turn(
     machine: &mut Machine<'static>,
     input: &[u8],
@@ -71,8 +70,8 @@ fn turn_number(last: Turn) -> u32
     }
 }
 
-/// Makes steps, at most so many: those that touch no device as fast as a run does, and each other
-/// one by itself. Went: all of them were done.
+/// Makes at most `most` steps: those that touch no device as fast as a run does, and each other one by
+/// itself. Went: all of them were done.
 fn go_on(
     machine: &mut Machine,
     source: &mut GivenSource,

@@ -84,21 +84,21 @@ module _ (start : MachineState) (w new : Contents) (meta : ℕ) (at : Counters) 
       subst (λ j. GoesAlone j start (running new after (counters_after at j top))) (sym all_is) (subst (GoesAlone (suc k) start) same later)
 
   -- no step more is done, since as many as were wanted are done or the next one can't be done alone
-  pub alone-stays : (most all : ℕ) (next : Option Function) (to : Advance) → new ≡ w → to ≡ record { progress = record { done = all; next = next }; steps = at.steps + all; peak = peak; fate = None } → all ≡ k → (k ≡ most) ⊎ NeedsMore (running w meta (counters_after at k peak)) → GoesAlone k start (running w meta (counters_after at k peak)) → Advanced most to.progress.done start (advanced_to new meta at to)
-  alone-stays most all next to same is all_is why goes =
+  pub alone-stays : (most all plain : ℕ) (next : Option Function) (to : Advance) → new ≡ w → to ≡ record { progress = record { done = all; next = next }; plain = plain; steps = at.steps + all; peak = peak; fate = None } → all ≡ k → (k ≡ most) ⊎ NeedsMore (running w meta (counters_after at k peak)) → GoesAlone k start (running w meta (counters_after at k peak)) → Advanced most to.progress.done start (advanced_to new meta at to)
+  alone-stays most all plain next to same is all_is why goes =
       let m = running w meta (counters_after at k peak) in
-      let told : Advance = record { progress = record { done = k; next = next }; steps = at.steps + k; peak = peak; fate = None } in
-      let to_is : to ≡ told = is ∙ ap (λ n. record { progress = record { done = n; next = next }; steps = at.steps + n; peak = peak; fate = None }) all_is in
+      let told : Advance = record { progress = record { done = k; next = next }; plain = plain; steps = at.steps + k; peak = peak; fate = None } in
+      let to_is : to ≡ told = is ∙ ap (λ n. record { progress = record { done = n; next = next }; plain = plain; steps = at.steps + n; peak = peak; fate = None }) all_is in
       let whole : Advanced most told.progress.done start (advanced_to w meta at told) = (m, (goes, (refl, why))) in
       subst (λ (to : Advance). Advanced most to.progress.done start (advanced_to new meta at to)) (sym to_is)
       (subst (λ (w : Contents). Advanced most told.progress.done start (advanced_to w meta at told)) (sym same) whole)
 
   -- a step ends the run
-  pub alone-ends : (most after need : ℕ) (fate : Fate) (to : Advance) → new.room ≡ w.room → at.steps + k < at.allowance → k < most → TriedAlone w meta (Some fate) need new after → to ≡ record { progress = record { done = k; next = None }; steps = (counted (running w meta (counters_after at k peak)) (memory_of after new) need (Some fate)).steps; peak = (counted (running w meta (counters_after at k peak)) (memory_of after new) need (Some fate)).peak; fate = Some fate } → GoesAlone k start (running w meta (counters_after at k peak)) → Advanced most to.progress.done start (advanced_to new after at to)
-  alone-ends most after need fate to stays allowed few tried is goes =
+  pub alone-ends : (most after need plain : ℕ) (fate : Fate) (to : Advance) → new.room ≡ w.room → at.steps + k < at.allowance → k < most → TriedAlone w meta (Some fate) need new after → to ≡ record { progress = record { done = k; next = None }; plain = plain; steps = (counted (running w meta (counters_after at k peak)) (memory_of after new) need (Some fate)).steps; peak = (counted (running w meta (counters_after at k peak)) (memory_of after new) need (Some fate)).peak; fate = Some fate } → GoesAlone k start (running w meta (counters_after at k peak)) → Advanced most to.progress.done start (advanced_to new after at to)
+  alone-ends most after need plain fate to stays allowed few tried is goes =
       let m = running w meta (counters_after at k peak) in
       let last = counted m (memory_of after new) need (Some fate) in
-      let told : Advance = record { progress = record { done = k; next = None }; steps = last.steps; peak = last.peak; fate = Some fate } in
+      let told : Advance = record { progress = record { done = k; next = None }; plain = plain; steps = last.steps; peak = last.peak; fate = Some fate } in
       let ends : EndsAlone m fate last = record { alone = tried.alone; ends = λ source written. tried.tried source written m refl refl allowed; none_failed = tried.none_failed; keeps = subst (KeepsFormsAndMeta (memory_of meta w)) (sym (counted-memory m (memory_of after new) need fate)) (tried.keeps (λ e. absurd cc)) } in
       let same : last ≡ advanced_to new after at told = counted-parts m (memory_of after new) need fate ∙ (λ i. record (advanced_to new after at told) { room = sym stays i }) in
       let whole : Advanced most told.progress.done start (advanced_to new after at told) = (m, (goes, (few, subst (EndsAlone m fate) same ends))) in

@@ -14,6 +14,7 @@ pub use Rattle.trac_core.specs.Attempts.{AnswersCall, ClosesCall, EndsQuietly, I
 pub use Rattle.trac_core.specs.Display.{display, shown}
 pub use Rattle.trac_core.specs.Machine.{Answers, BrokeOff, Course, EndsRun, GoesOn, IsReportOf, KeepsFormsAndMeta, LeavesMemory, MachineState, Moment, RanThrough, RanToFailure, Reports, ReportsOf, Resumes, StopsAtAllowance, StopsAtInput, StopsAtOutput, StopsAtRoom, after_steps, counted, ending, failing, failing_state_of, first_runs, input_failures, later_runs, made, memory_after, moment, output_failures, state_of, state_with}
 pub use Rattle.trac_core.specs.Matching.{IsAt, side_in, side_of}
+pub use Rattle.trac_core.specs.ReadTexts.{Reads}
 pub use Rattle.trac_core.specs.Performed.{is_plain, performed_by, performs, prints_output, reads_input, touches_device}
 pub use Rattle.trac_core.specs.NamedCalls.{IsNamed, StopsBefore, TriedAlone}
 pub use Rattle.trac_core.specs.Advancing.{Advanced, EndsAlone, GoesAlone, NeedsMore, StepsAlone, StopsAlone, advanced_to}
@@ -21,7 +22,6 @@ pub use Rattle.trac_core.specs.Session.{printed_in}
 pub use Rattle.trac_core.specs.StepsInRow.{Advances, AsksFor, IsLayout, IsOrdinary, IsPlainFrom, Passes, PassesTimes, SomeSteps, is_special, kind_in, kind_of, passed, peak_after, running}
 pub use Rattle.trac_language.specs.declared.report.Report.{Report}
 pub use Rattle.trac_devices.specs.Devices.{Breaks, Prints, Sent, Stream, Streams, has_byte}
-pub use Rattle.trac_devices.specs.HeldBytes.{Reads}
 pub use Rattle.trac_forms.specs.Contents.{Contents, IsSound, form_at, part_text, used}
 pub use Rattle.trac_functions.specs.Calls.{IsDefined, IsPlaced, IsValue, Makes, texts, texts_from, world}
 pub use Rattle.trac_functions.specs.Flat.{Neutral, arguments_at, is_active_mode, memory_of, memory_with, mode_at, mode_of, neutral_of, no_neutral, texts_of, with_cell, with_cells}

@@ -1,7 +1,8 @@
 -- What a machine's next step reads and prints.
-use Rattle.std.specs.Prelude.{ℕ, [], ◌&&◌, Option, Some, None, is_none, nat_lt, if◌then◌else◌}
+use Rattle.std.specs.Prelude.{ℕ, [], ◌&&◌, Option, Some, None, option_map, is_none, nat_lt, if◌then◌else◌}
 use Rattle.trac_language.specs.declared.function.Function.{Function}
 use Rattle.trac_language.specs.declared.function.Function.TheVariants.{ReadString, ReadCharacter}
+use Rattle.trac_language.specs.declared.report.Report.{Report}
 use Rattle.trac_language.specs.Text.{Text}
 use Rattle.trac_language.specs.State.{Memory, Input}
 use Rattle.trac_language.specs.Meaning.{Meaning, Gives, Ends, meaning}
@@ -53,3 +54,7 @@ abbrev pub call_prints : Contents → (place meta : ℕ) → Input → Text
 call_prints w place meta input =
     printed_in (meaning (function_at w.neutral place) (arguments_at w.neutral place)
     (world w.forms meta input))
+
+-- how the run ended, if it did, with its steps and its peak
+abbrev pub report_of : MachineState → Option Report
+report_of m = option_map (λ fate. record { fate = fate; steps = m.steps; peak = m.peak }) m.fate

@@ -95,7 +95,7 @@ pub(crate) fn carry_alone(
     }
 }
 
-/// The innermost call, whose right parenthesis was deleted, is performed.
+/// Performs the innermost call, whose right parenthesis was deleted.
 #[inline(always)]
 fn perform<I: Source, O: Sink>(
     work: &mut Work,
@@ -131,7 +131,7 @@ fn perform<I: Source, O: Sink>(
     settle(work, (call.place, end), before, made)
 }
 
-/// The same of a call that touches no device.
+/// Performs the innermost call, whose right parenthesis was deleted and which touches no device.
 #[inline(always)]
 fn perform_alone(work: &mut Work, call: NamedCall, meta: &mut u8) -> Attempt
     requires named { IsNamed call work.old }

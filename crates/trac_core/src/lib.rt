@@ -22,5 +22,5 @@ pub use trac_devices::{
 pub use trac_forms::{Forms, StoredForm, Work};
 pub use trac_language::{Fate, Item, Report};
 pub use trac_laws as laws;
-pub use trac_space::Cell;
+pub use trac_space::{Cell, Neutral};
 pub use trac_values as values;

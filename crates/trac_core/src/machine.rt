@@ -39,6 +39,8 @@ pub use view::ScanningRule;
 pub struct Machine<'a> {
     work: Work<'a>,
     meta: u8,
+    /// A place of the neutral string from which on no comma mark stands.
+    plain: u32,
     allowance: u64,
     steps: u64,
     peak: u32,
@@ -50,6 +52,7 @@ impl<'a> Model for Machine<'a> {
     ghost use Rattle.trac_forms.specs.Contents.{IsSound};
     ghost use Rattle.trac_functions.specs.Flat.{memory_of};
     ghost use Rattle.trac_core.specs.Machine.{MachineState};
+    ghost use Rattle.trac_core.specs.StepsInRow.{IsPlainFrom};
 
     ghost Value = { MachineState };
 
@@ -62,11 +65,12 @@ impl<'a> Model for Machine<'a> {
       fate = m.fate;
     } };
 
-    ghost invariant = { λ m. (m.steps ≤ m.allowance) × (m.peak ≤ m.work.room) × IsSound m.work };
+    ghost invariant = { λ m. (m.steps ≤ m.allowance) × (m.peak ≤ m.work.room) × IsSound m.work
+        × IsPlainFrom m.plain m.work.neutral };
 }
 
 impl<'a> Machine<'a> {
-    /// A machine over the cells of a block, whatever they hold, with an allowance of so many steps.
+    /// A machine over the cells of a block, whatever they hold, which may make `steps` steps.
     /// It has no form, and the apostrophe is its meta character.
     pub fn over(block: &'a mut [Cell], steps: u64) -> Machine<'a>
         requires { length block.old ≤ 16777216 }
@@ -75,6 +79,7 @@ impl<'a> Machine<'a> {
         Machine {
             work: Work::over(block),
             meta: b'\'',
+            plain: 0,
             allowance: steps,
             steps: 0,
             peak: 0,
@@ -116,7 +121,7 @@ impl<'a> Machine<'a> {
         // with the allowance used up nothing is called
         ensures spent { result ≡ Some Fate.Steps →
             (source.new ≡ source.old) × (sink.new ≡ sink.old) }
-        // the failures of the devices are told, and no others
+        // each failure of a device is answered, and no other is
         ensures input_failed { I.failure_count source.new ≡
             I.failure_count source.old + input_failures self.old.fate result }
         ensures output_failed { O.failure_count sink.new ≡
@@ -152,10 +157,12 @@ impl<'a> Machine<'a> {
             });
         }
         let need = self.work.used();
-        let Some(front) = scan_once(&mut self.work) else {
+        let Some(front) = scan_once(&mut self.work, self.plain) else {
+            self.plain = self.work.neutral_len();
             return self.count(Attempt { fate: None, need });
         };
         let attempt = carry_out(&mut self.work, front, &mut self.meta, source, sink);
+        self.plain = self.work.neutral_len();
         self.count(attempt)
     }
 
@@ -295,7 +302,7 @@ fn run_to_end<I: Source, O: Sink>(
     }
 }
 
-/// What a run reports that ended so in a try of a step, which needed so many cells, after so many
+/// What a run reports that ended with this fate in a step that needed `need` cells, after `steps`
 /// steps and with this peak.
 fn ended(fate: Fate, need: u32, steps: u64, peak: u32) -> Report
     requires allowed { counts_as_step (Some fate) ≡ true → steps < 2 ^ 64 - 1 }

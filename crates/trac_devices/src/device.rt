@@ -3,13 +3,11 @@ ghost use Rattle.std.specs.Prelude.{◌≡◌, ℕ, ◌+◌, ◌-◌, ◌^◌, �
 ghost use Rattle.std.specs.Borrow.{GName};
 ghost use Rattle.trac_language.specs.Text.{Text};
 ghost use Rattle.trac_space.specs.Texts.{text_of_cells};
-ghost use Rattle.trac_forms.specs.Contents.{IsSound};
 ghost use Rattle.trac_devices.specs.Devices.{Stream, Gives, Streams, failures_of_next, failures_of};
 ghost use Rattle.trac_devices.specs.Devices.{after_put, Prints};
-ghost use Rattle.trac_devices.specs.HeldBytes.{Reads};
+ghost use Rattle.trac_devices.specs.HeldBytes.{ReadsInto};
 
-use trac_forms::Work;
-use trac_space::{Cell, character_of};
+use trac_space::{Cell, Neutral, character_of};
 
 /// What a source answers when it is asked for its next byte.
 #[derive(Clone, Copy, Debug, PartialEq, Eq)]
@@ -39,16 +37,16 @@ pub trait Source {
     /// The number of failures so far.
     ghost failure_count: { Self → ℕ };
 
-    /// Appends bytes that the source already holds to the neutral string, by `Work::push_before`: those
+    /// Appends bytes that the source already holds to a neutral string, by `Neutral::push_before`: those
     /// before the first `stop`, as many as fit, or fewer. They are consumed. It waits for nothing and can't
     /// fail. A source that holds no bytes inherits this method.
-    fn take_held(&mut self, stop: u8, work: &mut Work)
-        requires { IsSound work.old }
-        ensures reads { (text : Text) × (Reads stop work.old work.new text
+    fn take_held<N: Neutral>(&mut self, stop: u8, neutral: &mut N)
+        requires { N.sound neutral.old }
+        ensures reads { (text : Text) × (ReadsInto N.appended stop neutral.old neutral.new text
             × (tells self.old → Streams (stream self.old) text (stream self.new))) }
         ensures told { tells self.old → tells self.new }
         ensures counts { failure_count self.new ≡ failure_count self.old }
-        ensures sound { IsSound work.new }
+        ensures sound { N.sound neutral.new }
     {}
 
     /// The next byte, the end, or a failure. A source that has ended answers the end at each later call.

@@ -1,5 +1,5 @@
 //! A sink over memory.
-ghost use Rattle.std.specs.Prelude.{◌≡◌, ◌+◌, ◌-◌, ◌^◌, ◌<◌, ◌≤◌, [], length, take};
+ghost use Rattle.std.specs.Prelude.{◌≡◌, ◌+◌, ◌-◌, ◌^◌, ◌<◌, ◌≤◌, [], length};
 ghost use Rattle.std.specs.Prelude.{unwrap_or, is_ok, is_err, ◌&&◌, ◌||◌, OnOk, not, nat_eq};
 ghost use Rattle.std.specs.Prelude.{nat_lt, true, false};
 ghost use Rattle.trac_devices.specs.Devices.{failures_of, after_put};

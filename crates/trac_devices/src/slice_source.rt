@@ -1,14 +1,13 @@
 //! A source over memory.
 ghost use Rattle.std.specs.Prelude.{◌≡◌, ℕ, ◌+◌, ◌-◌, ◌^◌, ◌<◌, [], drop, true, false};
 ghost use Rattle.trac_language.specs.Text.{Text};
-ghost use Rattle.trac_forms.specs.Contents.{IsSound};
 ghost use Rattle.trac_devices.specs.Devices.{Gives, Streams, failures_of_next};
-ghost use Rattle.trac_devices.specs.HeldBytes.{Reads, TakesHeld};
+ghost use Rattle.trac_devices.specs.HeldBytes.{ReadsInto, TakesHeld};
 ghost use Rattle.trac_devices.specs.Slices.{slice_input, slice_answer, slice_after, stream_in};
 
 use crate::device::{Next, Source};
 use std::marker::Model;
-use trac_forms::Work;
+use trac_space::Neutral;
 
 /// A source over bytes in memory, for embedding and for tests. It fails at a place that you can choose.
 /// This processor's own choice.
@@ -73,17 +72,18 @@ impl Source for SliceSource<'_> {
 
     ghost failure_count = { λ s. s.failures };
 
-    fn take_held(&mut self, stop: u8, work: &mut Work)
-        requires { IsSound work.old }
-        ensures taken { (count : ℕ) × (TakesHeld stop self.old.bytes count work.old work.new
+    fn take_held<N: Neutral>(&mut self, stop: u8, neutral: &mut N)
+        requires { N.sound neutral.old }
+        ensures taken { (count : ℕ)
+            × (TakesHeld N.appended N.full stop self.old.bytes count neutral.old neutral.new
             × (self.new ≡ record self.old { bytes = drop count self.old.bytes })) }
-        ensures reads { (text : Text) × (Reads stop work.old work.new text
+        ensures reads { (text : Text) × (ReadsInto N.appended stop neutral.old neutral.new text
             × (Unit {0} → Streams (stream_in self.old) text (stream_in self.new))) }
         ensures told { Unit {0} → Unit {0} }
         ensures counts { self.new.failures ≡ self.old.failures }
-        ensures sound { IsSound work.new }
+        ensures sound { N.sound neutral.new }
     {
-        let count = work.push_before(stop, self.bytes);
+        let count = neutral.push_before(stop, self.bytes);
         self.bytes = &self.bytes[count..];
     }
 

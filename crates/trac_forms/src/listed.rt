@@ -151,8 +151,8 @@ impl<'a> Work<'a> {
         }
     }
 
-    /// The form whose name is these characters, to be looked at; they need not stand in the block. `None`
-    /// where no form has the name. It is found by the index of the forms, where there is one.
+    /// The form with this name, to be read. None if no form has it. The name needn't stand in the block. The
+    /// search takes the index if there is one.
     pub fn stored_named(&self, name: &[Cell]) -> Option<StoredForm<'_>>
         requires { All IsByte name.now }
         ensures { result ≡ form_named (text_of_cells name.now) self.now.forms }
@@ -172,7 +172,7 @@ impl<'a> Work<'a> {
         self.stored_at(self.locate(form))
     }
 
-    // The same, of a form whose place is known.
+    // A form whose place is known, to be read.
     fn stored_at(&self, form: Located) -> StoredForm<'_>
         requires known { form.number < length self.now.forms }
         requires begins { form.start ≡ start_of self.now.forms form.number }

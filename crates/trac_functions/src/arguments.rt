@@ -113,8 +113,7 @@ pub fn text<'a>(work: &'a Work, part: (u32, u32)) -> &'a [Cell]
     work.neutral_part(part.0, part.1)
 }
 
-/// Puts a part of the neutral string that is a text once more at its end, if there are cells for
-/// it.
+/// Appends a part of the neutral string that is a text to that string, if there are cells for it.
 pub fn put_part(work: &mut Work, part: (u32, u32)) -> bool
     requires part { IsTextPart work.old.neutral part.0 part.1 }
     ensures put { let text = part_text work.old.neutral part.0 part.1 in
@@ -129,7 +128,8 @@ pub fn put_part(work: &mut Work, part: (u32, u32)) -> bool
     work.copy_neutral(part.0, part.1)
 }
 
-/// The same before the active string.
+/// Puts a part of the neutral string that is a text before the active string, if there are cells for
+/// it.
 #[inline(always)]
 pub fn load_part(work: &mut Work, part: (u32, u32)) -> bool
     requires part { IsTextPart work.old.neutral part.0 part.1 }

@@ -193,8 +193,8 @@ fn parted(number: u128) -> (u64, u64)
     (quotient as u64, rest as u64)
 }
 
-/// Puts a part of the neutral string once more at its end, which there are cells for. It mostly is
-/// null, and then there is nothing to do.
+/// Appends a part of the neutral string to that string. The caller has made sure that it fits. Most
+/// parts are null, and then there is nothing to do.
 #[inline(always)]
 fn put_prefix(work: &mut Work, part: (u32, u32))
     requires part { IsTextPart work.old.neutral part.0 part.1 }
@@ -209,7 +209,7 @@ fn put_prefix(work: &mut Work, part: (u32, u32))
     }
 }
 
-/// The same before the active string.
+/// Puts a part of the neutral string before the active string. The caller has made sure that it fits.
 #[inline(always)]
 fn load_prefix(work: &mut Work, part: (u32, u32))
     requires part { IsTextPart work.old.neutral part.0 part.1 }

@@ -175,7 +175,7 @@ fn digit_made(work: &Work, bits: BitResult, place: u32) -> Option<u8>
     }
 }
 
-/// Puts the octal digits of a result at the end of the neutral string, which there are cells for.
+/// Appends the octal digits of a result to the neutral string. The caller has made sure that they fit.
 fn put_digits(work: &mut Work, bits: BitResult)
     requires parts { AreFor work.old.neutral bits }
     requires fits { used work.old + length (octal_made work.old.neutral bits) ≤ work.old.room }

@@ -21,8 +21,8 @@ ghost use Rattle.trac_functions.specs.Calls.{KeepsRoom};
 use crate::arguments::{Arguments, Made, put_part};
 use trac_forms::{FormId, Work};
 
-// So many names of `dd` go one by one, since a form that stays is sooner brought forward twice in the
-// index than put into it again.
+// Up to this many names of `dd` are deleted one by one: to move a form that stays twice in the index
+// costs less than to put it in anew.
 const FEW: u32 = 2;
 
 /// `da`: all forms are removed (Mooers 1966).

@@ -3,7 +3,7 @@
 //! Each `copy_..` meets the contract of std's `copy_within`. They differ in what they are fast for:
 //! `higher` and `lower` say where the target lies, `apart` that the ranges are disjoint, `by_..` how many
 //! cells go at once.
-ghost use Rattle.std.specs.Prelude.{◌≡◌, ◌+◌, ◌-◌, ◌≤◌, ◌<◌, ◌⊎◌, ◌++◌};
+ghost use Rattle.std.specs.Prelude.{◌≡◌, ◌+◌, ◌-◌, ◌≤◌, ◌<◌, ◌⊎◌};
 ghost use Rattle.std.specs.Prelude.{All, IsTrue, drop, false, ℕ};
 ghost use Rattle.std.specs.Prelude.{length, take, ◌==◌, if◌then◌else◌, slice_index_or};
 ghost use Rattle.std.specs.List.{copy_within};
@@ -168,7 +168,7 @@ fn copy_slice_by_parts(from: &[Cell], to: &mut [Cell])
 
 // Copies characters to a lower place, at most `most`. `table` has a number for each byte: 0 keeps the
 // character, 1 makes it a comma mark, a higher number ends the run before it. Gives the length of the
-// run, and how many of its cells the last comma mark ends.
+// run, and the place in it behind its last comma mark.
 #[inline]
 pub(crate) fn copy_turned(
     cells: &mut [Cell],

@@ -1,7 +1,7 @@
 //! Searches for a text in one pass, by the method of Knuth, Morris and Pratt. A border of a beginning of
 //! the text is a shorter beginning that also ends it; where the text doesn't go on, the search goes on
 //! from the border. The lengths of the borders lie over the cells of the text while the search runs.
-ghost use Rattle.std.specs.Prelude.{◌≡◌, ◌≤◌, ◌<◌, ◌-◌, length, slice_range, MatchOption};
+ghost use Rattle.std.specs.Prelude.{◌≡◌, ◌≤◌, ◌<◌, ◌-◌, length, MatchOption};
 ghost use Rattle.trac_store.specs.Borders.{laid_text, HaveBorders, AreLaid, IsNextBorder};
 ghost use Rattle.trac_store.specs.Gaps.{text_cells_at};
 ghost use Rattle.trac_store.specs.Parts.{IsTextPart};

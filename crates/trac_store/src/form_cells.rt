@@ -369,7 +369,8 @@ pub fn find_named(
     find_by_name(space, count, last, name, search_cost)
 }
 
-/// The same, of a name that need not stand in the block.
+/// The form with this name, which needn't stand in the block. None if no form has it. Searches, and adds to
+/// `search_cost`, as `find_named` does.
 #[inline(always)]
 pub fn find_by_name(
     space: &Space,

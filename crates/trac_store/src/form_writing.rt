@@ -1,6 +1,6 @@
 //! Writes the cells of forms into the store, and removes them from there.
 ghost use Rattle.std.specs.Prelude.{◌≡◌, ◌+◌, ◌-◌, ◌≤◌, ◌<◌, ◌++◌, length};
-ghost use Rattle.std.specs.Prelude.{take, drop, slice_range};
+ghost use Rattle.std.specs.Prelude.{take, drop};
 ghost use Rattle.trac_space.specs.Lists as lists;
 ghost use Rattle.trac_store.specs.FlatForms.{flat_form};
 ghost use Rattle.trac_store.specs.Parts.{IsTextPart, new_form};

@@ -3,18 +3,13 @@
 ghost use Rattle.std.specs.Prelude.{◌≡◌, ◌+◌, ◌≤◌, ◌<◌, ◌↔◌, ◌++◌};
 ghost use Rattle.std.specs.Prelude.{length, map, slice_range, All, IsTrue, MatchOption};
 ghost use Rattle.std.specs.Bool.{OnTrue, OnFalse};
-ghost use Rattle.trac_language.specs.Store.{IsStore};
-ghost use Rattle.trac_language.specs.Form.{text_of};
 ghost use Rattle.trac_space.specs.Cells.{NoCall};
 ghost use Rattle.trac_space.specs.Filled.{HaveCommas, filled};
 ghost use Rattle.trac_space.specs.Lists.{used as cells_used, claimed};
 ghost use Rattle.trac_space.specs.Overlay.{under};
 ghost use Rattle.trac_space.specs.Texts.{flat_text, IsByte};
-ghost use Rattle.trac_store.specs.Loading.{called_part, AreCharacters};
 ghost use Rattle.trac_store.specs.Arguments.{AreParted, filled_cells};
-ghost use Rattle.trac_store.specs.FlatForms.{flat_forms};
 ghost use Rattle.trac_store.specs.Index.{IsKept};
-ghost use Rattle.trac_store.specs.Stored.{forms_in, start_of};
 
 use trac_space::{Part, Space};
 

@@ -1,6 +1,6 @@
 -- The lines of warnings, and the status after them.
 use Rattle.std.specs.Prelude.{ℕ, zero, suc, ◌+◌, ◌^◌, ◌-◌, ◌==◌, List, [], ◌++◌, Option, Some, None, codes}
-use Rattle.std.specs.Prelude.{decimal, min}
+use Rattle.std.specs.Prelude.{Bool, decimal, min}
 use Rattle.std.specs.Prelude.{nat_lt, if◌then◌else◌}
 use Rattle.trac_language.specs.declared.fate.Fate.{Fate}
 use Rattle.trac_language.specs.declared.fate.Fate.TheVariants.{Halted, InputEnded}
@@ -8,7 +8,8 @@ use Rattle.trac_events.specs.declared.place.Place.{Place}
 use Rattle.trac_warnings.specs.declared.origin.Origin.{Origin}
 use Rattle.trac_warnings.specs.declared.warning.Warning.{Warning}
 use Rattle.trac_warnings.specs.Suspicions.{sentence_of}
-use Rattle.trac_trace.specs.Lines.{traced_status}
+use Rattle.trac_language.specs.declared.report.Report.{Report}
+use Rattle.trac_trace.specs.Lines.{end_text, traced_status}
 use Rattle.trac_trace.specs.Shown.{shown_text}
 use Rattle.trac_trace.specs.Told.{place_text}
 
@@ -45,6 +46,19 @@ abbrev pub warning_text : Warning → Place → List ℕ → ℕ → List ℕ
 warning_text w place form times =
     place_text place ++ codes ": " ++ value_text w.origin form ++ said_text w
     ++ times_text times ++ codes "\n"
+
+-- the line on how a run ended
+abbrev pub ended : Report → List ℕ
+ended report = end_text report.fate report.steps report.peak
+
+-- the same, where it ended by a fault
+abbrev pub fault_end : Bool → Report → List ℕ
+fault_end is_fault report = if is_fault then ended report else []
+
+-- the line of a file of this name with so many warnings, and how its run ended
+abbrev pub summary_text : List ℕ → ℕ → Report → List ℕ
+summary_text name count report =
+    name ++ codes ": warnings " ++ decimal count ++ codes "; " ++ ended report
 
 -- the status after a run with this fate and so many warnings: a fault is told by its own status, and 7
 -- says that there are warnings

@@ -11,6 +11,7 @@ ghost use Rattle.trac_trace.specs.Lines.{traced_status};
 mod calls;
 mod check;
 mod deleted;
+mod errors;
 mod escapes;
 mod events;
 mod faults;
@@ -29,6 +30,7 @@ mod watched;
 mod words;
 
 use check::check_files;
+use errors::Errors;
 use escapes::push_text;
 use std::env;
 use std::io::{ErrorKind, Read, Write};
@@ -62,7 +64,7 @@ fn main(rt: HostRuntime) -> ExitCode {
     match words {
         Ok(words) => ExitCode::from(run(&rt, &words)),
         Err(error) => ExitCode::from(refused(
-            &rt,
+            &Errors { rt: &rt },
             &mut Output::new(rt.stdout()),
             &error,
             NO_MEMORY_LINE,

@@ -1,7 +1,8 @@
 //! A run of which only what is suspicious is shown.
-ghost use Rattle.std.specs.Prelude.{◌≡◌, ◌+◌, ◌-◌, ◌^◌, ◌<◌, IfOk};
+ghost use Rattle.std.specs.Prelude.{◌≡◌, ◌++◌, ◌+◌, ◌-◌, ◌^◌, ◌<◌, IfOk, OnOk, length};
 ghost use Rattle.trac_core.specs.Machine.{reported_input_failures};
-ghost use Rattle.trac_trace.specs.Warned.{warned_status, worse};
+ghost use Rattle.trac_trace.specs.Told.{is_fault};
+ghost use Rattle.trac_trace.specs.Warned.{fault_end, summary_text, warned_status, worse};
 
 use crate::faults::is_fault;
 use crate::lines::{push, push_end, push_number};
@@ -44,16 +45,11 @@ pub fn watched<I: Source>(
     let mut findings = of_script(alloc, input)?;
     loop {
         let before = watch.look(&machine, input)?;
-        let fate = machine.step(source, &mut printed);
+        machine.step(source, &mut printed);
         printed.clear();
         watch.tell(&before, &machine, input)?;
         keep_warnings(&mut watch, &mut findings)?;
-        if let Some(fate) = fate {
-            let report = Report {
-                fate,
-                steps: machine.steps(),
-                peak: machine.peak(),
-            };
+        if let Some(report) = machine.report() {
             return Ok(WatchedRun {
                 watch,
                 findings,
@@ -86,12 +82,17 @@ fn keep_warnings(watch: &mut Watch, findings: &mut Findings) -> Result<(), Alloc
 
 impl WatchedRun {
     /// The status of a program that tells these warnings: that of a fault, or 7 where there are some.
-    pub fn status(&self) -> u8 {
+    pub fn status(&self) -> u8
+        ensures { result ≡
+            warned_status self.now.report.fate (length self.now.findings.counts.entries) }
+    {
         status_of(self.report.fate, self.findings.len())
     }
 
     /// How many warnings there are.
-    pub fn len(&self) -> usize {
+    pub fn len(&self) -> usize
+        ensures { result ≡ length self.now.findings.counts.entries }
+    {
         self.findings.len()
     }
 
@@ -124,7 +125,10 @@ impl WatchedRun {
     }
 
     /// Adds the line on how the run ended, where that is a fault. An error is want of memory.
-    pub fn push_fault(&self, lines: &mut Vec<u8>) -> Result<(), AllocError> {
+    pub fn push_fault(&self, lines: &mut Vec<u8>) -> Result<(), AllocError>
+        ensures { OnOk result (lines.new.items ≡
+            lines.old.items ++ fault_end (is_fault self.now.report.fate) self.now.report) }
+    {
         if is_fault(self.report.fate) {
             push_end(lines, &self.report)
         } else {
@@ -134,7 +138,10 @@ impl WatchedRun {
 
     /// Adds the line of a file of this name: how many warnings there are, and how the run ended. An
     /// error is want of memory.
-    pub fn push_summary(&self, lines: &mut Vec<u8>, name: &[u8]) -> Result<(), AllocError> {
+    pub fn push_summary(&self, lines: &mut Vec<u8>, name: &[u8]) -> Result<(), AllocError>
+        ensures { OnOk result (lines.new.items ≡ lines.old.items
+            ++ summary_text name.now (length self.now.findings.counts.entries) self.now.report) }
+    {
         push(lines, name)?;
         push(lines, b": warnings ")?;
         push_number(lines, self.findings.len() as u64)?;

@@ -1,12 +1,11 @@
 //! Numbers at the end of texts.
 ghost use Rattle.std.specs.Prelude.{◌≡◌, ◌↔◌, ◌+◌, ◌*◌, ◌%◌, ◌<◌, ◌≤◌, ◌^◌};
-ghost use Rattle.std.specs.Prelude.{All, false, take, ℕ};
+ghost use Rattle.std.specs.Prelude.{All, false, ℕ};
 ghost use Rattle.std.specs.Prelude.{ℤ, min, IfSome, IsSome, IsTrue, length, int_lt, neg_ℤ, pos};
 ghost use Rattle.std.specs.Prelude.{unsigned_abs, ◌<ℤ◌};
 ghost use Rattle.std.specs.Int.{int_rem_euclid};
 ghost use Rattle.std.specs.Ordering.{nat_cmp};
-ghost use Rattle.trac_language.specs.declared.arith.Arith.TheVariants.{Divide};
-ghost use Rattle.trac_language.specs.Number.{arith, before_digits, digits, ends_with, exactly};
+ghost use Rattle.trac_language.specs.Number.{arith, before_digits, digits, ends_with};
 ghost use Rattle.trac_language.specs.Number.{if_in_range, in_range, prefix};
 ghost use Rattle.std.specs.Str.Parse.{digits_value};
 ghost use Rattle.trac_space.specs.Texts.{text_of_cells, IsByte};

@@ -1,5 +1,5 @@
 //! The warnings of a whole run, in the order of their places, with how often each was given.
-ghost use Rattle.std.specs.Prelude.{◌≡◌, []};
+ghost use Rattle.std.specs.Prelude.{◌≡◌, ◌==◌, [], length};
 
 use crate::warning::{Suspicion, Warning};
 use std::alloc::{AllocError, Global};
@@ -36,12 +36,16 @@ impl Findings {
     }
 
     /// How many there are.
-    pub fn len(&self) -> usize {
+    pub fn len(&self) -> usize
+        ensures { result ≡ length self.now.counts.entries }
+    {
         self.counts.len()
     }
 
     /// Whether there are none.
-    pub fn is_empty(&self) -> bool {
+    pub fn is_empty(&self) -> bool
+        ensures { result ≡ (length self.now.counts.entries == 0) }
+    {
         self.counts.is_empty()
     }
 

@@ -9,6 +9,7 @@ mod gaps;
 mod names;
 mod origin;
 mod performed;
+mod spelling;
 mod strings;
 mod trail;
 mod warning;

@@ -1,6 +1,6 @@
 //! A run that is watched, step by step.
 ghost use Rattle.std.specs.Prelude.{◌≡◌, ◌≢◌, ◌<◌, ◌↔◌, ◌++◌, ◌∷◌, [], IfOk, OnOk, IsSome, true, false};
-ghost use Rattle.std.specs.Prelude.{length, reverse, option_to_list};
+ghost use Rattle.std.specs.Prelude.{MatchOption, length, reverse, slice_get, option_to_list};
 ghost use Rattle.trac_events.specs.Calls.{IsSeen, reads};
 ghost use Rattle.trac_warnings.specs.Origins.{first_origin, in_input, moved, origin_at};
 ghost use Rattle.trac_warnings.specs.Watched.{IsFresh, Kept, Moves, Reads, ReadsText, Stays, begins_call};
@@ -107,7 +107,10 @@ impl Watch {
     }
 
     /// The name of a form by its number in an origin, null for a number that no name has.
-    pub fn name(&self, number: usize) -> &[u8] {
+    pub fn name(&self, number: usize) -> &[u8]
+        ensures { MatchOption (slice_get self.now.names.items number)
+            (result.now ≡ []) (λ name. result.now ≡ name.items) }
+    {
         match self.names.get(number) {
             Some(name) => name.as_slice(),
             None => &[],

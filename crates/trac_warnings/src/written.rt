@@ -1,14 +1,12 @@
 //! What is suspicious in how a script is written, before it is run.
-ghost use Rattle.std.specs.Prelude.{◌≡◌, ◌≤◌, length, true};
 ghost use Rattle.trac_warnings.specs.Watched.{Kept};
 
 use crate::origin::Origin;
+use crate::spelling::{names_function, spelling_of};
 use crate::strings::begins_with_mark;
 use crate::warning::{Suspicion, Warning};
 use std::alloc::{AllocError, Global};
 use trac_core::is_layout;
-use trac_functions::function::function_named;
-use trac_space::Cell;
 
 // How many numbered lines are suspicious.
 const FEW_LINES: usize = 3;
@@ -84,7 +82,7 @@ fn is_numbered(line: &[u8]) -> bool {
     rest.len() < line.len() && matches!(rest, [b' ', b'#' | b'(' | b':', ..])
 }
 
-// Looks for what is nearly a call.
+// Looks for what is nearly the beginning of a call. Of a parenthesis of which this is said nothing more is.
 #[tactic(auto, using(crate::proofs::Keeping::keeping))]
 fn look_at_spelling(
     warnings: &mut Vec<Warning>,
@@ -93,39 +91,27 @@ fn look_at_spelling(
 ) -> Result<(), AllocError>
     ensures { Kept warnings.old.items warnings.new.items }
 {
+    let mut is_told = false;
     for place in 0..input.len() {
-        let rest = &input[place..];
-        if let Some(suspicion) = spelling_at(rest) {
+        if let Some(suspicion) = spelling_of(&input[place..]) {
             warn_at(warnings, alloc, suspicion, place, &[])?;
-        }
-        let is_call = place > 0 && input[place - 1] == b'#';
-        if !is_call && names_function(rest) {
-            warn_at(warnings, alloc, Suspicion::NoNumberSign, place, &rest[1..3])?;
+            is_told = suspicion != Suspicion::Bracket;
+        } else if input[place] == b'(' {
+            let behind = &input[place + 1..];
+            let is_call = place > 0 && input[place - 1] == b'#';
+            if !is_told && !is_call && names_function(b',', behind) {
+                warn_at(
+                    warnings,
+                    alloc,
+                    Suspicion::NoNumberSign,
+                    place,
+                    &behind[..2],
+                )?;
+            }
+            is_told = false;
         }
     }
     Ok(())
-}
-
-// What is nearly the beginning of a call at the head of bytes.
-fn spelling_at(bytes: &[u8]) -> Option<Suspicion> {
-    match bytes {
-        [b':', b'(', ..] => Some(Suspicion::Colon),
-        [b'#', b' ', b'(', ..] => Some(Suspicion::Blank),
-        [b'#', b'[', ..] => Some(Suspicion::Bracket),
-        _ => None,
-    }
-}
-
-// Whether a left parenthesis with the name of a function and a comma stands at the head of bytes.
-fn names_function(bytes: &[u8]) -> bool
-    ensures { result ≡ true → 3 ≤ length bytes.now }
-{
-    match *bytes {
-        [b'(', first, second, b',', ..] => {
-            function_named(&[Cell::Byte(first), Cell::Byte(second)]).is_some()
-        }
-        _ => false,
-    }
 }
 
 // Adds a warning of a place of the input.

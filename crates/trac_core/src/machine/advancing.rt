@@ -3,7 +3,7 @@ ghost use Rattle.std.specs.Prelude.{◌≡◌, ◌+◌, ◌<◌, ◌≤◌, ◌^
 ghost use Rattle.trac_forms.specs.Contents.{IsSound};
 ghost use Rattle.trac_functions.specs.Calls.{KeepsRoom};
 ghost use Rattle.trac_core.specs.Machine.{KeepsLimits};
-ghost use Rattle.trac_core.specs.StepsInRow.{running};
+ghost use Rattle.trac_core.specs.StepsInRow.{running, IsPlainFrom};
 ghost use Rattle.trac_core.specs.Advancing.{Advanced, advanced_to};
 ghost use Rattle.trac_core.specs.Session.{next_function};
 
@@ -27,6 +27,8 @@ pub struct Progress {
 #[derive(Clone, Copy)]
 pub(super) struct Advance {
     progress: Progress,
+    /// A place of the neutral string from which on no comma mark stands.
+    plain: u32,
     /// The steps and the peak that are counted then, and how the run ended, if it did.
     steps: u64,
     peak: u32,
@@ -34,14 +36,14 @@ pub(super) struct Advance {
 }
 
 impl<'a> Machine<'a> {
-    /// Makes steps, at most so many, as `step` does, but none that reads or prints, so that it
-    /// needs no device: it stops before a call of `rs`, `rc`, `ps` or `pf`. Gives how many steps
-    /// were done after which the run went on. They are fewer than so many only if it stopped there,
-    /// the allowance is used up, or the next step ended the run, by `hl` or since it needs more than
-    /// the room; with the allowance used up the run isn't over before the next call of `step`. Where
-    /// the run is over before, nothing is done. This processor's own choice.
+    /// Makes at most `most` steps, as `step` does, but none that reads or prints, so that it needs
+    /// no device: it stops before a call of `rs`, `rc`, `ps` or `pf`. Gives how many steps were done
+    /// after which the run went on. They are fewer than `most` only if it stopped there, the allowance
+    /// is used up, or the next step ended the run, by `hl` or since it needs more than the room. With
+    /// the allowance used up, the next call of `step` ends the run. Where the run is over before,
+    /// nothing is done. This processor's own choice.
     pub fn advance(&mut self, most: u64) -> Progress
-        // so many steps of the definition, whatever the devices hold, and why they are no more
+        // these are steps of the definition, whatever the devices hold, and this is why no more are done
         ensures advanced { self.old.fate ≡ None → Advanced most result.done self.old self.new }
         ensures few { result.done ≤ most }
         // where they are fewer, what the next step performs
@@ -68,12 +70,13 @@ impl<'a> Machine<'a> {
         self.steps = to.steps;
         self.peak = to.peak;
         self.fate = to.fate;
+        self.plain = to.plain;
         to.progress
     }
 }
 
-/// Makes steps that touch no device, at most so many, of a run that isn't over and has these
-/// counters, which are single values here, as in `run_to_end`.
+/// Makes at most `most` steps that touch no device, of a run that isn't over and has these counters.
+/// They are single values here, so that they need not stand in memory.
 #[inline(never)]
 fn go_alone(work: &mut Work, meta: &mut u8, at: Counters, most: u64) -> Advance
     requires sound { IsSound work.old }
@@ -84,6 +87,7 @@ fn go_alone(work: &mut Work, meta: &mut u8, at: Counters, most: u64) -> Advance
     ensures few { result.progress.done ≤ most }
     ensures next { result.progress.done < most →
         result.progress.next ≡ next_function (advanced_to work.new meta.new at result) }
+    ensures plain { IsPlainFrom result.plain work.new.neutral }
     ensures steps { result.steps ≤ at.allowance }
     ensures peak { result.peak ≤ work.old.room }
     ensures keeps { KeepsRoom work.old work.new }
@@ -103,7 +107,7 @@ fn go_alone(work: &mut Work, meta: &mut u8, at: Counters, most: u64) -> Advance
             Err(front) => {
                 let last = match carry_alone(work, front, meta) {
                     Ok(last) => last,
-                    Err(function) => return going(reach - left, function, at.steps, peak),
+                    Err(function) => return going(reach - left, function, plain, at.steps, peak),
                 };
                 if let Some(fate) = last.fate {
                     let report = ended(fate, last.need, at.steps + (reach - left), peak);
@@ -112,6 +116,7 @@ fn go_alone(work: &mut Work, meta: &mut u8, at: Counters, most: u64) -> Advance
                             done: reach - left,
                             next: None,
                         },
+                        plain: work.neutral_len(),
                         steps: report.steps,
                         peak: report.peak,
                         fate: Some(report.fate),
@@ -125,15 +130,16 @@ fn go_alone(work: &mut Work, meta: &mut u8, at: Counters, most: u64) -> Advance
             }
         }
     }
-    going(reach, None, at.steps, peak)
+    going(reach, None, plain, at.steps, peak)
 }
 
 /// `done` steps after `steps` others, with this peak, and what the next one performs; the run goes
 /// on.
-fn going(done: u64, next: Option<Function>, steps: u64, peak: u32) -> Advance
+fn going(done: u64, next: Option<Function>, plain: u32, steps: u64, peak: u32) -> Advance
     requires { steps + done < 2 ^ 64 }
     ensures { result ≡ record {
       progress = record { done = done; next = next };
+      plain = plain;
       steps = steps + done;
       peak = peak;
       fate = None;
@@ -141,6 +147,7 @@ fn going(done: u64, next: Option<Function>, steps: u64, peak: u32) -> Advance
 {
     Advance {
         progress: Progress { done, next },
+        plain,
         steps: steps + done,
         peak,
         fate: None,

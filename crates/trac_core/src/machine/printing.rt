@@ -9,10 +9,12 @@ ghost use Rattle.trac_core.specs.Attempts.{function_at};
 ghost use Rattle.trac_core.specs.Display.{display_named};
 ghost use Rattle.trac_core.specs.Performed.{performs, prints_output};
 ghost use Rattle.trac_core.specs.Session.{next_function, next_printed, step_prints, call_prints};
+ghost use Rattle.trac_core.specs.StepsInRow.{IsPlainFrom};
 
 use super::Machine;
 use super::closing::{closed_call, named_at};
 use crate::display::display_len;
+use crate::scan::InnermostCall;
 use trac_forms::Work;
 use trac_language::Function;
 
@@ -29,7 +31,7 @@ impl<'a> Machine<'a> {
         if self.steps == self.allowance {
             return 0;
         }
-        printed_len(&mut self.work)
+        printed_len(&mut self.work, self.plain)
     }
 
     /// How many bytes the next step prints, as `prints` counts them, where they are more than `free`.
@@ -44,7 +46,7 @@ impl<'a> Machine<'a> {
         ensures same { self.new ≡ self.old }
     {
         if prints(function) {
-            printed_past(&mut self.work, function, free)
+            printed_past(&mut self.work, self.plain, function, free)
         } else {
             None
         }
@@ -60,8 +62,9 @@ fn prints(function: Option<Function>) -> bool
 }
 
 /// How many bytes a step over these contents prints, which performs this function, where they are
-/// more than `free`.
-fn printed_past(work: &mut Work, function: Option<Function>, free: u64) -> Option<u32>
+/// more than `free`. From the plain place on no comma mark stands in the neutral string.
+fn printed_past(work: &mut Work, plain: u32, function: Option<Function>, free: u64) -> Option<u32>
+    requires plain { IsPlainFrom plain work.old.neutral }
     requires asked { (meta : ℕ) → function ≡ performs (memory_of meta work.old) }
     ensures past { (meta : ℕ) → MatchOption result
         ((input : Input) → length (step_prints (memory_of meta work.old) input) ≤ free)
@@ -72,17 +75,23 @@ fn printed_past(work: &mut Work, function: Option<Function>, free: u64) -> Optio
 {
     match closed_call(work) {
         None => None,
-        Some(place) => call_past(work, place, function, free),
+        Some(place) => call_past(work, InnermostCall { place, plain }, function, free),
     }
 }
 
-/// How many bytes the innermost call prints, whose mark stands at the place and which names this
-/// function, where they are more than `free`.
-fn call_past(work: &mut Work, place: u32, function: Option<Function>, free: u64) -> Option<u32>
-    requires innermost { IsLastCall work.old.neutral place }
-    requires named { function ≡ function_at work.old.neutral place }
+/// How many bytes the innermost call prints, which names this function, where they are more than
+/// `free`.
+fn call_past(
+    work: &mut Work,
+    call: InnermostCall,
+    function: Option<Function>,
+    free: u64,
+) -> Option<u32>
+    requires innermost { IsLastCall work.old.neutral call.place }
+    requires plain { IsPlainFrom call.plain work.old.neutral }
+    requires named { function ≡ function_at work.old.neutral call.place }
     requires sound { IsSound work.old }
-    ensures past { (meta : ℕ) → let printed = call_prints work.old place meta in
+    ensures past { (meta : ℕ) → let printed = call_prints work.old call.place meta in
         MatchOption result
         ((input : Input) → length (printed input) ≤ free)
         (λ n. (free < n) × ((input : Input) → n ≡ length (printed input))) }
@@ -92,7 +101,7 @@ fn call_past(work: &mut Work, place: u32, function: Option<Function>, free: u64)
     if u64::from(work.neutral_len()) <= free && !displays(function) {
         return None;
     }
-    let printed = call_len(work, place);
+    let printed = call_len(work, call);
     if u64::from(printed) <= free {
         None
     } else {
@@ -113,8 +122,10 @@ fn displays(function: Option<Function>) -> bool
     }
 }
 
-/// How many bytes a step over these contents prints.
-fn printed_len(work: &mut Work) -> u32
+/// How many bytes a step over these contents prints. From the plain place on no comma mark stands in
+/// the neutral string.
+fn printed_len(work: &mut Work, plain: u32) -> u32
+    requires { IsPlainFrom plain work.old.neutral }
     ensures length { (meta : ℕ) (input : Input) →
         result ≡ length (step_prints (memory_of meta work.old) input) }
     ensures same { work.new ≡ work.old }
@@ -122,19 +133,20 @@ fn printed_len(work: &mut Work) -> u32
 {
     match closed_call(work) {
         None => 0,
-        Some(place) => call_len(work, place),
+        Some(place) => call_len(work, InnermostCall { place, plain }),
     }
 }
 
-/// How many bytes the innermost call prints, whose mark stands at the place.
-fn call_len(work: &mut Work, place: u32) -> u32
-    requires { IsLastCall work.old.neutral place }
+/// How many bytes the innermost call prints.
+fn call_len(work: &mut Work, call: InnermostCall) -> u32
+    requires innermost { IsLastCall work.old.neutral call.place }
+    requires plain { IsPlainFrom call.plain work.old.neutral }
     ensures length { (meta : ℕ) (input : Input) →
-        result ≡ length (call_prints work.old place meta input) }
+        result ≡ length (call_prints work.old call.place meta input) }
     ensures same { work.new ≡ work.old }
     ensures sound { IsSound work.new }
 {
-    let (function, mut arguments) = named_at(work, place);
+    let (function, mut arguments) = named_at(work, call.place, call.plain);
     let part = arguments.next(work);
     match function {
         None => 0,

@@ -38,8 +38,8 @@ returns-in-Some-clause-advanced c =
     let tried = subst (λ fate. TriedAlone w c.loop-left.meta fate c.in-Ok-carry_alone.last.need c.carry_alone.new.work c.carry_alone.new.meta) c.in-Some.is h.tried in
     let counts = c.ended-report.ensures.counts (running w c.loop-left.meta at) (memory_of c.carry_alone.new.meta c.carry_alone.new.work) refl refl in
     alone-ends start w c.carry_alone.new.work c.loop-left.meta c.args.at done c.loop-left.peak
-    c.args.most c.carry_alone.new.meta c.in-Ok-carry_alone.last.need c.in-Some.fate _ h.keeps.room (omega (arith, i.allowed, i.few, c.loop-left-test.true)) (omega (arith, i.wanted, i.few, c.loop-left-test.true)) tried
-    (ap (λ report. record { progress = record { done = done; next = None }; steps = report.steps; peak = report.peak; fate = Some report.fate }) counts) goes
+    c.args.most c.carry_alone.new.meta c.in-Ok-carry_alone.last.need c.neutral_len.result c.in-Some.fate _ h.keeps.room (omega (arith, i.allowed, i.few, c.loop-left-test.true)) (omega (arith, i.wanted, i.few, c.loop-left-test.true)) tried
+    (ap (λ report. record { progress = record { done = done; next = None }; plain = c.neutral_len.result; steps = report.steps; peak = report.peak; fate = Some report.fate }) counts) goes
 
 pub loop-left-preserved : goal.loop-left-preserved
 loop-left-preserved c =
@@ -75,7 +75,7 @@ returns-clause-advanced c =
     let all : c.min-reach.result ≡ done = omega (arith, c.loop-left-test.false) in
     let why = least-of c.args.most (c.args.at.allowance - c.args.at.steps) c.min-reach.result c.min-reach.ensures in
     alone-stays start c.loop-left.work c.loop-left.work c.loop-left.meta c.args.at done c.loop-left.peak
-    c.args.most c.min-reach.result None c.going-2.result refl c.going-2.ensures all (go why all) i.goes
+    c.args.most c.min-reach.result c.loop-left.plain None c.going-2.result refl c.going-2.ensures all (go why all) i.goes
   where
     go : (c.min-reach.result ≡ c.args.most) ⊎ (c.min-reach.result ≡ c.args.at.allowance - c.args.at.steps) → c.min-reach.result ≡ c.min-reach.result - c.loop-left.left → (c.min-reach.result - c.loop-left.left ≡ c.args.most) ⊎ NeedsMore (running c.loop-left.work c.loop-left.meta (counters_after c.args.at (c.min-reach.result - c.loop-left.left) c.loop-left.peak))
     go (inl wanted) all = inl (sym all ∙ wanted)

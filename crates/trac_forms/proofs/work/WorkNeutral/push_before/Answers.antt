@@ -1,6 +1,6 @@
 use Rattle.trac_forms.proofs.Words.{take, true, arith, length-take-le, claimed-kept}
 use Rattle.trac_forms.proofs.Strings.{used-stored, text-appended}
-use Rattle.trac_forms.proofs.work.Work.push_before.Goals as goal
+use Rattle.trac_forms.proofs.work.WorkNeutral.push_before.Goals as goal
 
 pub invariant_of-self : goal.invariant_of-self
 invariant_of-self c =
