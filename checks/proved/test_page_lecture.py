@@ -306,6 +306,10 @@ class Long(Lecture):
             for place in (12, 17, last - 16):
                 self.quick('step', 16, place=place)
                 self.quick('back', 32, place=place + 9)
+            # the steps at which the text is read, taken, kept and printed too
+            for place in range(last):
+                self.quick('step', 16, count=1, place=place)
+                self.quick('back', 32, count=1, place=place + 1)
 
     def test_a_long_output(self):
         script = "#(ds,l,(#(ps,(0123456789 0123456789 0123456789 012345678\n))#(gr,N,0,(#(cl,l,#(su,N,1))))))" \

@@ -156,19 +156,23 @@ export class History {
      * @param {{cells: number, steps: number}} limits
      */
     static async of(input, limits) {
-        const [shown, lister] = [await Session.open(limits), await Session.open(limits)];
-        return new History(new Walker(shown, input), new Walker(lister, input), limits);
+        const walker = async () => new Walker(await Session.open(limits), input);
+        const peeker = limits.cells > MOST_PEEKED ? null : await walker();
+        return new History(await walker(), await walker(), peeker, limits);
     }
 
     /**
      * Use `History.of`.
      * @param {Walker} shown
      * @param {Walker} lister
+     * @param {Walker | null} peeker the one that is a step ahead; none where the block is so large that this
+     * takes long
      * @param {{cells: number, steps: number}} limits
      */
-    constructor(shown, lister, limits) {
+    constructor(shown, lister, peeker, limits) {
         this.shown = shown;
         this.lister = lister;
+        this.peeker = peeker;
         this.limits = limits;
         this.pace = new Pace();
         /** The steps after which a call is performed by the next step, as far as they are listed. */
@@ -337,13 +341,15 @@ export class History {
     }
 
     /**
-     * What a call gave that the last step performed, or null where it performed none that is over.
+     * What a call gave that the last step of a walker performed, or null where it performed none that is
+     * over.
      * @param {Call | null} [call]
+     * @param {Walker} [walker]
      * @returns {Value | null}
      */
-    value(call = this.performed) {
-        if (!call || !GIVES_VALUES.has(this.shown.state.fate)) return null;
-        const { machine } = this;
+    value(call = this.performed, walker = this.shown) {
+        if (!call || !GIVES_VALUES.has(walker.state.fate)) return null;
+        const machine = walker.session;
         const { active, neutral } = machine.parts();
         const grown = active - (call.active - 1);
         const isActive = grown > 0 || call.mark === ACTIVE_CALL;
@@ -357,14 +363,20 @@ export class History {
     }
 
     /**
-     * What the call gives that the next step performs: the step is made, and taken back. Null where
-     * the block is so large that this takes long, and where the step gives nothing.
+     * What the call gives that the next step performs: another machine makes that step. Null where
+     * there is no such machine, and where the step gives nothing.
      * @returns {Value | null}
      */
     comingValue() {
-        if (this.limits.cells > MOST_PEEKED || this.step >= this.end.step) return null;
-        const call = this.coming();
-        return this.shown.attempt(() => this.value(call));
+        const { peeker, step } = this;
+        if (!peeker || step >= this.end.step) return null;
+        const isNear = (/** @type {number} */ from) => from <= step + 1 && step - from <= NEAREST;
+        if (peeker.isOver || !isNear(peeker.state.step)) {
+            const nearest = this.nearest(step);
+            peeker.restore(isNear(nearest.state.step) ? nearest : this.shown.save());
+        }
+        peeker.advance(step + 1 - peeker.state.step);
+        return this.value(this.coming(), peeker);
     }
 
     /** The step that is looked at: so many steps are done. */

@@ -125,21 +125,6 @@ export class Walker {
         if (output.length) this.onPrinted(output);
     }
 
-    /**
-     * What there is to see after one more step, which is taken back.
-     * @template T
-     * @param {() => T} see
-     * @returns {T}
-     */
-    attempt(see) {
-        const [machine, state] = [this.session.save(), { ...this.state }];
-        this.advance(1);
-        const seen = see();
-        this.session.restore(machine);
-        this.state = state;
-        return seen;
-    }
-
     /** All that it takes to come back here, and how many bytes that is. */
     save() {
         const machine = this.session.save();
