@@ -26,7 +26,7 @@ pub(crate) fn lay_active(machine: &mut Machine<'static>, from: usize, room: &mut
     lay_characters(cells_from(machine.active(), from), room)
 }
 
-/// The cells from a place on, none where there are no more than so many.
+/// The cells from a place on, none where the string ends before it.
 fn cells_from(cells: &[Cell], from: usize) -> &[Cell]
     ensures { result.now ≡ drop from cells.now }
 {
@@ -53,8 +53,9 @@ pub(crate) fn lay_neutral(machine: &mut Machine<'static>, from: usize, room: &mu
     lay_marks(machine.neutral(), from, room)
 }
 
-/// The same of the cells of a neutral string. A comma mark outside all calls, where none ever
-/// stands, counts as a character.
+/// Puts the codes of the cells of a neutral string to the front of a buffer, as far as it reaches, and
+/// gives how many codes these cells have. A comma mark outside all calls, where none ever stands,
+/// counts as a character.
 fn lay_marks(cells: &[Cell], from: usize, room: &mut [u32]) -> usize
     ensures length { result ≡ length (drop from (codes_of_neutral (neutral_of cells.now))) }
     ensures laid { room.new ≡ laid (drop from (codes_of_neutral (neutral_of cells.now))) room.old }
@@ -82,7 +83,8 @@ pub(crate) fn lay_calls(machine: &mut Machine<'static>, room: &mut [u32]) -> usi
     lay_places(machine.neutral(), room)
 }
 
-/// The same of the cells of a neutral string.
+/// Puts the places of the call marks of a neutral string to the front of a buffer, as far as it
+/// reaches, and gives how many calls are open.
 fn lay_places(cells: &[Cell], room: &mut [u32]) -> usize
     requires { length cells.now < 2 ^ 32 }
     ensures length { result ≡ length (call_places (neutral_of cells.now)) }
@@ -207,7 +209,7 @@ pub(crate) fn drops(machine: &mut Machine<'static>) -> usize
 }
 
 /// How many steps come before the next one that may perform a call or loads the idling procedure, at
-/// most so many.
+/// most `most`.
 pub(crate) fn steps_to_call(machine: &mut Machine<'static>, most: u64) -> u64
     ensures { (result ≡ steps_before_call most machine.old.memory.active) ×
         (machine.new ≡ machine.old) }

@@ -37,8 +37,9 @@ pub unsafe extern "C" fn trac_engine_form_name(machine: *mut u64, k: usize, to: 
     lay_name(&mut *(machine as *mut Machine<'static>), k, to)
 }
 
-/// The same of the display of form `k`, as `pf` prints it: gaps as their ordinals in angle brackets,
-/// and `<^>` at the pointer.
+/// The length of the display of form `k`, as `pf` prints it: gaps as their ordinals in angle brackets,
+/// and `<^>` at the pointer. It goes to the front of `to`, as much of it as fits. Where there is no
+/// such form, 0, and `to` stays as it is.
 #[unsafe(no_mangle)]
 pub unsafe extern "C" fn trac_engine_form_text(machine: *mut u64, k: usize, to: &mut [u8]) -> usize
     ghost held: { MachineState }
@@ -49,8 +50,9 @@ pub unsafe extern "C" fn trac_engine_form_text(machine: *mut u64, k: usize, to: 
     lay_display(&mut *(machine as *mut Machine<'static>), k, to)
 }
 
-/// The same of the body of form `k`, a number for each item: a byte as it is, a gap as 255 more than
-/// its ordinal.
+/// How many items the body of form `k` has. A number for each goes to the front of `to`, as many as
+/// fit: a byte as it is, a gap as 255 more than its ordinal. Where there is no such form, 0, and `to`
+/// stays as it is.
 #[unsafe(no_mangle)]
 pub unsafe extern "C" fn trac_engine_form_codes(
     machine: *mut u64,

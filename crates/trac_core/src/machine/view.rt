@@ -88,8 +88,8 @@ impl<'a> Machine<'a> {
     }
 
     /// How many steps come before the next one that follows the rule of a right parenthesis or that of
-    /// an empty active string, at most so many: none of them performs a call. They are counted as if
-    /// the allowance had no end, and nothing is changed. This processor's own choice.
+    /// an empty active string, at most `most`: none of them performs a call. They are counted as if the
+    /// allowance had no end, and nothing is changed. This processor's own choice.
     pub fn steps_to_call(&self, most: u64) -> u64
         ensures { result ≡ steps_before_call most self.now.memory.active }
     {
@@ -222,7 +222,7 @@ fn taken_in_row(row: ScanningRule) -> usize
 }
 
 /// How many steps over an active string come before one by the rule of a right parenthesis or of an
-/// empty string, at most so many.
+/// empty string, at most `most`.
 fn steps_before_call(active: &[Cell], most: u64) -> u64
     requires few { length active.now ≤ 16777216 }
     requires bytes { All IsByte active.now }
