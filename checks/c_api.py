@@ -121,6 +121,30 @@ class Engine:
         self.assertEqual([parts[0][2] for parts in steps], [39] * 15 + [33] * (len(steps) - 15))
         self.assertEqual([parts[0][1] for parts in steps if parts[0][1]], [1, 1, 2, 1])
 
+    def test_what_a_step_takes_and_when_a_call_comes(self):
+        ends = {0, 7}  # the rules idling and end of call
+        taken = dropped = opened = 0
+        for row in rows():
+            with self.subTest(row=row):
+                steps, _, _ = view(self.programs[2], row, 300)
+                for place, (numbers, neutral, active, calls, ahead) in enumerate(steps):
+                    marks = [place for place, code in enumerate(neutral) if code in (256, 257)]
+                    self.assertEqual(calls, marks[::-1])
+                    opened += len(calls)
+                    takes, drops, few, all_of_them = ahead
+                    coming = [step[0][0] in ends for step in steps[place:]]
+                    if True in coming:
+                        self.assertEqual(all_of_them, coming.index(True))
+                    self.assertEqual(few, min(4, all_of_them))
+                    if place + 1 < len(steps) and numbers[0] not in ends:
+                        after = steps[place + 1]
+                        self.assertEqual(active[takes:], after[2])
+                        is_lost = numbers[0] == 2 and after[1] == neutral and active[:2] != [*b'()']
+                        self.assertEqual(drops, takes if is_lost else 0)
+                        taken += takes > 3
+                        dropped += drops > 0
+        self.assertGreater(min(taken, dropped, opened), 5)
+
     def test_the_forms_of_each_row(self):
         compared = 0
         for row in rows():

@@ -72,6 +72,9 @@ static int is_refused(trac_machine *machine) {
     return trac_turn(machine, "", 0, 1, NULL, 0, 9).fate == TRAC_REFUSED && trac_again(machine, 9) == TRAC_REFUSED &&
            !trac_form_count(machine) && !trac_next_form(machine, &form) && !trac_neutral(machine, &code, 1) &&
            !trac_active(machine, &code, 1) && trac_rule(machine) == TRAC_REFUSED &&
+           !trac_neutral_part(machine, 0, &code, 1) && !trac_active_part(machine, 0, &code, 1) &&
+           !trac_calls(machine, &code, 1) && !trac_takes(machine) && !trac_drops(machine) &&
+           !trac_steps_to_call(machine, 9) &&
            !trac_part(machine, TRAC_PART_FREE) && trac_meta(machine) == 256 && trac_awaits(machine) == TRAC_REFUSED;
 }
 
@@ -104,7 +107,10 @@ static int pointers(void) {
     if (trac_open(&machine, cells, 64, 99) || trac_part(&machine, TRAC_PART_FREE) != 64 ||
         trac_turn(&machine, byte, 4, 1, NULL, 0, 1).fate != TRAC_GOING ||
         trac_active(&machine, NULL, 0) != 11 || trac_active(&machine, NULL, 1) ||
-        trac_active(&machine, crooked, 1) || trac_neutral(&machine, crooked, 1))
+        trac_active(&machine, crooked, 1) || trac_neutral(&machine, crooked, 1) ||
+        trac_active_part(&machine, 2, NULL, 0) != 9 || trac_active_part(&machine, 2, NULL, 1) ||
+        trac_active_part(&machine, SIZE_MAX, NULL, 0) || trac_neutral_part(&machine, 1, NULL, 0) ||
+        trac_calls(&machine, crooked, 1) || trac_takes(&machine) != 2 || trac_steps_to_call(&machine, 3) != 3)
         return 5;
     if (trac_again(&machine, 99) || trac_turn(&machine, "#(ds,a,b)'", 10, 1, NULL, 0, 99).fate != TRAC_INPUT_ENDED ||
         !trac_next_form(&machine, &form) || trac_form_name(&form, byte, 4) != 1 || byte[0] != 'a' ||
@@ -185,6 +191,19 @@ static size_t neutral_of(void *to, size_t room) { return trac_neutral(seen, (uin
 
 static size_t active_of(void *to, size_t room) { return trac_active(seen, (uint32_t *)to, room); }
 
+/* Where a part of a string begins that is looked at. */
+static size_t part_from;
+
+static size_t neutral_part_of(void *to, size_t room) {
+    return trac_neutral_part(seen, part_from, (uint32_t *)to, room);
+}
+
+static size_t active_part_of(void *to, size_t room) {
+    return trac_active_part(seen, part_from, (uint32_t *)to, room);
+}
+
+static size_t calls_of(void *to, size_t room) { return trac_calls(seen, (uint32_t *)to, room); }
+
 /* Whether a room of so many items gets the first of these, as many as fit, and nothing more. */
 static int fills(size_t (*lay)(void *, size_t), size_t size, const uint8_t *items, size_t len,
                  size_t room) {
@@ -223,13 +242,33 @@ static void tell_items(size_t (*lay)(void *, size_t), size_t size) {
     free(items);
 }
 
+/* Compares the parts of a string with the whole: from its front, its middle, its end and behind it. */
+static void compare_parts(size_t (*whole)(void *, size_t), size_t (*part)(void *, size_t)) {
+    size_t len, part_len;
+    uint32_t *items = (uint32_t *)(void *)laid(whole, sizeof *items, &len);
+    const size_t froms[] = {0, len / 2, len, len + 1, SIZE_MAX};
+    for (size_t i = 0; i < sizeof froms / sizeof *froms; i++) {
+        part_from = froms[i];
+        uint32_t *some = (uint32_t *)(void *)laid(part, sizeof *some, &part_len);
+        if (part_len != (part_from < len ? len - part_from : 0) ||
+            (part_len && memcmp(some, items + part_from, part_len * sizeof *some) != 0))
+            exit(83);
+        free(some);
+    }
+    free(items);
+}
+
 static void tell_step(void) {
     printf("%" PRIu32 " %" PRIu32 " %" PRIu32, trac_rule(seen), trac_awaits(seen), trac_meta(seen));
     for (uint32_t part = TRAC_PART_STORE; part <= TRAC_PART_ACTIVE; part++)
         printf(" %zu", trac_part(seen, part));
     tell_items(neutral_of, sizeof(uint32_t));
     tell_items(active_of, sizeof(uint32_t));
-    putchar('\n');
+    tell_items(calls_of, sizeof(uint32_t));
+    printf("|%zu %zu %" PRIu64 " %" PRIu64 "\n", trac_takes(seen), trac_drops(seen), trac_steps_to_call(seen, 4),
+           trac_steps_to_call(seen, UINT64_MAX));
+    compare_parts(neutral_of, neutral_part_of);
+    compare_parts(active_of, active_part_of);
 }
 
 /* Compares the display of a form with what `pf` prints, where its name can be written in a call. */

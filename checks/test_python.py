@@ -133,6 +133,35 @@ def test_the_steps_of_the_manual(trac_t64):
     assert (session.step(), list(session)) == (None, [])
 
 
+def test_what_comes_next(trac_t64):
+    session = trac_t64.Session()
+    session.feed("#(ps,a##(eq,b,(c,(d)),#(ad,1", most=0)
+    session.feed("))))'((lost", most=0)
+    session.end(most=0)
+    ends, dropped = ('idling', 'end of call'), []
+    for _ in range(200):
+        codes, text = session.neutral, session.active
+        marks = [place for place, code in enumerate(codes) if code > 255 and code != trac_t64.COMMA_MARK]
+        assert session.calls == tuple(reversed(marks))
+        for start in (0, 1, len(codes), len(text), len(codes) + 1):
+            assert session.neutral_part(start, 4) == codes[start:start + 4]
+            assert session.active_part(start, 3) == text[start:start + 3]
+        assert (session.neutral_part(1), session.active_part(2)) == (codes[1:], text[2:])
+        takes, ahead, rule = session.takes, session.steps_to_call(), session.rule
+        dropped.append(session.drops)
+        assert session.steps_to_call(2) == min(2, ahead) and (ahead == 0) == (rule in ends)
+        if session.step() is None:
+            break
+        if rule not in ends:
+            assert session.active == text[takes:] and session.steps_to_call() == ahead - 1
+    assert sorted(dropped)[-2:] == [0, 7] and session.fate is trac_t64.Fate.INPUT_ENDED
+    for call in (session.neutral_part, session.active_part):
+        with pytest.raises(ValueError, match='start must be from 0'):
+            call(-1)
+    with pytest.raises(ValueError, match='most must be from 0'):
+        session.steps_to_call(-1)
+
+
 def test_iterating_stops_where_input_is_wanted(trac_t64):
     session = trac_t64.Session()
     assert [step.rule for step in session] == ['idling', 'active call', 'character', 'character', 'argument',

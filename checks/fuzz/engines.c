@@ -6,24 +6,26 @@
 
 #include <stdlib.h>
 
-enum { CHOICES = 5, MOST_ITEMS = 64, MOST_TURNS = 5000 };
+enum { CHOICES = 5, MOST_ITEMS = 64, MOST_TURNS = 5000, FROM = 5 };
 
 static void must(int holds) {
     if (!holds)
         abort();
 }
 
-/* What is seen of a machine: numbers, and both strings as far as they fit. */
+/* What is seen of a machine: numbers; both strings as far as they fit, from a place on; and the open calls. */
 typedef struct {
-    uint32_t numbers[8], neutral[MOST_ITEMS], active[MOST_ITEMS];
+    uint32_t numbers[11], neutral[MOST_ITEMS], active[MOST_ITEMS], calls[MOST_ITEMS];
 } view;
 
 static view see_proved(void) {
     const trac_machine *const m = &proved.machine;
     view seen = {{trac_rule(m), trac_awaits(m), trac_meta(m), (uint32_t)trac_form_count(m), (uint32_t)trac_part(m, 0),
-                  (uint32_t)trac_part(m, 1), (uint32_t)trac_part(m, 2), (uint32_t)trac_part(m, 3)}, {0}, {0}};
-    (void)trac_neutral(m, seen.neutral, MOST_ITEMS);
-    (void)trac_active(m, seen.active, MOST_ITEMS);
+                  (uint32_t)trac_part(m, 1), (uint32_t)trac_part(m, 2), (uint32_t)trac_part(m, 3), (uint32_t)trac_takes(m),
+                  (uint32_t)trac_drops(m), (uint32_t)trac_steps_to_call(m, FROM)}, {0}, {0}, {0}};
+    (void)trac_neutral_part(m, FROM, seen.neutral, MOST_ITEMS);
+    (void)trac_active_part(m, seen.numbers[8], seen.active, MOST_ITEMS);
+    (void)trac_calls(m, seen.calls, MOST_ITEMS);
     return seen;
 }
 
@@ -31,9 +33,11 @@ static view see_c(void) {
     const trac_machine *const m = &in_c.machine;
     view seen = {{c_trac_rule(m), c_trac_awaits(m), c_trac_meta(m), (uint32_t)c_trac_form_count(m),
                   (uint32_t)c_trac_part(m, 0), (uint32_t)c_trac_part(m, 1), (uint32_t)c_trac_part(m, 2),
-                  (uint32_t)c_trac_part(m, 3)}, {0}, {0}};
-    (void)c_trac_neutral(m, seen.neutral, MOST_ITEMS);
-    (void)c_trac_active(m, seen.active, MOST_ITEMS);
+                  (uint32_t)c_trac_part(m, 3), (uint32_t)c_trac_takes(m), (uint32_t)c_trac_drops(m),
+                  (uint32_t)c_trac_steps_to_call(m, FROM)}, {0}, {0}, {0}};
+    (void)c_trac_neutral_part(m, FROM, seen.neutral, MOST_ITEMS);
+    (void)c_trac_active_part(m, seen.numbers[8], seen.active, MOST_ITEMS);
+    (void)c_trac_calls(m, seen.calls, MOST_ITEMS);
     return seen;
 }
 

@@ -34,6 +34,7 @@ for (const [name, call] of Object.entries({
         const session = await Session.open({ cells: 10 });
         session.restore({ ...session.save(), machine: new Uint8Array(3) });
     },
+    from: async () => (await Session.open()).neutralPart(-1),
     savedPages: async () => {
         const session = await Session.open({ cells: 10 });
         session.restore({ ...session.save(), pages: [{ place: 1, words: new Uint32Array(20) }] });
@@ -63,6 +64,34 @@ for (const byte of new TextEncoder().encode('\u20ac')) {
     session.turn("'##(ps,##(rc))'");
 }
 
+/** What a session tells of its strings and of its next step that isn't so, step by step. */
+async function wrongLooks(script) {
+    const looked = await Session.open();
+    const wrong = [];
+    let dropped = 0;
+    for (let given = script; ;) {
+        const [neutral, active] = [looked.neutral(), looked.active()];
+        const marks = [...neutral.keys()].filter((at) => neutral[at] === 256 || neutral[at] === 257);
+        const [takes, ahead, rule] = [looked.takes(), looked.stepsToCall(), looked.rule()];
+        dropped += looked.drops();
+        const holds = {
+            neutralPart: [0, 2, neutral.length + 1].every(
+                (from) => String(looked.neutralPart(from, 3)) === String(neutral.subarray(from, from + 3))),
+            activePart: String(looked.activePart(1)) === String(active.subarray(1)),
+            calls: looked.callCount() === marks.length && String(looked.calls(2)) === String(marks.reverse().slice(0, 2)),
+            stepsToCall: looked.stepsToCall(1) === Math.min(1, ahead),
+        };
+        const told = looked.turn(given, { ended: true, most: 1 });
+        given = given.slice(told.consumed);
+        if (told.fate !== 'going') return { wrong, dropped };
+        if (ahead) holds.takes = String(looked.active()) === String(active.subarray(takes));
+        holds.rule = (ahead === 0) === (rule === 'idling' || rule === 'end of call');
+        for (const [name, isSo] of Object.entries(holds)) if (!isSo) wrong.push([String(told.steps), name]);
+    }
+}
+
+const looks = await wrongLooks("#(ps,a##(eq,b,(c,(d)),#(ad,1))))'((lost");
+
 const long = 3000000;
 const hundred = `#(ds,a,${'x'.repeat(1000)})#(ds,b,(#(ps,${'##(cl,a)'.repeat(100)})))`;
 const large = await run(`${hundred}${'#(cl,b)'.repeat(long / 100000)}'`,
@@ -73,6 +102,6 @@ const other = await Session.open({ cells: 10 });
 other.turn('abc', { ended: true });
 before.restore(other.save());
 console.log(JSON.stringify({
-    errors, failed, again, kept, buffer, mark, parts, large: large.output.length, json,
+    errors, looks, failed, again, kept, buffer, mark, parts, large: large.output.length, json,
     shown: Object.keys(before),
 }));

@@ -66,7 +66,7 @@ class Library(Engine, unittest.TestCase):
                 wanted = traced(row)
                 self.assertGreaterEqual(len(steps), len(wanted))
                 before = '|'
-                for ((rule, awaits, _, *cells), neutral, active), (name, size, after) in zip(
+                for ((rule, awaits, _, *cells), neutral, active, *_), (name, size, after) in zip(
                         steps, wanted):
                     self.assertEqual(
                         ''.join(map(shown, neutral)) + '|' + ''.join(map(shown, active)), before)

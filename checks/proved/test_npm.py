@@ -31,11 +31,14 @@ class Npm(unittest.TestCase):
             'stepsRange': 'RangeError: steps', 'option': 'TypeError: there is no option cell',
             'bytes': 'TypeError: bytes', 'input': 'TypeError: input',
             'how': 'TypeError: there is no option end', 'most': 'RangeError: most',
-            'saved': 'TypeError: saved', 'savedPages': 'TypeError: saved'}
+            'from': 'RangeError: from', 'saved': 'TypeError: saved', 'savedPages': 'TypeError: saved'}
         self.assertEqual(set(self.told['errors']), set(wanted))
         for name, begin in wanted.items():
             self.assertTrue((self.told['errors'][name] or '').startswith(begin),
                             (name, self.told['errors'][name]))
+
+    def test_what_comes_next(self):
+        self.assertEqual(self.told['looks'], {'wrong': [], 'dropped': 7})
 
     def test_a_load_that_failed_can_be_tried_again(self):
         self.assertTrue(self.told['failed'].startswith('CompileError'), self.told['failed'])

@@ -255,12 +255,12 @@ class Long(Lecture):
         self.assertEqual(self.steps()[0], there)
 
     def test_the_largest_block(self):
-        self.run_script(LOOP.format(1000000), '', 16777216, 4000000)
-        for place in (3999999, 1500000):
+        self.run_script(LOOP.format(3000000), '', 16777216, 60000000)
+        for place in (59999999, 31234567):
             self.go(place)
             for name in ('back', 'call-back'):
                 with self.subTest(place=place, name=name):
-                    self.quick(name, 1000, 200, count=3)
+                    self.quick(name, 300, 150, count=3)
 
     GAP = """
         const done = arguments[0];
@@ -306,6 +306,10 @@ class Long(Lecture):
             for place in (12, 17, last - 16):
                 self.quick('step', 16, place=place)
                 self.quick('back', 32, place=place + 9)
+            # the steps at which the text is read, taken, kept and printed too
+            for place in range(last):
+                self.quick('step', 16, count=1, place=place)
+                self.quick('back', 32, count=1, place=place + 1)
 
     def test_a_long_output(self):
         script = "#(ds,l,(#(ps,(0123456789 0123456789 0123456789 012345678\n))#(gr,N,0,(#(cl,l,#(su,N,1))))))" \

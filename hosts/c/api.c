@@ -165,16 +165,38 @@ size_t trac_form_pointer(const trac_form *form) {
     return machine ? trac_engine_form_pointer(machine, place_of(form)) : 0;
 }
 
-size_t trac_neutral(const trac_machine *machine, uint32_t *to, size_t room) {
+size_t trac_neutral_part(const trac_machine *machine, size_t from, uint32_t *to, size_t room) {
     if (!is_opened(machine) || !are_codes(to, room))
         return 0;
-    return trac_engine_neutral(seen(machine), laid_to(to), room);
+    return trac_engine_neutral_part(seen(machine), from, laid_to(to), room);
+}
+
+size_t trac_active_part(const trac_machine *machine, size_t from, uint32_t *to, size_t room) {
+    if (!is_opened(machine) || !are_codes(to, room))
+        return 0;
+    return trac_engine_active_part(seen(machine), from, laid_to(to), room);
+}
+
+size_t trac_neutral(const trac_machine *machine, uint32_t *to, size_t room) {
+    return trac_neutral_part(machine, 0, to, room);
 }
 
 size_t trac_active(const trac_machine *machine, uint32_t *to, size_t room) {
+    return trac_active_part(machine, 0, to, room);
+}
+
+size_t trac_calls(const trac_machine *machine, uint32_t *to, size_t room) {
     if (!is_opened(machine) || !are_codes(to, room))
         return 0;
-    return trac_engine_active(seen(machine), laid_to(to), room);
+    return trac_engine_calls(seen(machine), laid_to(to), room);
+}
+
+size_t trac_takes(const trac_machine *machine) { return is_opened(machine) ? trac_engine_takes(seen(machine)) : 0; }
+
+size_t trac_drops(const trac_machine *machine) { return is_opened(machine) ? trac_engine_drops(seen(machine)) : 0; }
+
+uint64_t trac_steps_to_call(const trac_machine *machine, uint64_t most) {
+    return is_opened(machine) ? trac_engine_steps_to_call(seen(machine), most) : 0;
 }
 
 uint32_t trac_rule(const trac_machine *machine) {

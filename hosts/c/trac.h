@@ -187,6 +187,28 @@ size_t trac_neutral(const trac_machine *machine, uint32_t *to, size_t room);
 /* The active string, the next character first. It has no marks. */
 size_t trac_active(const trac_machine *machine, uint32_t *to, size_t room);
 
+/* The same strings from a place on, counted in codes from 0: the answer is how many codes there are from there on, 0
+ * behind the end. */
+size_t trac_neutral_part(const trac_machine *machine, size_t from, uint32_t *to, size_t room);
+size_t trac_active_part(const trac_machine *machine, size_t from, uint32_t *to, size_t room);
+
+/* The open calls, the innermost first: the place at which the mark of each stands in the neutral string, counted in
+ * codes from 0. The arguments of a call stand behind its mark, up to that of the next call or to the end. */
+size_t trac_calls(const trac_machine *machine, uint32_t *to, size_t room);
+
+/* How many characters the next step takes from the front of the active string: the 2 or 3 that open a call; a text in
+ * parentheses with both of them; all, where a left parenthesis has no match; none of an empty string; and else 1. */
+size_t trac_takes(const trac_machine *machine);
+
+/* How many characters the next step drops: all of an active string that begins with a left parenthesis that has no
+ * match, and else none. */
+size_t trac_drops(const trac_machine *machine);
+
+/* How many steps come before the next one at a right parenthesis, which performs a call where one is open, or at an
+ * empty active string; at most `most`. None of them performs a call, reads or prints. They are counted as if the
+ * allowance had no end. */
+uint64_t trac_steps_to_call(const trac_machine *machine, uint64_t most);
+
 /* The rule that the next step follows, unless the run is over or ends before it: TRAC_RULE_..; or TRAC_REFUSED. */
 uint32_t trac_rule(const trac_machine *machine);
 

@@ -132,11 +132,55 @@ export class Session {
      */
     neutral(): Uint32Array;
     /**
+     * A part of the neutral string.
+     * @param {number} from the place of its first code, from 0
+     * @param {number} [most] at most so many codes; all from there on if left out
+     * @returns {Uint32Array} as `neutral` gives them; none behind the end
+     */
+    neutralPart(from: number, most?: number): Uint32Array;
+    /**
      * The active string.
      * @param {number} [most] at most so many characters, the first ones; all if left out
      * @returns {Uint32Array} a byte each, from 0 to 255
      */
     active(most?: number): Uint32Array;
+    /**
+     * A part of the active string.
+     * @param {number} from the place of its first character, from 0
+     * @param {number} [most] at most so many characters; all from there on if left out
+     * @returns {Uint32Array} a byte each; none behind the end
+     */
+    activePart(from: number, most?: number): Uint32Array;
+    /** How many calls are open. */
+    callCount(): number;
+    /**
+     * The open calls, the innermost first: the place at which the mark of each stands in the neutral
+     * string. Its arguments stand behind it, up to the mark of the next call or to the end.
+     * @param {number} [most] at most so many; all if left out
+     * @returns {Uint32Array}
+     */
+    calls(most?: number): Uint32Array;
+    /**
+     * How many characters the next step takes from the front of the active string: those that open a
+     * call; a text in parentheses with both of them; all, where a left parenthesis has no match; none
+     * of an empty string; and else one.
+     */
+    takes(): number;
+    /**
+     * How many characters the next step drops: all of an active string that begins with a left
+     * parenthesis that has no match, and else none.
+     */
+    drops(): number;
+    /**
+     * How many steps come before the next one at a right parenthesis, which performs a call where one is
+     * open, or at an empty active string. None of them performs a call, reads or prints. They are counted
+     * as if the allowance had no end.
+     * @param {number | bigint} [most] at most so many; without a bound if left out
+     * @returns {number} never more than the active string has characters
+     * @throws {TypeError} where `most` is no whole number
+     * @throws {RangeError} where it is out of its range
+     */
+    stepsToCall(most?: number | bigint): number;
     /**
      * The rule of scanning that the next step follows.
      * @returns {string} by its name in the manual: idling, layout, protection, argument, active call,

@@ -17,6 +17,8 @@ const CODE_SIZE = 4;
 const WORDS_IN_CELL = 2;
 /** The words of 32 bits in a page of a block. */
 const PAGE_WORDS = 16384;
+/** So many are looked at by one test. */
+const WORDS_AT_ONCE = 64;
 const REPORT_SIZE = 40;
 const LARGEST = 2n ** 64n - 1n;
 const REFUSED = 9;
@@ -315,9 +317,13 @@ function joined(rows) {
  * @param {Uint32Array} words
  */
 function areZero(words) {
-    let place = 0;
-    while (place < words.length && words[place] === 0) place += 1;
-    return place === words.length;
+    for (let from = 0; from < words.length; from += WORDS_AT_ONCE) {
+        const to = Math.min(from + WORDS_AT_ONCE, words.length);
+        let found = 0;
+        for (let place = from; place < to; place += 1) found |= words[place];
+        if (found) return false;
+    }
+    return true;
 }
 
 /**
@@ -541,7 +547,19 @@ export class Session {
      * call, 258 the mark between two arguments
      */
     neutral() {
-        return this.#codes((to, room) => this.#engine.trac_engine_neutral(this.#machine, to, room));
+        return this.neutralPart(0);
+    }
+
+    /**
+     * A part of the neutral string.
+     * @param {number} from the place of its first code, from 0
+     * @param {number} [most] at most so many codes; all from there on if left out
+     * @returns {Uint32Array} as `neutral` gives them; none behind the end
+     */
+    neutralPart(from, most = Infinity) {
+        const place = whole('from', from, 0n, LARGEST);
+        return this.#codes(
+            (to, room) => this.#engine.trac_engine_neutral_part(this.#machine, place, to, room), most);
     }
 
     /**
@@ -550,8 +568,66 @@ export class Session {
      * @returns {Uint32Array} a byte each, from 0 to 255
      */
     active(most = Infinity) {
+        return this.activePart(0, most);
+    }
+
+    /**
+     * A part of the active string.
+     * @param {number} from the place of its first character, from 0
+     * @param {number} [most] at most so many characters; all from there on if left out
+     * @returns {Uint32Array} a byte each; none behind the end
+     */
+    activePart(from, most = Infinity) {
+        const place = whole('from', from, 0n, LARGEST);
         return this.#codes(
-            (to, room) => this.#engine.trac_engine_active(this.#machine, to, room), most);
+            (to, room) => this.#engine.trac_engine_active_part(this.#machine, place, to, room), most);
+    }
+
+    /** How many calls are open. */
+    callCount() {
+        return Number(this.#engine.trac_engine_calls(this.#machine, this.#output.of(1), 0n));
+    }
+
+    /**
+     * The open calls, the innermost first: the place at which the mark of each stands in the neutral
+     * string. Its arguments stand behind it, up to the mark of the next call or to the end.
+     * @param {number} [most] at most so many; all if left out
+     * @returns {Uint32Array}
+     */
+    calls(most = Infinity) {
+        return this.#codes(
+            (to, room) => this.#engine.trac_engine_calls(this.#machine, to, room), most);
+    }
+
+    /**
+     * How many characters the next step takes from the front of the active string: those that open a
+     * call; a text in parentheses with both of them; all, where a left parenthesis has no match; none
+     * of an empty string; and else one.
+     */
+    takes() {
+        return Number(this.#engine.trac_engine_takes(this.#machine));
+    }
+
+    /**
+     * How many characters the next step drops: all of an active string that begins with a left
+     * parenthesis that has no match, and else none.
+     */
+    drops() {
+        return Number(this.#engine.trac_engine_drops(this.#machine));
+    }
+
+    /**
+     * How many steps come before the next one at a right parenthesis, which performs a call where one is
+     * open, or at an empty active string. None of them performs a call, reads or prints. They are counted
+     * as if the allowance had no end.
+     * @param {number | bigint} [most] at most so many; without a bound if left out
+     * @returns {number} never more than the active string has characters
+     * @throws {TypeError} where `most` is no whole number
+     * @throws {RangeError} where it is out of its range
+     */
+    stepsToCall(most = LARGEST) {
+        return Number(this.#engine.trac_engine_steps_to_call(
+            this.#machine, whole('most', most, 0n, LARGEST)));
     }
 
     /**

@@ -9,6 +9,8 @@ import { depthClass, element, find } from './dom.js';
 
 const MOST_COLOURED = 20000;
 const MOST_ASIDE = 20;
+// Of a long text so much of a part is marked: what stands behind it needs no layout then.
+const MOST_MARKED = 4000;
 const PIECE_READ = 256;
 const STORE = 'trac-t64-page';
 const strict = new TextDecoder('utf-8', { fatal: true, ignoreBOM: true });
@@ -146,13 +148,22 @@ class Box {
         this.box.parentElement.classList.toggle('coloured', isColoured);
         const [from, to] = part ? [part.from, part.to] : [text.length, text.length];
         const parts = isColoured ? this.colouredParts(text) : [{ node: text, at: 0 }];
-        const pieces = isColoured ? null : [text.slice(0, from), text.slice(from, to), text.slice(to)];
+        const end = isColoured || isWhole ? to : Math.min(to, from + MOST_MARKED);
+        const pieces = isColoured ? null : [text.slice(0, from), text.slice(from, end), text.slice(end)];
         const [front, middle, back] = pieces?.map((each) => [each]) ?? cut(parts, from, to);
         const marked = part ? [element('mark', part.isFault ? 'fault' : '', ...middle)] : middle;
-        if (isColoured || part || isWhole) this.sheet.replaceChildren(...front, ...marked, ...back, '\n');
+        if (isColoured || isWhole) this.sheet.replaceChildren(...front, ...marked, ...back, '\n');
+        else if (part) this.sheet.replaceChildren(...front, ...marked, this.rest());
         else this.sheet.replaceChildren();
         this.showPair();
         this.scrollUnder();
+    }
+
+    /** What stands on the sheet in place of the text behind a marked part: it scrolls as far as the box. */
+    rest() {
+        const made = element('div', '');
+        made.style.setProperty('height', `${this.box.scrollHeight}px`);
+        return made;
     }
 
     /**

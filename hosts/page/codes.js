@@ -9,43 +9,31 @@ export const NEUTRAL_CALL = 257;
 const COMMA = 258;
 
 /**
- * What each rule of scanning does, and how many characters it looks at.
- * @type {Record<string, {taken: number, says: string}>}
+ * What each rule of scanning does.
+ * @type {Record<string, string>}
  */
 export const RULES = {
-    idling: {
-        taken: 0,
-        says: 'The active string is empty: the idling procedure #(ps,#(rs)) is loaded, '
-            + 'and the neutral string is cleared.',
-    },
-    layout: { taken: 1, says: 'A tab, a line feed or a carriage return is deleted.' },
-    protection: {
-        taken: 1,
-        says: 'The text up to the matching right parenthesis is taken over unscanned, '
-            + 'and both parentheses are deleted.',
-    },
-    argument: { taken: 1, says: 'The comma is deleted, and a new argument of the call begins.' },
-    'active call': {
-        taken: 2,
-        says: 'An active call is opened: its value will be scanned again.',
-    },
-    'neutral call': {
-        taken: 3,
-        says: 'A neutral call is opened: its value will not be scanned again.',
-    },
-    'number sign': {
-        taken: 1,
-        says: 'The number sign opens no call here: it is taken over as it stands.',
-    },
-    'end of call': { taken: 1, says: 'The innermost open call is performed.' },
-    character: { taken: 1, says: 'The character is taken over as it stands.' },
+    idling: 'The active string is empty: the idling procedure #(ps,#(rs)) is loaded, '
+        + 'and the neutral string is cleared.',
+    layout: 'A tab, a line feed or a carriage return is deleted.',
+    protection: 'The text up to the matching right parenthesis is taken over unscanned, '
+        + 'and both parentheses are deleted.',
+    argument: 'The comma is deleted, and a new argument of the call begins.',
+    'active call': 'An active call is opened: its value will be scanned again.',
+    'neutral call': 'A neutral call is opened: its value will not be scanned again.',
+    'number sign': 'The number sign opens no call here: it is taken over as it stands.',
+    'end of call': 'The innermost open call is performed.',
+    character: 'The character is taken over as it stands.',
 };
 
 const LONGEST_RUN = 4096;
 /** Of how many characters a line is made at most. */
 export const MOST_IN_LINE = 400;
+/** The front of a row of codes that a line shows, and one code more where there are more. */
+export const FRONT_OF_LINE = MOST_IN_LINE + 1;
 const NAMED = new Map([[9, '\\t'], [10, '\\n'], [13, '\\r']]);
 const HIDDEN = /[\p{Cc}\p{Cf}\p{Co}\p{Cn}\p{Cs}\p{Zl}\p{Zp}]/u;
+const NUMBERS = new Intl.NumberFormat('en-US');
 const decoder = new TextDecoder('utf-8', { fatal: true, ignoreBOM: true });
 
 /**
@@ -160,84 +148,23 @@ export function plainText(bytes) {
 }
 
 /**
- * The parts of a neutral string: the base text, and then each open call with its arguments.
- * @param {Uint32Array} codes
- * @returns {{mark: number, from: number, to: number}[]} the first has the mark 0
+ * The innermost open call of a machine: its mark, the place of that, and its arguments as plain text,
+ * the function's name first. Null where no call is open.
+ * @param {import('../js/trac.mjs').Session} machine
  */
-export function openCalls(codes) {
-    const rows = [{ mark: 0, from: 0, to: codes.length }];
-    for (let place = 0; place < codes.length; place += 1) {
-        const code = codes[place];
-        if (code === ACTIVE_CALL || code === NEUTRAL_CALL) {
-            rows[rows.length - 1].to = place;
-            rows.push({ mark: code, from: place + 1, to: codes.length });
-        }
-    }
-    return rows;
-}
-
-/**
- * How far a protected text at the front of the active string reaches, its parentheses with it; the
- * whole string where the right one is missing.
- * @param {Uint32Array} codes
- */
-export function protectedLength(codes) {
-    let depth = 0;
-    for (let place = 0; place < codes.length; place += 1) {
-        if (codes[place] === 40) depth += 1;
-        if (codes[place] === 41) depth -= 1;
-        if (depth === 0) return place + 1;
-    }
-    return codes.length;
-}
-
-/**
- * How many characters the first step of an active string scans, or 0 where these don't show it.
- * @param {Uint32Array} codes the string, or its front
- */
-function scannedLength(codes) {
-    if (codes[0] === 40) return protectedLength(codes);
-    if (codes[0] !== 35) return 1;
-    if (codes.length < 3) return 0;
-    if (codes[1] === 40) return 2;
-    return codes[1] === 35 && codes[2] === 40 ? 3 : 1;
-}
-
-/**
- * How many steps there are up to one that performs a call, as far as the front of the active string
- * shows them, and whether such a step comes then.
- * @param {Uint32Array} codes the front of the active string
- */
-export function stepsToCall(codes) {
-    let steps = 0;
-    for (let place = 0; place < codes.length;) {
-        if (codes[place] === 41) return { steps, isCall: true };
-        const length = scannedLength(codes.subarray(place));
-        if (!length) break;
-        place += length;
-        steps += 1;
-    }
-    return { steps: Math.max(steps, 1), isCall: false };
-}
-
-/**
- * The innermost open call of a neutral string: its mark, the place of that, and its arguments as plain
- * text, the function's name first. Null where no call is open.
- * @param {Uint32Array} codes
- */
-export function innermostCall(codes) {
-    let place = codes.length - 1;
-    while (place >= 0 && codes[place] !== ACTIVE_CALL && codes[place] !== NEUTRAL_CALL) place -= 1;
-    if (place < 0) return null;
+export function innermostCall(machine) {
+    const [place] = machine.calls(1);
+    if (place === undefined) return null;
+    const codes = machine.neutralPart(place);
     /** @type {string[]} */
     const words = [];
-    for (let from = place + 1; from <= codes.length;) {
+    for (let from = 1; from <= codes.length;) {
         const comma = codes.indexOf(COMMA, from);
         const to = comma < 0 ? codes.length : comma;
         words.push(lineOf(codes.subarray(from, to)));
         from = to + 1;
     }
-    return { mark: codes[place], place, words };
+    return { mark: codes[0], place, words };
 }
 
 /**
@@ -255,20 +182,6 @@ export function lineOf(codes) {
  */
 export function shortName(text) {
     return text.length > 40 ? `${text.slice(0, 40)}…` : text;
-}
-
-/**
- * Whether a string that begins with a left parenthesis has none that matches it.
- * @param {Uint32Array} codes
- */
-export function isUnmatched(codes) {
-    let depth = 0;
-    for (let place = 0; place < codes.length; place += 1) {
-        if (codes[place] === 40) depth += 1;
-        if (codes[place] === 41) depth -= 1;
-        if (!depth) return false;
-    }
-    return true;
 }
 
 /**
@@ -309,7 +222,7 @@ export function partnerOf(text, place) {
  * @param {number} number
  */
 export function counted(number) {
-    return number.toLocaleString('en-US');
+    return NUMBERS.format(number);
 }
 
 /**

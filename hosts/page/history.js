@@ -6,7 +6,7 @@
  */
 
 import { Session } from '../js/trac.mjs';
-import { ACTIVE_CALL, innermostCall } from './codes.js';
+import { ACTIVE_CALL, FRONT_OF_LINE, innermostCall } from './codes.js';
 import { changesForms } from './functions.js';
 import {
     Kept, Pace, SLICE, Walker, pause,
@@ -144,7 +144,8 @@ class Printings {
  * What a call gave.
  * @typedef {object} Value
  * @property {boolean} isActive whether it stands in front of the active string, to be scanned again
- * @property {Uint32Array} codes
+ * @property {number} length
+ * @property {Uint32Array} front its codes, as many as a line shows
  * @property {string[]} words the arguments of the call, the name of the function first
  */
 
@@ -155,19 +156,23 @@ export class History {
      * @param {{cells: number, steps: number}} limits
      */
     static async of(input, limits) {
-        const [shown, lister] = [await Session.open(limits), await Session.open(limits)];
-        return new History(new Walker(shown, input), new Walker(lister, input), limits);
+        const walker = async () => new Walker(await Session.open(limits), input);
+        const peeker = limits.cells > MOST_PEEKED ? null : await walker();
+        return new History(await walker(), await walker(), peeker, limits);
     }
 
     /**
      * Use `History.of`.
      * @param {Walker} shown
      * @param {Walker} lister
+     * @param {Walker | null} peeker the one that is a step ahead; none where the block is so large that this
+     * takes long
      * @param {{cells: number, steps: number}} limits
      */
-    constructor(shown, lister, limits) {
+    constructor(shown, lister, peeker, limits) {
         this.shown = shown;
         this.lister = lister;
+        this.peeker = peeker;
         this.limits = limits;
         this.pace = new Pace();
         /** The steps after which a call is performed by the next step, as far as they are listed. */
@@ -244,10 +249,9 @@ export class History {
     listSome(goal) {
         const { lister } = this;
         while (lister.state.step < goal) {
-            const { step } = lister.state;
-            const { steps, isCall } = lister.toCall();
-            if (isCall && step + steps < goal) this.calls.push(step + steps);
-            lister.advance(Math.min(isCall ? steps + 1 : steps, goal - step));
+            if (!lister.comeToCall(goal)) continue;
+            this.calls.push(lister.state.step);
+            lister.advance(1);
         }
         this.listed = goal;
     }
@@ -323,7 +327,7 @@ export class History {
     coming() {
         const { machine } = this;
         if (machine.rule() !== 'end of call') return null;
-        const call = innermostCall(machine.neutral());
+        const call = innermostCall(machine);
         return call && { ...call, active: machine.parts().active };
     }
 
@@ -337,29 +341,42 @@ export class History {
     }
 
     /**
-     * What a call gave that the last step performed, or null where it performed none that is over.
+     * What a call gave that the last step of a walker performed, or null where it performed none that is
+     * over.
      * @param {Call | null} [call]
+     * @param {Walker} [walker]
      * @returns {Value | null}
      */
-    value(call = this.performed) {
-        if (!call || !GIVES_VALUES.has(this.shown.state.fate)) return null;
-        const { machine } = this;
-        const grown = machine.parts().active - (call.active - 1);
-        if (grown > 0 || call.mark === ACTIVE_CALL) {
-            return { isActive: true, codes: machine.active(grown), words: call.words };
-        }
-        return { isActive: false, codes: machine.neutral().subarray(call.place), words: call.words };
+    value(call = this.performed, walker = this.shown) {
+        if (!call || !GIVES_VALUES.has(walker.state.fate)) return null;
+        const machine = walker.session;
+        const { active, neutral } = machine.parts();
+        const grown = active - (call.active - 1);
+        const isActive = grown > 0 || call.mark === ACTIVE_CALL;
+        return {
+            isActive,
+            length: isActive ? grown : neutral - call.place,
+            front: isActive ? machine.active(Math.min(grown, FRONT_OF_LINE))
+                : machine.neutralPart(call.place, FRONT_OF_LINE),
+            words: call.words,
+        };
     }
 
     /**
-     * What the call gives that the next step performs: the step is made, and taken back. Null where
-     * the block is so large that this takes long, and where the step gives nothing.
+     * What the call gives that the next step performs: another machine makes that step. Null where
+     * there is no such machine, and where the step gives nothing.
      * @returns {Value | null}
      */
     comingValue() {
-        if (this.limits.cells > MOST_PEEKED || this.step >= this.end.step) return null;
-        const call = this.coming();
-        return this.shown.attempt(() => this.value(call));
+        const { peeker, step } = this;
+        if (!peeker || step >= this.end.step) return null;
+        const isNear = (/** @type {number} */ from) => from <= step + 1 && step - from <= NEAREST;
+        if (peeker.isOver || !isNear(peeker.state.step)) {
+            const nearest = this.nearest(step);
+            peeker.restore(isNear(nearest.state.step) ? nearest : this.shown.save());
+        }
+        peeker.advance(step + 1 - peeker.state.step);
+        return this.value(this.coming(), peeker);
     }
 
     /** The step that is looked at: so many steps are done. */

@@ -5,7 +5,6 @@
  */
 
 import { Session } from '../js/trac.mjs';
-import { stepsToCall } from './codes.js';
 
 /** For how many milliseconds work goes on before the page may do its other work. */
 export const SLICE = 24;
@@ -22,8 +21,6 @@ const KEPT_BYTES = 2 ** 27;
 const LEAST_APART = 4096;
 // A step over long texts can take a thousand times as long as the one before.
 const MOST_AT_ONCE = 1024;
-// The front of an active string in which the next call is looked for.
-const LOOKED_AT = 64;
 const NOTHING = new Uint8Array(0);
 // The neutral string where the idling procedure reads: #(ps,#(rs
 const READING = [256, 112, 115, 258, 256, 114, 115];
@@ -76,9 +73,19 @@ export class Walker {
         }
     }
 
-    /** How many steps there are up to a call, and whether there is one, as far as the front shows that. */
-    toCall() {
-        return stepsToCall(this.session.active(LOOKED_AT));
+    /**
+     * Makes steps up to the next one at a right parenthesis, but none behind a goal.
+     * @param {number} goal
+     * @returns {boolean} whether such a step is the next one; else the same is called again
+     */
+    comeToCall(goal) {
+        const most = Math.min(goal - this.state.step, MOST_AT_ONCE);
+        const steps = this.session.stepsToCall(most);
+        if (steps) this.advance(steps);
+        if (steps === most || this.isOver) return false;
+        if (this.session.rule() === 'end of call') return true;
+        this.advance(1);
+        return false;
     }
 
     /** Makes the step that reads. */
@@ -116,21 +123,6 @@ export class Walker {
         this.state.consumed += consumed;
         this.state.printed += output.length;
         if (output.length) this.onPrinted(output);
-    }
-
-    /**
-     * What there is to see after one more step, which is taken back.
-     * @template T
-     * @param {() => T} see
-     * @returns {T}
-     */
-    attempt(see) {
-        const [machine, state] = [this.session.save(), { ...this.state }];
-        this.advance(1);
-        const seen = see();
-        this.session.restore(machine);
-        this.state = state;
-        return seen;
     }
 
     /** All that it takes to come back here, and how many bytes that is. */

@@ -7,7 +7,7 @@ import { plainText, several } from './codes.js';
 import { element, find } from './dom.js';
 
 const PIECE = 2048;
-const MOST_PIECES = 32;
+const MOST_PIECES = 8;
 
 /** The output of a run, and how much of it is printed up to the step that is looked at. */
 export class OutputView {

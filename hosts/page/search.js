@@ -4,7 +4,7 @@
  * @module
  */
 
-import { ACTIVE_CALL, NEUTRAL_CALL, innermostCall } from './codes.js';
+import { innermostCall } from './codes.js';
 import { changedForms } from './forms.js';
 import { changesForms } from './functions.js';
 import { SLICE, pause } from './machines.js';
@@ -27,7 +27,7 @@ async function alongCalls(history, to, isWanted, signal) {
     while (!signal.aborted && shown.state.step < to) {
         const until = performance.now() + SLICE;
         while (shown.state.step < to && performance.now() < until) {
-            if (!comeToCall(shown, to)) continue;
+            if (!shown.comeToCall(to)) continue;
             const { step } = shown.state;
             if (isWanted(history)) return shown.state.step;
             if (shown.state.step === step) shown.advance(1);
@@ -35,19 +35,6 @@ async function alongCalls(history, to, isWanted, signal) {
         await pause();
     }
     return null;
-}
-
-/**
- * Makes the steps up to a call, as far as the front of the active string shows them.
- * @param {import('./machines.js').Walker} walker
- * @param {number} to a step that is not passed
- * @returns {boolean} whether the next step performs a call
- */
-function comeToCall(walker, to) {
-    const left = to - walker.state.step;
-    const { steps, isCall } = walker.toCall();
-    if (steps) walker.advance(Math.min(steps, left));
-    return isCall && steps < left;
 }
 
 /**
@@ -107,7 +94,7 @@ export async function callBefore(history, step, signal) {
 export function nextNamed(history, name, signal) {
     const wanted = name.toLowerCase();
     return nextCall(history, ({ machine }) => (
-        innermostCall(machine.neutral())?.words[0].toLowerCase() === wanted), signal);
+        innermostCall(machine)?.words[0].toLowerCase() === wanted), signal);
 }
 
 /**
@@ -117,22 +104,10 @@ export function nextNamed(history, name, signal) {
  */
 export async function endOfCall(history, signal) {
     const isEnd = history.machine.rule() === 'end of call';
-    const depth = openCount(history.machine.neutral()) - (isEnd ? 1 : 0);
+    const depth = history.machine.callCount() - (isEnd ? 1 : 0);
     if (depth < 1) return null;
-    const found = await nextCall(history, ({ machine }) => openCount(machine.neutral()) <= depth, signal);
-    return found !== null && openCount(history.machine.neutral()) === depth ? found : null;
-}
-
-/**
- * How many calls are open.
- * @param {Uint32Array} codes the neutral string
- */
-function openCount(codes) {
-    let count = 0;
-    for (let place = 0; place < codes.length; place += 1) {
-        if (codes[place] === ACTIVE_CALL || codes[place] === NEUTRAL_CALL) count += 1;
-    }
-    return count;
+    const found = await nextCall(history, ({ machine }) => machine.callCount() <= depth, signal);
+    return found !== null && history.machine.callCount() === depth ? found : null;
 }
 
 /**
@@ -142,7 +117,7 @@ function openCount(codes) {
  */
 export function nextChange(history, signal) {
     return alongCalls(history, history.end.step, ({ machine, shown }) => {
-        const call = innermostCall(machine.neutral());
+        const call = innermostCall(machine);
         if (!call || !changesForms(call.words[0])) return false;
         const before = machine.forms();
         shown.advance(1);

@@ -3,7 +3,7 @@
  * @module
  */
 
-import { NEUTRAL_CALL, RULES, openCalls, piecesOf, protectedLength, several } from './codes.js';
+import { NEUTRAL_CALL, piecesOf, several } from './codes.js';
 import { coloured, depthClass, element, find, mark, nodes, nodesOf } from './dom.js';
 
 const MOST_ROWS = 40;
@@ -11,31 +11,54 @@ const MOST_IN_ROW = 1200;
 /** How many characters of the active string are shown. */
 export const MOST_ACTIVE = 2000;
 
+/** A part of a machine's neutral string, of which is read what is shown. */
+class Part {
+    /**
+     * @param {import('../js/trac.mjs').Session} machine
+     * @param {number} from
+     * @param {number} to
+     */
+    constructor(machine, from, to) {
+        this.machine = machine;
+        this.from = from;
+        this.length = to - from;
+        const half = MOST_IN_ROW / 2;
+        this.isLong = this.length > MOST_IN_ROW;
+        this.front = this.isLong ? this.read(0, half) : new Uint32Array(0);
+        this.end = this.read(this.isLong ? this.length - half : 0, this.length);
+    }
+
+    /**
+     * @param {number} from
+     * @param {number} to
+     */
+    read(from, to) {
+        return this.machine.neutralPart(this.from + from, to - from);
+    }
+}
+
 /**
- * The nodes of a row of codes, its middle left out where it is long. What the last call gave is its end.
- * @param {Uint32Array} codes
+ * The nodes of a part, its middle left out where it is long. What the last call gave is its end.
+ * @param {Part} part
  * @param {number} landed how many codes the last call gave
  */
-function shortened(codes, landed) {
-    const half = MOST_IN_ROW / 2;
-    const isLong = codes.length > MOST_IN_ROW;
-    const from = isLong ? codes.length - half : 0;
-    const given = Math.max(from, codes.length - landed);
-    const front = isLong ? [...nodesOf(codes.subarray(0, half)),
-        element('span', 'cut', ` … ${several(codes.length - MOST_IN_ROW, 'cell')} … `)] : [];
-    const end = landed ? [element('mark', 'landed', ...nodesOf(codes.subarray(given)))] : [];
-    return [...front, ...nodesOf(codes.subarray(from, given)), ...end];
+function shortened({ front, end, isLong, length }, landed) {
+    const given = Math.max(0, end.length - landed);
+    const cut = isLong ? [...nodesOf(front),
+        element('span', 'cut', ` … ${several(length - MOST_IN_ROW, 'cell')} … `)] : [];
+    const last = landed ? [element('mark', 'landed', ...nodesOf(end.subarray(given)))] : [];
+    return [...cut, ...nodesOf(end.subarray(0, given)), ...last];
 }
 
 /**
  * A line of the neutral string.
- * @param {Uint32Array} codes those of the line
+ * @param {Part} part
  * @param {number} kindOfCall its mark, 0 for the base text
  * @param {number} depth 0 for the base text
  * @param {number} landed
  */
-function neutralRow(codes, kindOfCall, depth, landed) {
-    const inside = shortened(codes, landed);
+function neutralRow(part, kindOfCall, depth, landed) {
+    const inside = shortened(part, landed);
     if (!depth) {
         const label = element('span', 'nothing', inside.length ? 'base text ' : 'no base text');
         return element('li', 'base', label, ...inside);
@@ -52,14 +75,11 @@ function neutralRow(codes, kindOfCall, depth, landed) {
 
 /**
  * What a line shows, as one text: lines of the same text look the same.
- * @param {Uint32Array} codes
+ * @param {Part} part
  * @param {(string | number)[]} more
  */
-function keyOf(codes, ...more) {
-    const half = MOST_IN_ROW / 2;
-    const parts = codes.length > MOST_IN_ROW
-        ? [codes.subarray(0, half), codes.subarray(codes.length - half)] : [codes];
-    return [...more, codes.length, ...parts.map((part) => String.fromCharCode(...part))].join(' ');
+function keyOf({ front, end, length }, ...more) {
+    return [...more, length, ...[front, end].map((codes) => String.fromCharCode(...codes))].join(' ');
 }
 
 /** The neutral string: the base text, and a line for each open call. */
@@ -71,37 +91,46 @@ export class NeutralView {
     }
 
     /**
-     * @param {Uint32Array} codes
+     * @param {import('../js/trac.mjs').Session} machine
+     * @param {number} length how many codes the neutral string has
      * @param {number} landed how many codes at its end the last call gave
+     * @returns {number} how many calls are open
      */
-    show(codes, landed) {
-        const rows = openCalls(codes);
-        const left = Math.max(0, rows.length - MOST_ROWS);
-        const front = left ? MOST_ROWS / 4 : rows.length;
+    show(machine, length, landed) {
+        const stops = [...machine.calls()].reverse();
+        const open = stops.length;
+        const left = Math.max(0, open + 1 - MOST_ROWS);
+        const front = left ? MOST_ROWS / 4 : open + 1;
         const before = this.drawn;
         this.drawn = new Map();
         /** @type {HTMLElement[]} */
-        const lines = rows.map((row, depth) => ({ row, depth }))
-            .filter(({ depth }) => depth < front || depth >= front + left)
-            .map(({ row: { from, to, mark: kind }, depth }) => this.line(
-                before, codes.subarray(from, to), kind, depth, depth === rows.length - 1 ? landed : 0));
-        if (left) lines.splice(front, 0, element('li', 'cut', `… ${several(left, 'open call')} more …`));
+        const lines = [];
+        for (let depth = 0; depth <= open; depth += 1) {
+            if (left && depth === front) {
+                lines.push(element('li', 'cut', `… ${several(left, 'open call')} more …`));
+                depth += left;
+            }
+            const from = depth ? stops[depth - 1] : 0;
+            const part = new Part(machine, depth ? from + 1 : 0, stops[depth] ?? length);
+            const kind = depth ? machine.neutralPart(from, 1)[0] : 0;
+            lines.push(this.line(before, part, kind, depth, depth === open ? landed : 0));
+        }
         this.list.replaceChildren(...lines);
         this.list.scrollTop = this.list.scrollHeight;
-        return rows.length - 1;
+        return open;
     }
 
     /**
      * A line, drawn anew where none was like it.
      * @param {Map<string, HTMLElement>} before
-     * @param {Uint32Array} codes
+     * @param {Part} part
      * @param {number} kind
      * @param {number} depth
      * @param {number} landed
      */
-    line(before, codes, kind, depth, landed) {
-        const key = keyOf(codes, kind, depth, landed);
-        const made = before.get(key) ?? neutralRow(codes, kind, depth, landed);
+    line(before, part, kind, depth, landed) {
+        const key = keyOf(part, kind, depth, landed);
+        const made = before.get(key) ?? neutralRow(part, kind, depth, landed);
         this.drawn.set(key, made);
         return made;
     }
@@ -126,24 +155,22 @@ function activeNodes(codes, open) {
 }
 
 /**
- * Shows the active string. What the next step scans is marked, and what the last call gave.
- * @param {Uint32Array} codes the string, or its front
+ * Shows the active string. What the next step scans and takes is marked, and what the last call gave.
+ * @param {Uint32Array} shown its front
  * @param {number} length how many characters the whole has
- * @param {{rule: string, open: number, landed: number}} how the next rule; how many calls are open; how
- * many characters the last call gave
+ * @param {{scanned: number, taken: number, open: number, landed: number}} how how many characters the next
+ * step scans, and how many it takes; how many calls are open; how many characters the last call gave
  */
-export function showActive(codes, length, { rule, open, landed }) {
+export function showActive(shown, length, { scanned, taken, open, landed }) {
     const box = find('active');
-    const { taken } = RULES[rule];
-    const shown = codes.subarray(0, MOST_ACTIVE);
-    const kept = Math.min(shown.length, rule === 'protection' ? protectedLength(codes) : taken);
+    const kept = Math.min(shown.length, taken);
     const given = Math.min(shown.length, landed);
     /** @type {Node[]} */
     const inside = length ? [] : [element('span', 'nothing', 'empty')];
-    const stops = [...new Set([0, taken, kept, given, shown.length])].sort((a, b) => a - b);
+    const stops = [...new Set([0, scanned, kept, given, shown.length])].sort((a, b) => a - b);
     stops.slice(1).forEach((to, index) => {
         const from = stops[index];
-        const names = [from < taken ? 'scanned' : from < kept ? 'kept' : '', from < given ? 'landed' : ''];
+        const names = [from < scanned ? 'scanned' : from < kept ? 'kept' : '', from < given ? 'landed' : ''];
         const part = activeNodes(shown.subarray(from, to), depthAt(shown, from, open));
         const kind = names.filter(Boolean).join(' ');
         inside.push(...(kind ? [element(kind === 'kept' ? 'span' : 'mark', kind, ...part)] : part));

@@ -4,7 +4,7 @@
  */
 
 import { Session } from '../js/trac.mjs';
-import { NEUTRAL_CALL, innermostCall, lineOf, openCalls, shortName } from './codes.js';
+import { FRONT_OF_LINE, NEUTRAL_CALL, innermostCall, lineOf, shortName } from './codes.js';
 import { element, find, reveal } from './dom.js';
 import { SLICE, Walker, pause } from './machines.js';
 
@@ -128,17 +128,19 @@ export class CallTree {
         const near = history.kept.before(step);
         if (walker.state.step > step || near.state.step > walker.state.step) walker.restore(near);
         walker.advance(step - walker.state.step);
-        const codes = walker.session.neutral();
-        const call = innermostCall(codes);
+        const { session } = walker;
+        const call = innermostCall(session);
         if (!call) return;
-        const { active } = walker.session.parts();
+        const depth = session.callCount();
+        const { active } = session.parts();
         walker.advance(1);
-        const grown = walker.session.parts().active - (active - 1);
+        const grown = session.parts().active - (active - 1);
         const isBack = call.mark === NEUTRAL_CALL && grown <= 0;
-        const value = isBack ? walker.session.neutral().subarray(call.place) : walker.session.active(grown);
+        const value = isBack ? session.neutralPart(call.place, FRONT_OF_LINE)
+            : session.active(Math.min(grown, FRONT_OF_LINE));
         this.rows.set(step, {
             step,
-            depth: openCalls(codes).length,
+            depth,
             words: call.words,
             isNeutral: call.mark === NEUTRAL_CALL,
             value: lineOf(value),

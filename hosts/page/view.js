@@ -5,7 +5,7 @@
  */
 
 import {
-    RULES, counted, innermostCall, isUnmatched, lineOf, several, shortName,
+    RULES, counted, innermostCall, lineOf, several, shortName,
 } from './codes.js';
 import { showBlock } from './block.js';
 import { find } from './dom.js';
@@ -30,32 +30,28 @@ export function isFault(fate) {
  * What the next step does, in words.
  * @param {History} history
  * @param {string} rule
- * @param {Uint32Array} neutral
- * @param {Uint32Array} active
  */
-function ruleWords(history, rule, neutral, active) {
-    if (rule === 'end of call') return performedWords(history, neutral);
-    if (rule === 'argument' && !innermostCall(neutral)) return 'No call is open: the comma is deleted.';
-    if (rule === 'protection' && isUnmatched(active)) {
-        return 'The parenthesis has no matching one: the active string becomes empty.';
-    }
-    return RULES[rule].says;
+function ruleWords(history, rule) {
+    const { machine } = history;
+    if (rule === 'end of call') return performedWords(history);
+    if (rule === 'argument' && !machine.callCount()) return 'No call is open: the comma is deleted.';
+    if (machine.drops()) return 'The parenthesis has no matching one: the active string becomes empty.';
+    return RULES[rule];
 }
 
 /**
  * What the call does that the next step performs.
  * @param {History} history
- * @param {Uint32Array} neutral
  */
-function performedWords(history, neutral) {
-    const call = innermostCall(neutral);
+function performedWords(history) {
+    const call = innermostCall(history.machine);
     if (!call) return 'No call is open: the right parenthesis is deleted.';
     const given = call.words.length - 1;
     const name = call.words[0] === '' ? 'a call without a name' : shortName(call.words[0]);
     const value = history.comingValue();
     return `The innermost open call is performed: ${name}${
         given ? ` with ${several(given, 'argument')}` : ''}. ${
-        callWords(call.words, value && lineOf(value.codes))}`;
+        callWords(call.words, value && lineOf(value.front))}`;
 }
 
 /**
@@ -65,8 +61,8 @@ function performedWords(history, neutral) {
 function valueWords(value) {
     if (!value) return '';
     const name = value.words[0] ? shortName(value.words[0]) : 'The call';
-    if (!value.codes.length) return `${name} gave the null text.`;
-    const text = shortName(lineOf(value.codes));
+    if (!value.length) return `${name} gave the null text.`;
+    const text = shortName(lineOf(value.front));
     return value.isActive
         ? `${name} gave “${text}”: active, to be scanned again.`
         : `${name} gave “${text}”: neutral, not scanned again.`;
@@ -115,16 +111,17 @@ export class View {
         const rule = machine.rule();
         const parts = machine.parts();
         const value = history.value();
-        const codes = machine.neutral();
-        const active = machine.active(rule === 'protection' ? Infinity : MOST_ACTIVE + 1);
-        const open = this.neutral.show(codes, value && !value.isActive ? value.codes.length : 0);
-        showActive(active, parts.active, { rule, open, landed: value?.isActive ? value.codes.length : 0 });
+        const open = this.neutral.show(machine, parts.neutral, value && !value.isActive ? value.length : 0);
+        const taken = machine.takes();
+        showActive(machine.active(MOST_ACTIVE), parts.active, {
+            scanned: rule === 'protection' ? 1 : taken, taken, open, landed: value?.isActive ? value.length : 0,
+        });
         this.showForms();
         showBlock(parts, {
             cells: history.limits.cells, peak: history.shown.state.peak, least: history.end.peak,
         });
         this.output.show(history.shown.state.printed);
-        this.showWords(rule, ruleWords(history, rule, codes, active), valueWords(value));
+        this.showWords(rule, ruleWords(history, rule), valueWords(value));
     }
 
     /** Shows the forms, read anew only where they may be others than those that are shown. */

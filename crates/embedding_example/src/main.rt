@@ -1,5 +1,5 @@
-//! How a program of one's own uses the engine: a script is run at once, and another one so many
-//! steps a turn. The workspaces are arrays, and the engine takes no memory.
+//! Shows how your own program uses the engine: it runs one script at once, and another in turns of a few
+//! steps. The workspaces are arrays, and the engine takes no memory.
 #![tactic(auto)]
 
 ghost use Rattle.std.specs.Prelude.{◌≡◌, None};
@@ -13,7 +13,7 @@ const GREETING: &[u8] = b"#(ds,greet,(Hello, NAME!))#(ss,greet,NAME)#(ps,##(cl,g
 const COUNTING: &[u8] =
     b"#(ds,count,(#(ps,N( ))#(gr,N,9,,(#(cl,count,#(ad,N,1))))))#(ss,count,N)#(cl,count,1)'";
 
-// How many steps a turn has.
+// How many steps a turn takes at most.
 const BUDGET: u32 = 150;
 
 fn main(rt: HostRuntime) -> io::Result<()> {
@@ -21,7 +21,7 @@ fn main(rt: HostRuntime) -> io::Result<()> {
     count(&rt)
 }
 
-// A machine that runs to its end.
+// Runs a machine to the end of its script.
 fn greet(rt: &HostRuntime) -> io::Result<()> {
     let mut block = [Cell::Byte(0); 128];
     let mut printed = [0; 32];
@@ -36,7 +36,7 @@ fn greet(rt: &HostRuntime) -> io::Result<()> {
     )
 }
 
-// A machine that other work takes turns with.
+// Runs a machine in turns, between which there is time for other work.
 fn count(rt: &HostRuntime) -> io::Result<()> {
     let mut block = [Cell::Byte(0); 256];
     let mut printed = [0; 64];

@@ -1,5 +1,10 @@
 -- The codes of a neutral string, cell by cell.
-use Rattle.trac_c.proofs.Words.{◌≡◌, ℕ, ◌+◌, List, [], ◌∷◌, ◌++◌, length, sum_by, refl, sym, ap, ◌∙◌, arith, append_assoc, append-nil, length-append, Text, OpenCall, arguments, call_cells, Byte, Neutral, no_neutral, with_character, with_comma, with_cell, with_cells, neutral_of, mark_code, with_commas, calls_codes, codes_of_neutral, comma_code, cell_code, is_open_after, has_call}
+use Rattle.trac_c.proofs.Words.{◌≡◌, ℕ, ◌+◌, List, [], ◌∷◌, ◌++◌, length, sum_by, refl, sym, ap, ◌∙◌, arith, append_assoc, append-nil, length-append, Text, OpenCall, arguments, call_cells, Byte, Neutral, no_neutral, with_character, with_comma, with_cell, with_cells, neutral_of, mark_code, with_commas, calls_codes, codes_of_neutral, call_places, comma_code, cell_code, is_open_after, has_call, drop, take, get_or, false, ◌<◌, ◌≤◌, ◌-◌, min, ⊎_elim, length-drop, length-take-le, take_more, laid, laid_from}
+use Rattle.std.specs.Prelude.{true}
+use Rattle.std.proofs.lemmas.Bool.{cases_lt}
+use Rattle.trac_functions.proofs.FlatLemmas.{neutral_of-push, with_cells-append}
+use Rattle.std.proofs.lemmas.List.{drop-append-le, drop_more, take-append-drop, take-take, take_all}
+use Rattle.trac_c.proofs.Laid.{laid-next, laid-over}
 use Rattle.std.proofs.lemmas.List.Sums.{sum_by-cons}
 use Rattle.trac_space.specs.declared.cell.Cell.{Cell}
 use Rattle.trac_space.specs.declared.cell.Cell.TheVariants.{Call, Comma, Gap, Head}
@@ -73,3 +78,146 @@ codes-size n = calls-length n.calls n.base
 -- the same of the cells of this neutral string
 pub neutral-length : (cells : List Cell) (n : Neutral) → neutral_of cells ≡ n → length cells ≡ length (codes_of_neutral n)
 neutral-length cells n e = sym (codes-count cells) ∙ ap (λ n. length (codes_of_neutral n)) e
+
+-- a call that is open stays so
+call-stays : (cells : List Cell) (n : Neutral) → has_call n.calls ≡ true → has_call (with_cells n cells).calls ≡ true
+call-stays [] n e = e
+call-stays (cell ∷ cells) n e =
+    call-stays cells (with_cell n cell) (call-cell n cell ∙ ap (is_open_after cell) e ∙ open-after cell)
+  where
+    open-after : (cell : Cell) → is_open_after cell true ≡ true
+    open-after (Byte c) = refl
+    open-after (Call mode k) = refl
+    open-after Comma = refl
+    open-after (Gap k) = refl
+    open-after (Head k) = refl
+
+module _ (cells : List Cell) (i : ℕ) (within : i < length cells) where
+  abbrev cell : Cell
+  cell = get_or cells i (Byte 0)
+
+  abbrev before : Neutral
+  before = neutral_of (take i cells)
+
+  pub next-neutral : neutral_of (take (i + 1) cells) ≡ with_cell before cell
+  next-neutral = ap neutral_of (take_more cells i (Byte 0) within) ∙ neutral_of-push (take i cells) cell
+
+  pub next-call : has_call (neutral_of (take (i + 1) cells)).calls ≡ is_open_after cell (has_call before.calls)
+  next-call = ap (λ (n : Neutral). has_call n.calls) next-neutral ∙ call-cell before cell
+
+  pub next-codes : codes_of_neutral (neutral_of (take (i + 1) cells)) ≡ codes_of_neutral before ++ cell_code (has_call before.calls) cell ∷ []
+  next-codes = ap codes_of_neutral next-neutral ∙ codes-cell before cell
+
+-- the first cells and the others
+parted : (cells : List Cell) (k : ℕ) → neutral_of cells ≡ with_cells (neutral_of (take k cells)) (drop k cells)
+parted cells k = ap neutral_of (sym (take-append-drop k cells)) ∙ with_cells-append no_neutral (take k cells) (drop k cells)
+
+-- a call that is open somewhere is open from there on
+pub call-before : (cells : List Cell) (i place : ℕ) → i ≤ place → place ≤ length cells → has_call (neutral_of (take i cells)).calls ≡ true → has_call (neutral_of (take place cells)).calls ≡ true
+call-before cells i place le within e =
+    let front : take i (take place cells) ≡ take i cells = take-take i place cells le in
+    ap (λ (n : Neutral). has_call n.calls) (parted (take place cells) i)
+    ∙ call-stays (drop i (take place cells)) (neutral_of (take i (take place cells))) (ap (λ cells. has_call (neutral_of cells).calls) front ∙ e)
+
+codes-more : (n : Neutral) (cells : List Cell) → (more : List ℕ) × (codes_of_neutral (with_cells n cells) ≡ codes_of_neutral n ++ more)
+codes-more n [] = ([], sym (append-nil (codes_of_neutral n)))
+codes-more n (cell ∷ cells) =
+    let rest = codes-more (with_cell n cell) cells in
+    let code = cell_code (has_call n.calls) cell in
+    (code ∷ rest.0, rest.1 ∙ ap (λ l. l ++ rest.0) (codes-cell n cell) ∙ append_assoc (codes_of_neutral n) (code ∷ []) rest.0)
+
+-- the codes from a place on: those of the first cells are enough for a buffer that they fill
+pub codes-enough : (cells : List Cell) (from k : ℕ) (room : List ℕ) → from ≤ k → k ≤ length cells → length room ≤ k - from → laid (drop from (codes_of_neutral (neutral_of (take k cells)))) room ≡ laid (drop from (codes_of_neutral (neutral_of cells))) room
+codes-enough cells from k room le within full =
+    let front = codes_of_neutral (neutral_of (take k cells)) in
+    let more = codes-more (neutral_of (take k cells)) (drop k cells) in
+    let all : codes_of_neutral (neutral_of cells) ≡ front ++ more.0 = ap codes_of_neutral (parted cells k) ∙ more.1 in
+    let count : length front ≡ k = codes-count (take k cells) ∙ length-take-le k cells within in
+    let parts : drop from (front ++ more.0) ≡ drop from front ++ more.0 = drop-append-le from front more.0 (omega (arith, count)) in
+    sym (ap (λ l. laid (drop from l) room) all ∙ ap (λ l. laid l room) parts ∙ laid-over (drop from front) more.0 room (omega (arith, count, length-drop from front)))
+
+-- the codes up to a place are enough for a buffer where that is full, or where they are all
+pub codes-end : (cells : List Cell) (from i : ℕ) (room : List ℕ) → from + i ≤ length cells → min (length cells - from) (length room) ≤ i → laid (drop from (codes_of_neutral (neutral_of (take (from + i) cells)))) room ≡ laid (drop from (codes_of_neutral (neutral_of cells))) room
+codes-end cells from i room within least = ⊎_elim full all (cases_lt i (length room))
+  where
+    full : i < length room → laid (drop from (codes_of_neutral (neutral_of (take (from + i) cells)))) room ≡ laid (drop from (codes_of_neutral (neutral_of cells))) room
+    full less = ap (λ cells. laid (drop from (codes_of_neutral (neutral_of cells))) room) (take_all (from + i) cells (omega (arith, least, less)))
+
+    all : length room ≤ i → laid (drop from (codes_of_neutral (neutral_of (take (from + i) cells)))) room ≡ laid (drop from (codes_of_neutral (neutral_of cells))) room
+    all few = codes-enough cells from (from + i) room (omega arith) within (omega (arith, few))
+
+-- one code more from a place on
+pub codes-laid : (cells : List Cell) (from i code : ℕ) (room r₁ r₂ : List ℕ) → from + i < length cells → code ≡ cell_code (has_call (neutral_of (take (from + i) cells)).calls) (get_or cells (from + i) (Byte 0)) → r₁ ≡ laid (drop from (codes_of_neutral (neutral_of (take (from + i) cells)))) room → r₂ ≡ laid_from i (code ∷ []) r₁ → r₂ ≡ laid (drop from (codes_of_neutral (neutral_of (take (from + (i + 1)) cells)))) room
+codes-laid cells from i code room r₁ r₂ within is first then =
+    let k = from + i in
+    let codes = codes_of_neutral (neutral_of (take k cells)) in
+    let count : length codes ≡ k = codes-count (take k cells) ∙ length-take-le k cells (omega arith) in
+    let next = next-codes cells k within ∙ ap (λ x. codes ++ x ∷ []) (sym is) in
+    let parts : drop from (codes ++ code ∷ []) ≡ drop from codes ++ code ∷ [] = drop-append-le from codes (code ∷ []) (omega (arith, count)) in
+    let place : from + (i + 1) ≡ k + 1 = omega arith in
+    laid-next i (drop from codes) (code ∷ []) room r₁ r₂ (omega (arith, count, length-drop from codes)) first then
+    ∙ ap (λ l. laid l room) (sym (ap (λ k. drop from (codes_of_neutral (neutral_of (take k cells)))) place ∙ ap (drop from) next ∙ parts))
+
+-- ---- the places of the marks
+
+places-character : (calls : List OpenCall) (c : ℕ) (n : Neutral) → n.calls ≡ calls → call_places (with_character calls c n) ≡ call_places n
+places-character [] c n e = rw e refl
+places-character (call ∷ outer) c n e = rw e refl
+
+places-comma : (calls : List OpenCall) (n : Neutral) → n.calls ≡ calls → call_places (with_comma calls n) ≡ call_places n
+places-comma [] n e = rw e refl
+places-comma (call ∷ outer) n e = rw e refl
+
+-- a mark more is a place more, and another cell none
+pub places-open : (n : Neutral) (cell : Cell) → is_open_after cell false ≡ true → call_places (with_cell n cell) ≡ length (codes_of_neutral n) ∷ call_places n
+places-open n (Byte c) e = absurd cc
+places-open n (Call mode k) e = refl
+places-open n Comma e = absurd cc
+places-open n (Gap k) e = absurd cc
+places-open n (Head k) e = absurd cc
+
+pub places-same : (n : Neutral) (cell : Cell) → is_open_after cell false ≡ false → call_places (with_cell n cell) ≡ call_places n
+places-same n (Byte c) e = places-character n.calls c n refl
+places-same n (Call mode k) e = absurd cc
+places-same n Comma e = places-comma n.calls n refl
+places-same n (Gap k) e = places-character n.calls 0 n refl
+places-same n (Head k) e = places-character n.calls 0 n refl
+
+module _ (cells : List Cell) (i count : ℕ) (within : i < length cells) where
+  abbrev places : List ℕ
+  places = call_places (neutral_of cells)
+
+  abbrev left : ℕ → List ℕ
+  left k = call_places (neutral_of (take k cells))
+
+  -- the cell in front of those that were looked at is no mark
+  pub places-passed : is_open_after (get_or cells i (Byte 0)) false ≡ false → drop count places ≡ left (i + 1) → drop count places ≡ left i
+  places-passed e is = is ∙ ap call_places (next-neutral cells i within) ∙ places-same (neutral_of (take i cells)) (get_or cells i (Byte 0)) e
+
+  -- it is one
+  module _ (e : is_open_after (get_or cells i (Byte 0)) false ≡ true) (is : drop count places ≡ left (i + 1)) where
+    found : drop count places ≡ i ∷ left i
+    found =
+        is ∙ ap call_places (next-neutral cells i within) ∙ places-open (neutral_of (take i cells)) (get_or cells i (Byte 0)) e
+        ∙ ap (λ k. k ∷ left i) (codes-count (take i cells) ∙ length-take-le i cells (omega arith))
+
+    pub places-few : count < length places
+    places-few = omega (arith, ap (λ l. length l) found, length-drop count places)
+
+    place-is : get_or places count 0 ≡ i
+    place-is = let both = sym (drop_more places count 0 places-few) ∙ found in cc
+
+    pub places-found : drop (count + 1) places ≡ left i
+    places-found = let both = sym (drop_more places count 0 places-few) ∙ found in cc
+
+    pub place-laid : (room r₁ r₂ : List ℕ) → r₁ ≡ laid (take count places) room → r₂ ≡ laid_from count (i ∷ []) r₁ → r₂ ≡ laid (take (count + 1) places) room
+    place-laid room r₁ r₂ first then =
+        laid-next count (take count places) (i ∷ []) room r₁ r₂ (sym (length-take-le count places (omega (arith, places-few)))) first then
+        ∙ ap (λ l. laid l room) (ap (λ k. take count places ++ k ∷ []) (sym place-is) ∙ sym (take_more places count 0 places-few))
+
+-- all are found where no cell is left
+pub places-all : (cells : List Cell) (count : ℕ) → count ≤ length (call_places (neutral_of cells)) → drop count (call_places (neutral_of cells)) ≡ call_places (neutral_of (take 0 cells)) → (count ≡ length (call_places (neutral_of cells))) × (take count (call_places (neutral_of cells)) ≡ call_places (neutral_of cells))
+places-all cells count few none =
+    let places = call_places (neutral_of cells) in
+    let all : count ≡ length places = omega (arith, ap (λ l. length l) none, length-drop count places, few) in
+    (all, take_all count places (omega (arith, all)))

@@ -34,6 +34,13 @@ module _ {A : Type 0} where
   laid-front (suc n) (x ∷ xs) [] least = absurd (omega arith)
   laid-front (suc n) (x ∷ xs) (y ∷ room) least = ap (λ r. x ∷ r) (laid-front n xs room (omega arith))
 
+  -- what a full buffer has no room for makes no difference
+  pub laid-over : (xs more room : List A) → length room ≤ length xs → laid (xs ++ more) room ≡ laid xs room
+  laid-over [] more [] le = laid-none more
+  laid-over [] more (y ∷ room) le = absurd (omega arith)
+  laid-over (x ∷ xs) more [] le = refl
+  laid-over (x ∷ xs) more (y ∷ room) le = ap (λ r. x ∷ r) (laid-over xs more room (omega arith))
+
   -- items behind items that were put before
   pub laid-next : (m : ℕ) (xs ys : List A) (r r₁ r₂ : List A) → m ≡ length xs → r₁ ≡ laid xs r → r₂ ≡ laid_from m ys r₁ → r₂ ≡ laid (xs ++ ys) r
   laid-next m xs ys r r₁ r₂ place first then =

@@ -5,7 +5,7 @@ ghost use Rattle.trac_devices.specs.Slices.{slice_input, stream_in};
 ghost use Rattle.trac_c.specs.Held.{listed, buffer_code};
 
 use crate::filling::put_characters;
-use trac_core::{Cell, Next, Sink, SinkFailed, SliceSource, Source, Work};
+use trac_core::{Cell, Neutral, Next, Sink, SinkFailed, SliceSource, Source};
 use trac_space::character_of;
 
 /// A source over the bytes that a turn was given. It never fails.
@@ -41,8 +41,8 @@ impl Source for GivenSource<'_> {
 
     ghost failure_count = { λ _. 0 };
 
-    fn take_held(&mut self, stop: u8, work: &mut Work) {
-        self.slice.take_held(stop, work);
+    fn take_held<N: Neutral>(&mut self, stop: u8, neutral: &mut N) {
+        self.slice.take_held(stop, neutral);
     }
 
     fn next(&mut self) -> Next {

@@ -19,8 +19,8 @@ pub extern "C" fn trac_engine_machine_size() -> usize
     std::mem::size_of::<Machine<'static>>()
 }
 
-/// Makes a machine at a place, over a block of so many cells that is its own from then on, with an
-/// allowance of so many steps. Gives 0. More than 16,777,216 cells are refused: then it gives 9,
+/// Makes a machine at a place, over a block of `cells` cells that is its own from then on, which may
+/// make `steps` steps. Gives 0. More than 16,777,216 cells are refused: then it gives 9,
 /// and nothing is touched.
 #[unsafe(no_mangle)]
 pub unsafe extern "C" fn trac_engine_open(
@@ -67,8 +67,8 @@ pub unsafe extern "C" fn trac_engine_turn(
     )
 }
 
-/// Clears both strings of the machine at a place and begins a new run with an allowance of so many
-/// steps; its forms and its meta character stay.
+/// Clears both strings of the machine at a place and begins a new run that may make `steps` steps. Its
+/// forms and its meta character stay.
 #[unsafe(no_mangle)]
 pub unsafe extern "C" fn trac_engine_again(machine: *mut u64, steps: u64)
     ghost held: { MachineState }
@@ -78,7 +78,7 @@ pub unsafe extern "C" fn trac_engine_again(machine: *mut u64, steps: u64)
     begin_again(&mut *(machine as *mut Machine<'static>), steps)
 }
 
-/// The same, of a machine that is lent.
+/// Does so with a machine that is lent.
 fn begin_again(machine: &mut Machine<'static>, steps: u64)
     ensures { machine.new ≡ begun_again steps machine.old }
 {

@@ -17,7 +17,8 @@ pub use kept::{trac_engine_again, trac_engine_machine_size, trac_engine_open, tr
 pub use report::TracReport;
 pub use run::trac_engine_run;
 pub use view::{
-    trac_engine_active, trac_engine_awaits, trac_engine_form_codes, trac_engine_form_count,
-    trac_engine_form_name, trac_engine_form_pointer, trac_engine_form_text, trac_engine_meta,
-    trac_engine_neutral, trac_engine_part, trac_engine_rule,
+    trac_engine_active_part, trac_engine_awaits, trac_engine_calls, trac_engine_drops,
+    trac_engine_form_codes, trac_engine_form_count, trac_engine_form_name,
+    trac_engine_form_pointer, trac_engine_form_text, trac_engine_meta, trac_engine_neutral_part,
+    trac_engine_part, trac_engine_rule, trac_engine_steps_to_call, trac_engine_takes,
 };

@@ -12,7 +12,7 @@ use crate::filling::FillingSink;
 use crate::report::{TracReport, number, refused};
 use trac_core::{Cell, Machine, SliceSource};
 
-/// Runs a script in a block of so many cells, which is the caller's again afterwards. What it
+/// Runs a script in a block of `cells` cells, which is the caller's again afterwards. What it
 /// prints goes to the front of `output`. More than 16,777,216 cells are refused, and then nothing
 /// is touched.
 #[unsafe(no_mangle)]
@@ -39,7 +39,8 @@ pub unsafe extern "C" fn trac_engine_run(
     )
 }
 
-/// Writes a cell at each place of a block.
+/// Writes a cell at each place of a block: one that is zero bytes, so that a copy of a block can leave out
+/// what was never used.
 pub(crate) unsafe fn fill(block: *mut Cell, cells: usize)
     requires* { sem 𝓛 (room_at (Array CellRow cells) block) ∗ ⌜ cells ≤ 16777216 ⌝ }
     ensures* { sem 𝓛 (fex (List Cell)
@@ -47,7 +48,7 @@ pub(crate) unsafe fn fill(block: *mut Cell, cells: usize)
 {
     let mut i = 0;
     while i < cells {
-        block.add(i).write(Cell::Comma);
+        block.add(i).write(Cell::Byte(0));
         i += 1;
     }
 }

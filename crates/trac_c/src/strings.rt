@@ -1,5 +1,5 @@
 //! The strings of a machine as numbers, and what else it shows of itself.
-ghost use Rattle.std.specs.Prelude.{◌≡◌, ◌-◌, length};
+ghost use Rattle.std.specs.Prelude.{◌≡◌, ◌-◌, ◌^◌, ◌<◌, ◌≤◌, drop, length, take};
 ghost use Rattle.trac_language.specs.Store.{cells};
 ghost use Rattle.trac_language.specs.State.{size};
 ghost use Rattle.trac_language.specs.Rule.{rule};
@@ -9,18 +9,28 @@ ghost use Rattle.trac_core.specs.Session.{awaited, next_function};
 ghost use Rattle.trac_core.specs.View.{neutral_in, row_of};
 ghost use Rattle.trac_c.specs.Laid.{Lays, laid};
 ghost use Rattle.trac_c.specs.View.{codes_of_neutral, cell_code, rule_number, awaits_number};
-ghost use Rattle.trac_c.specs.View.{part_cells, mark_code, comma_code, is_open_after};
+ghost use Rattle.trac_c.specs.View.{part_cells, mark_code, comma_code, is_open_after, has_call};
+ghost use Rattle.trac_c.specs.View.{call_places};
+ghost use Rattle.trac_core.specs.View.{dropped, steps_before_call, taken};
 
 use crate::filling::put;
 use trac_core::{Awaits, Cell, Machine, ScanningRule};
 use trac_space::{Mode, character_of};
 
-/// Puts the active string to the front of a buffer, as much as fits, and gives its length.
-pub(crate) fn lay_active(machine: &mut Machine<'static>, room: &mut [u32]) -> usize
-    ensures { Lays machine.old.memory.active result room.old room.new ×
+/// Puts the active string from a place on to the front of a buffer, as much as fits, and gives how
+/// long that part is.
+pub(crate) fn lay_active(machine: &mut Machine<'static>, from: usize, room: &mut [u32]) -> usize
+    ensures { Lays (drop from machine.old.memory.active) result room.old room.new ×
         (machine.new ≡ machine.old) }
 {
-    lay_characters(machine.active(), room)
+    lay_characters(cells_from(machine.active(), from), room)
+}
+
+/// The cells from a place on, none where the string ends before it.
+fn cells_from(cells: &[Cell], from: usize) -> &[Cell]
+    ensures { result.now ≡ drop from cells.now }
+{
+    &cells[from.min(cells.len())..]
 }
 
 /// Puts characters to the front of a buffer, as many as fit, and gives how many there are.
@@ -34,27 +44,75 @@ fn lay_characters(cells: &[Cell], room: &mut [u32]) -> usize
     cells.len()
 }
 
-/// Puts the codes of the neutral string to the front of a buffer, as many as fit, and gives how
-/// many there are.
-pub(crate) fn lay_neutral(machine: &mut Machine<'static>, room: &mut [u32]) -> usize
-    ensures { Lays (codes_of_neutral (neutral_in machine.old.memory)) result room.old room.new ×
-        (machine.new ≡ machine.old) }
+/// Puts the codes of the neutral string from a place on to the front of a buffer, as many as fit, and
+/// gives how many there are from there on.
+pub(crate) fn lay_neutral(machine: &mut Machine<'static>, from: usize, room: &mut [u32]) -> usize
+    ensures { Lays (drop from (codes_of_neutral (neutral_in machine.old.memory))) result room.old
+        room.new × (machine.new ≡ machine.old) }
 {
-    lay_marks(machine.neutral(), room)
+    lay_marks(machine.neutral(), from, room)
 }
 
-/// The same of the cells of a neutral string. A comma mark outside all calls, where none ever
-/// stands, counts as a character.
-fn lay_marks(cells: &[Cell], room: &mut [u32]) -> usize
-    ensures length { result ≡ length (codes_of_neutral (neutral_of cells.now)) }
-    ensures laid { room.new ≡ laid (codes_of_neutral (neutral_of cells.now)) room.old }
+/// Puts the codes of the cells of a neutral string to the front of a buffer, as far as it reaches, and
+/// gives how many codes these cells have. A comma mark outside all calls, where none ever stands,
+/// counts as a character.
+fn lay_marks(cells: &[Cell], from: usize, room: &mut [u32]) -> usize
+    ensures length { result ≡ length (drop from (codes_of_neutral (neutral_of cells.now))) }
+    ensures laid { room.new ≡ laid (drop from (codes_of_neutral (neutral_of cells.now))) room.old }
 {
-    let mut in_call = false;
-    for i in 0..cells.len() {
-        put(code(cells[i], in_call), i, room);
-        in_call = is_in_call(cells[i], in_call);
+    if from > cells.len() {
+        return 0;
     }
-    cells.len()
+    let mut in_call = is_open_before(cells, from);
+    let count = cells.len() - from;
+    for i in 0..count.min(room.len()) {
+        let cell = cells[from + i];
+        put(code(cell, in_call), i, room);
+        in_call = is_in_call(cell, in_call);
+    }
+    count
+}
+
+/// Puts the places at which the marks of the open calls stand in the neutral string to the front of a
+/// buffer, that of the innermost first, as many as fit, and gives how many calls are open.
+pub(crate) fn lay_calls(machine: &mut Machine<'static>, room: &mut [u32]) -> usize
+    ensures { Lays (call_places (neutral_in machine.old.memory)) result room.old room.new ×
+        (machine.new ≡ machine.old) }
+{
+    let _size: u32 = machine.size();
+    lay_places(machine.neutral(), room)
+}
+
+/// Puts the places of the call marks of a neutral string to the front of a buffer, as far as it
+/// reaches, and gives how many calls are open.
+fn lay_places(cells: &[Cell], room: &mut [u32]) -> usize
+    requires { length cells.now < 2 ^ 32 }
+    ensures length { result ≡ length (call_places (neutral_of cells.now)) }
+    ensures laid { room.new ≡ laid (call_places (neutral_of cells.now)) room.old }
+{
+    let mut count = 0;
+    let mut i = cells.len();
+    while i > 0 {
+        i -= 1;
+        if is_in_call(cells[i], false) {
+            put(i as u32, count, room);
+            count += 1;
+        }
+    }
+    count
+}
+
+/// Whether a call is open in front of a place of the neutral string.
+fn is_open_before(cells: &[Cell], place: usize) -> bool
+    requires { place ≤ length cells.now }
+    ensures { result ≡ has_call (neutral_of (take place cells.now)).calls }
+{
+    for i in 0..place {
+        if is_in_call(cells[i], false) {
+            return true;
+        }
+    }
+    false
 }
 
 /// Whether a call is open behind a cell of the neutral string.
@@ -132,6 +190,31 @@ pub(crate) fn meta(machine: &mut Machine<'static>) -> u32
     ensures { (result ≡ machine.old.memory.meta) × (machine.new ≡ machine.old) }
 {
     u32::from(machine.meta())
+}
+
+/// How many characters the next step takes from the active string.
+pub(crate) fn takes(machine: &mut Machine<'static>) -> usize
+    ensures { let active = machine.old.memory.active in
+        (result ≡ taken (rule active) (length active)) × (machine.new ≡ machine.old) }
+{
+    machine.takes() as usize
+}
+
+/// How many characters the next step drops, since its left parenthesis has no match.
+pub(crate) fn drops(machine: &mut Machine<'static>) -> usize
+    ensures { let active = machine.old.memory.active in
+        (result ≡ dropped (rule active) (length active)) × (machine.new ≡ machine.old) }
+{
+    machine.drops() as usize
+}
+
+/// How many steps come before the next one that may perform a call or loads the idling procedure, at
+/// most `most`.
+pub(crate) fn steps_to_call(machine: &mut Machine<'static>, most: u64) -> u64
+    ensures { (result ≡ steps_before_call most machine.old.memory.active) ×
+        (machine.new ≡ machine.old) }
+{
+    machine.steps_to_call(most)
 }
 
 /// The cells of a part of the block.

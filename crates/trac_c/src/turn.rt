@@ -1,5 +1,5 @@
 //! A machine that C keeps, and which makes some steps a turn.
-ghost use Rattle.std.specs.Prelude.{◌≡◌, ℕ, ◌+◌, ◌^◌, ◌<◌, ◌≤◌, MatchOption, None, Some, length};
+ghost use Rattle.std.specs.Prelude.{◌≡◌, ℕ, ◌+◌, ◌^◌, ◌<◌, ◌≤◌, None, Some, length};
 ghost use Rattle.trac_core.specs.Session.{awaited, next_function, next_printed};
 ghost use Rattle.trac_language.specs.State.{Input};
 ghost use Rattle.trac_c.specs.Turned.{TurnsTo, LacksRoom, is_short, is_ended, stands, SomeTurned};
@@ -18,14 +18,13 @@ pub(crate) enum Turn {
     Went,
     /// The next step waits for input; it wasn't done.
     Waits,
-    /// The next step prints so many bytes, more than there is room for; it wasn't done.
+    /// The next step prints this many bytes, more than there is room for; it wasn't done.
     Full(u32),
     /// The run is over.
     Over(Fate),
 }
 
-/// A turn: steps, at most so many, over these bytes, behind which the input
-/// ends where `ended` is not 0.
+/// A turn: at most `most` steps over these bytes, behind which the input ends where `ended` is not 0.
 pub(crate) fn take_turn(
     machine: &mut Machine<'static>,
     input: &[u8],
@@ -71,8 +70,8 @@ fn turn_number(last: Turn) -> u32
     }
 }
 
-/// Makes steps, at most so many: those that touch no device as fast as a run does, and each other
-/// one by itself. Went: all of them were done.
+/// Makes at most `most` steps: those that touch no device as fast as a run does, and each other one by
+/// itself. Went: all of them were done.
 fn go_on(
     machine: &mut Machine,
     source: &mut GivenSource,
@@ -95,11 +94,12 @@ fn go_on(
 {
     let mut done = 0;
     while done < most {
-        done += machine.advance(most - done);
+        let progress = machine.advance(most - done);
+        done += progress.done;
         if done == most {
             return Turn::Went;
         }
-        let part = step_on(machine, source, sink, ended);
+        let part = step_on(machine, progress.next, source, sink, ended);
         if part != Turn::Went {
             return part;
         }
@@ -108,14 +108,17 @@ fn go_on(
     Turn::Went
 }
 
-/// A step, unless it waits for input.
+/// A step, which performs this function, unless it waits for input or prints more than there is room
+/// for.
 fn step_on(
     machine: &mut Machine,
+    function: Option<Function>,
     source: &mut GivenSource,
     sink: &mut RoomySink,
     ended: bool,
 ) -> Turn
     requires limits { KeepsLimits machine.old }
+    requires asked { function ≡ next_function machine.old }
     requires sink_sound { (sink.old.failures ≡ 0) × (sink.old.behind ≡ None) }
     ensures turns { machine.old.fate ≡ None →
         TurnsTo ended (stands machine.old source.old sink.old) result
@@ -130,38 +133,16 @@ fn step_on(
     ensures fits { sink.new.behind ≡ None }
     ensures went { result ≡ Turn.Went → (machine.new.fate ≡ None) × (sink.new.failures ≡ 0) }
 {
-    let function = machine.next_function();
     if !ended && waits(machine, function, source.rest()) {
         return Turn::Waits;
     }
-    if let Some(printed) = prints_past(machine, function, sink.free() as u64) {
+    if let Some(printed) = machine.prints_past(function, sink.free() as u64) {
         return Turn::Full(printed);
     }
     match machine.step(source, sink) {
         None => Turn::Went,
         Some(fate) => Turn::Over(fate),
     }
-}
-
-/// How many bytes the next step prints, if these are more than there is room for; it performs this
-/// function. A text that it prints is measured once at most, and not at all where there is room for
-/// the whole neutral string.
-fn prints_past(machine: &mut Machine, function: Option<Function>, free: u64) -> Option<u32>
-    requires asked { function ≡ next_function machine.old }
-    ensures past { MatchOption result
-        ((input : Input) → length (next_printed machine.old input) ≤ free)
-        (λ printed. (free < printed)
-        × ((input : Input) → printed ≡ length (next_printed machine.old input))) }
-    ensures same { machine.new ≡ machine.old }
-{
-    if machine.neutral().len() as u64 <= free && machine.prints_within(function, free) {
-        return None;
-    }
-    let printed = machine.prints();
-    if u64::from(printed) <= free {
-        return None;
-    }
-    Some(printed)
 }
 
 /// Whether the next step, which performs this function, reads more than these bytes. A string that is

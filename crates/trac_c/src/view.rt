@@ -1,13 +1,14 @@
 //! What C sees of a machine that it keeps. None of these changes the machine.
-ghost use Rattle.std.specs.Prelude.{◌≡◌, length, slice_get};
+ghost use Rattle.std.specs.Prelude.{◌≡◌, drop, length, slice_get};
 ghost use Rattle.trac_language.specs.Rule.{rule};
 ghost use Rattle.trac_core.specs.Machine.{MachineState};
 ghost use Rattle.trac_core.specs.Session.{awaited, next_function};
-ghost use Rattle.trac_core.specs.View.{neutral_in, row_of};
+ghost use Rattle.trac_core.specs.View.{dropped, neutral_in, row_of, steps_before_call, taken};
 ghost use Rattle.trac_c.specs.Kept.{machine_at};
 ghost use Rattle.trac_c.specs.Laid.{Lays};
 ghost use Rattle.trac_c.specs.Shown.{name_of, display_of, codes_of, pointer_of};
 ghost use Rattle.trac_c.specs.View.{codes_of_neutral, rule_number, awaits_number, part_cells};
+ghost use Rattle.trac_c.specs.View.{call_places};
 ghost use types.Logic.{sem};
 
 use crate::forms::{count, lay_codes, lay_display, lay_name, pointer};
@@ -36,8 +37,9 @@ pub unsafe extern "C" fn trac_engine_form_name(machine: *mut u64, k: usize, to: 
     lay_name(&mut *(machine as *mut Machine<'static>), k, to)
 }
 
-/// The same of the display of form `k`, as `pf` prints it: gaps as their ordinals in angle brackets,
-/// and `<^>` at the pointer.
+/// The length of the display of form `k`, as `pf` prints it: gaps as their ordinals in angle brackets,
+/// and `<^>` at the pointer. It goes to the front of `to`, as much of it as fits. Where there is no
+/// such form, 0, and `to` stays as it is.
 #[unsafe(no_mangle)]
 pub unsafe extern "C" fn trac_engine_form_text(machine: *mut u64, k: usize, to: &mut [u8]) -> usize
     ghost held: { MachineState }
@@ -48,8 +50,9 @@ pub unsafe extern "C" fn trac_engine_form_text(machine: *mut u64, k: usize, to: 
     lay_display(&mut *(machine as *mut Machine<'static>), k, to)
 }
 
-/// The same of the body of form `k`, a number for each item: a byte as it is, a gap as 255 more than
-/// its ordinal.
+/// How many items the body of form `k` has. A number for each goes to the front of `to`, as many as
+/// fit: a byte as it is, a gap as 255 more than its ordinal. Where there is no such form, 0, and `to`
+/// stays as it is.
 #[unsafe(no_mangle)]
 pub unsafe extern "C" fn trac_engine_form_codes(
     machine: *mut u64,
@@ -75,27 +78,86 @@ pub unsafe extern "C" fn trac_engine_form_pointer(machine: *mut u64, k: usize) -
     pointer(&mut *(machine as *mut Machine<'static>), k)
 }
 
-/// The length of the neutral string; its codes go to the front of `to`, as many as fit: a byte as it
-/// is, 256 for the mark of an active call, 257 for that of a neutral call, 258 for a comma mark.
+/// How many codes the neutral string has from place `from` on; they go to the front of `to`, as many as
+/// fit: a byte as it is, 256 for the mark of an active call, 257 for that of a neutral call, 258 for a
+/// comma mark.
 #[unsafe(no_mangle)]
-pub unsafe extern "C" fn trac_engine_neutral(machine: *mut u64, to: &mut [u32]) -> usize
+pub unsafe extern "C" fn trac_engine_neutral_part(
+    machine: *mut u64,
+    from: usize,
+    to: &mut [u32],
+) -> usize
     ghost held: { MachineState }
     requires* { sem 𝓛 (machine_at machine held) }
     ensures* { sem 𝓛 (machine_at machine held) ∗
-        ⌜ Lays (codes_of_neutral (neutral_in held.memory)) result to.old to.new ⌝ }
+        ⌜ Lays (drop from (codes_of_neutral (neutral_in held.memory))) result to.old to.new ⌝ }
 {
-    strings::lay_neutral(&mut *(machine as *mut Machine<'static>), to)
+    strings::lay_neutral(&mut *(machine as *mut Machine<'static>), from, to)
 }
 
-/// The length of the active string; its bytes go to the front of `to`, as many as fit.
+/// How many bytes the active string has from place `from` on; they go to the front of `to`, as many as
+/// fit.
 #[unsafe(no_mangle)]
-pub unsafe extern "C" fn trac_engine_active(machine: *mut u64, to: &mut [u32]) -> usize
+pub unsafe extern "C" fn trac_engine_active_part(
+    machine: *mut u64,
+    from: usize,
+    to: &mut [u32],
+) -> usize
     ghost held: { MachineState }
     requires* { sem 𝓛 (machine_at machine held) }
     ensures* { sem 𝓛 (machine_at machine held) ∗
-        ⌜ Lays held.memory.active result to.old to.new ⌝ }
+        ⌜ Lays (drop from held.memory.active) result to.old to.new ⌝ }
 {
-    strings::lay_active(&mut *(machine as *mut Machine<'static>), to)
+    strings::lay_active(&mut *(machine as *mut Machine<'static>), from, to)
+}
+
+/// How many calls are open; the places at which their marks stand in the neutral string go to the front
+/// of `to`, that of the innermost first, as many as fit.
+#[unsafe(no_mangle)]
+pub unsafe extern "C" fn trac_engine_calls(machine: *mut u64, to: &mut [u32]) -> usize
+    ghost held: { MachineState }
+    requires* { sem 𝓛 (machine_at machine held) }
+    ensures* { sem 𝓛 (machine_at machine held) ∗
+        ⌜ Lays (call_places (neutral_in held.memory)) result to.old to.new ⌝ }
+{
+    strings::lay_calls(&mut *(machine as *mut Machine<'static>), to)
+}
+
+/// How many characters the next step takes from the front of the active string: those that open a call,
+/// a text in parentheses with both of them, all where a left parenthesis has no match, none of an empty
+/// string, and else one.
+#[unsafe(no_mangle)]
+pub unsafe extern "C" fn trac_engine_takes(machine: *mut u64) -> usize
+    ghost held: { MachineState }
+    requires* { sem 𝓛 (machine_at machine held) }
+    ensures* { sem 𝓛 (machine_at machine held) ∗
+        ⌜ result ≡ taken (rule held.memory.active) (length held.memory.active) ⌝ }
+{
+    strings::takes(&mut *(machine as *mut Machine<'static>))
+}
+
+/// How many characters the next step drops: all of an active string that begins with a left parenthesis
+/// that has no match, and else none. What other rules delete, as layout, doesn't count.
+#[unsafe(no_mangle)]
+pub unsafe extern "C" fn trac_engine_drops(machine: *mut u64) -> usize
+    ghost held: { MachineState }
+    requires* { sem 𝓛 (machine_at machine held) }
+    ensures* { sem 𝓛 (machine_at machine held) ∗
+        ⌜ result ≡ dropped (rule held.memory.active) (length held.memory.active) ⌝ }
+{
+    strings::drops(&mut *(machine as *mut Machine<'static>))
+}
+
+/// How many steps come before the next one at a right parenthesis or at an empty active string, at most
+/// `most`: none of them performs a call.
+#[unsafe(no_mangle)]
+pub unsafe extern "C" fn trac_engine_steps_to_call(machine: *mut u64, most: u64) -> u64
+    ghost held: { MachineState }
+    requires* { sem 𝓛 (machine_at machine held) }
+    ensures* { sem 𝓛 (machine_at machine held) ∗
+        ⌜ result ≡ steps_before_call most held.memory.active ⌝ }
+{
+    strings::steps_to_call(&mut *(machine as *mut Machine<'static>), most)
 }
 
 /// The rule that the next step follows: 0 idling, 1 layout, 2 protection, 3 argument, 4 active call,

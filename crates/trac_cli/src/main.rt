@@ -21,9 +21,9 @@ use trac_lines::{
 use trac_words::Settings;
 use words::settings_from;
 
-// The status where there is no memory for the block.
+// The status if there is no memory for the block.
 const NO_MEMORY: u8 = 6;
-// The line where there is no memory for the words.
+// The line for the case that there is no memory for the words.
 const NO_MEMORY_LINE: &str = "trac: no memory for the command line";
 
 fn main(rt: HostRuntime) -> ExitCode {
@@ -58,7 +58,7 @@ fn run(rt: &HostRuntime, settings: &Settings) -> u8 {
     }
 }
 
-// Says how the run ended, and gives the status.
+// Writes how the run ended to standard error, and gives the status.
 fn ended(rt: &HostRuntime, settings: &Settings, report: &Report) -> u8
     ensures { result ≡ status_of report.now.fate }
 {

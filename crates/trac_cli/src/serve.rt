@@ -11,14 +11,14 @@ use trac_core::{Machine, Report, Sink, Source};
 use trac_space::make_block;
 use trac_words::Settings;
 
-/// There is no memory for the block of cells, so nothing was read and nothing was written.
+/// There is no memory for the block of cells. Nothing was read or written.
 #[derive(Debug, Drop, Error)]
 #[error("no memory for the block")]
 pub struct NoMemory;
 
-/// Makes the block of cells that the settings say, and runs the script that the source gives over
-/// it, with the steps that the settings allow. An error is want of memory for the block; then
-/// source and sink are as they were. This processor's own choice.
+/// Makes a block of the settings' cells and runs the script of the source in it, with the settings' steps.
+/// An error means that there is no memory for the block; then source and sink are unchanged. This
+/// processor's own choice.
 pub fn serve<I: Source, O: Sink>(
     alloc: Global,
     settings: &Settings,

@@ -1,6 +1,6 @@
 //! The program without its devices: its words, a run in a block of its own, its lines and statuses.
-//! Where memory is refused, as `rt try --test --fail-alloc N` does it, each test asks for the answer
-//! of want of memory, and says that it came.
+//! If memory is refused, as `rt try --test --fail-alloc N` does, each test asks for the answer to that, and
+//! says that it came.
 use crate::serve::{NoMemory, serve};
 use crate::words::settings_from;
 use clap::error::ErrorKind;

@@ -1,5 +1,5 @@
 -- Steps that touch no device, one after the other.
-use Rattle.trac_core.proofs.Words.{◌≡◌, ℕ, zero, suc, ◌+◌, ◌<◌, ◌≤◌, max, Some, None, refl, sym, ap, ◌∙◌, subst, arith, ◌⊎◌, ⊎_elim, inl, inr, min, cases_lt, Fate, Halted, InputEnded, Workspace, Steps, InputFailed, OutputFailed, Memory, size, Contents, used, IsSound, memory_of, MachineState, counted, Passes, PassesTimes, peak_after, passed, running, touches_device, KeepsFormsAndMeta, TriedAlone, StepsAlone, GoesAlone, EndsAlone, NeedsMore, Advanced, Advances, advanced_to}
+use Rattle.trac_core.proofs.Words.{◌≡◌, ℕ, zero, suc, ◌+◌, ◌<◌, ◌≤◌, max, Option, Some, None, refl, sym, ap, ◌∙◌, subst, arith, ◌⊎◌, ⊎_elim, inl, inr, min, cases_lt, Function, Fate, Halted, InputEnded, Workspace, Steps, InputFailed, OutputFailed, Memory, size, Contents, used, IsSound, memory_of, MachineState, counted, Passes, PassesTimes, peak_after, passed, running, touches_device, KeepsFormsAndMeta, TriedAlone, StepsAlone, GoesAlone, EndsAlone, NeedsMore, Advanced, Advances, advanced_to}
 use Rattle.trac_functions.proofs.FlatLemmas.{size-used}
 use Rattle.trac_core.specs.declared.machine.Counters.{Counters}
 use Rattle.trac_core.specs.declared.machine.advancing.Advance.{Advance}
@@ -84,25 +84,25 @@ module _ (start : MachineState) (w new : Contents) (meta : ℕ) (at : Counters) 
       subst (λ j. GoesAlone j start (running new after (counters_after at j top))) (sym all_is) (subst (GoesAlone (suc k) start) same later)
 
   -- no step more is done, since as many as were wanted are done or the next one can't be done alone
-  pub alone-stays : (most all : ℕ) (to : Advance) → new ≡ w → to ≡ record { done = all; steps = at.steps + all; peak = peak; fate = None } → all ≡ k → (k ≡ most) ⊎ NeedsMore (running w meta (counters_after at k peak)) → GoesAlone k start (running w meta (counters_after at k peak)) → Advanced most to.done start (advanced_to new meta at to)
-  alone-stays most all to same is all_is why goes =
+  pub alone-stays : (most all plain : ℕ) (next : Option Function) (to : Advance) → new ≡ w → to ≡ record { progress = record { done = all; next = next }; plain = plain; steps = at.steps + all; peak = peak; fate = None } → all ≡ k → (k ≡ most) ⊎ NeedsMore (running w meta (counters_after at k peak)) → GoesAlone k start (running w meta (counters_after at k peak)) → Advanced most to.progress.done start (advanced_to new meta at to)
+  alone-stays most all plain next to same is all_is why goes =
       let m = running w meta (counters_after at k peak) in
-      let told : Advance = record { done = k; steps = at.steps + k; peak = peak; fate = None } in
-      let to_is : to ≡ told = is ∙ ap (λ n. record { done = n; steps = at.steps + n; peak = peak; fate = None }) all_is in
-      let whole : Advanced most told.done start (advanced_to w meta at told) = (m, (goes, (refl, why))) in
-      subst (λ (to : Advance). Advanced most to.done start (advanced_to new meta at to)) (sym to_is)
-      (subst (λ (w : Contents). Advanced most told.done start (advanced_to w meta at told)) (sym same) whole)
+      let told : Advance = record { progress = record { done = k; next = next }; plain = plain; steps = at.steps + k; peak = peak; fate = None } in
+      let to_is : to ≡ told = is ∙ ap (λ n. record { progress = record { done = n; next = next }; plain = plain; steps = at.steps + n; peak = peak; fate = None }) all_is in
+      let whole : Advanced most told.progress.done start (advanced_to w meta at told) = (m, (goes, (refl, why))) in
+      subst (λ (to : Advance). Advanced most to.progress.done start (advanced_to new meta at to)) (sym to_is)
+      (subst (λ (w : Contents). Advanced most told.progress.done start (advanced_to w meta at told)) (sym same) whole)
 
   -- a step ends the run
-  pub alone-ends : (most after need : ℕ) (fate : Fate) (to : Advance) → new.room ≡ w.room → at.steps + k < at.allowance → k < most → TriedAlone w meta (Some fate) need new after → to ≡ record { done = k; steps = (counted (running w meta (counters_after at k peak)) (memory_of after new) need (Some fate)).steps; peak = (counted (running w meta (counters_after at k peak)) (memory_of after new) need (Some fate)).peak; fate = Some fate } → GoesAlone k start (running w meta (counters_after at k peak)) → Advanced most to.done start (advanced_to new after at to)
-  alone-ends most after need fate to stays allowed few tried is goes =
+  pub alone-ends : (most after need plain : ℕ) (fate : Fate) (to : Advance) → new.room ≡ w.room → at.steps + k < at.allowance → k < most → TriedAlone w meta (Some fate) need new after → to ≡ record { progress = record { done = k; next = None }; plain = plain; steps = (counted (running w meta (counters_after at k peak)) (memory_of after new) need (Some fate)).steps; peak = (counted (running w meta (counters_after at k peak)) (memory_of after new) need (Some fate)).peak; fate = Some fate } → GoesAlone k start (running w meta (counters_after at k peak)) → Advanced most to.progress.done start (advanced_to new after at to)
+  alone-ends most after need plain fate to stays allowed few tried is goes =
       let m = running w meta (counters_after at k peak) in
       let last = counted m (memory_of after new) need (Some fate) in
-      let told : Advance = record { done = k; steps = last.steps; peak = last.peak; fate = Some fate } in
+      let told : Advance = record { progress = record { done = k; next = None }; plain = plain; steps = last.steps; peak = last.peak; fate = Some fate } in
       let ends : EndsAlone m fate last = record { alone = tried.alone; ends = λ source written. tried.tried source written m refl refl allowed; none_failed = tried.none_failed; keeps = subst (KeepsFormsAndMeta (memory_of meta w)) (sym (counted-memory m (memory_of after new) need fate)) (tried.keeps (λ e. absurd cc)) } in
       let same : last ≡ advanced_to new after at told = counted-parts m (memory_of after new) need fate ∙ (λ i. record (advanced_to new after at told) { room = sym stays i }) in
-      let whole : Advanced most told.done start (advanced_to new after at told) = (m, (goes, (few, subst (EndsAlone m fate) same ends))) in
-      subst (λ (to : Advance). Advanced most to.done start (advanced_to new after at to)) (sym is) whole
+      let whole : Advanced most told.progress.done start (advanced_to new after at told) = (m, (goes, (few, subst (EndsAlone m fate) same ends))) in
+      subst (λ (to : Advance). Advanced most to.progress.done start (advanced_to new after at to)) (sym is) whole
 
 -- the less of two numbers is one of them
 pub least-of : (a b n : ℕ) → n ≡ min a b → (n ≡ a) ⊎ (n ≡ b)

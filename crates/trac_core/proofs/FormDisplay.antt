@@ -1,5 +1,5 @@
 -- The display of a form.
-use Rattle.trac_core.proofs.Words.{◌≡◌, ◌≢◌, ℕ, ◌+◌, ◌-◌, ◌<◌, ◌≤◌, List, [], ◌∷◌, ◌++◌, length, take, drop, slice_get, slice_range, Option, Some, None, refl, sym, ap, ◌∙◌, subst, arith, append_assoc, append-nil, Result, Ok, Err, OnErr, codes, decimal, drop-cons, take-append-drop, take_rest, slice_get-get_or, Item, PrintForm, OutputFailed, Text, Form, before_pointer, after_pointer, form_named, argument, World, on_form, printing, show, show_form, meaning_of, value_length, Contents, used, Stream, Breaks, Prints, arguments_at, world, ending, Defined, Over, scene, IsCall, AnswersCall, display, shown}
+use Rattle.trac_core.proofs.Words.{◌≡◌, ◌≢◌, ℕ, ◌+◌, ◌-◌, ◌<◌, ◌≤◌, List, [], ◌∷◌, ◌++◌, length, take, drop, slice_get, slice_range, Option, Some, None, refl, sym, ap, ◌∙◌, subst, arith, append_assoc, append-nil, Result, Ok, Err, OnErr, codes, decimal, drop-cons, take-append-drop, take_rest, slice_get-get_or, Item, PrintForm, OutputFailed, Text, Form, before_pointer, after_pointer, form_named, argument, World, on_form, printing, show, show_form, meaning_of, value_length, Contents, used, Stream, Breaks, Prints, arguments_at, world, ending, Null, Over, scene, IsCall, AnswersCall, display, shown}
 use Rattle.std.proofs.lemmas.List.{length-append}
 use Rattle.trac_language.specs.declared.item.Item.TheVariants.{Byte, Gap}
 use Rattle.trac_core.proofs.Performing.{tried-null, tried-broken}
@@ -94,7 +94,7 @@ displays None w = refl
 displays (Some form) w = refl
 
 module _ (w : Contents) (place : ℕ) where
-  pub answers-display : IsCall w place (Some PrintForm) → (meta : ℕ) (source : Stream) (written : Text) → AnswersCall place (scene w meta source written) (Defined 0) (scene w meta source (written ++ display (form_named (argument (arguments_at w.neutral place) 1) w.forms)))
+  pub answers-display : IsCall w place (Some PrintForm) → (meta : ℕ) (source : Stream) (written : Text) → AnswersCall place (scene w meta source written) (Null 0) (scene w meta source (written ++ display (form_named (argument (arguments_at w.neutral place) 1) w.forms)))
   unfolding meaning_of
   answers-display call meta source written =
       let means = displays (form_named (argument (arguments_at w.neutral place) 1) w.forms) (world w.forms meta (ending source.bytes)) in

@@ -1,9 +1,9 @@
 -- A call that is performed, over the contents of a workspace.
-use Rattle.trac_core.proofs.Words.{failing_state_of, StopsAtInput, StopsAtOutput, ◌≡◌, ◌≢◌, ℕ, ◌+◌, ◌-◌, ◌<◌, ◌≤◌, max, Bool, true, false, not, ◌&&◌, ◌||◌, List, [], ◌∷◌, ◌++◌, length, take, drop, All, Option, Some, None, refl, sym, ap, ◌∙◌, subst, arith, append-nil, length-append, ◌==◌, slice_get, unwrap_or, nat_le, unwrap_or-slice_get, list_any, length-map, length-drop, get_or_append_left, drop-append_seam, take-append_seam, take-length, Mode, Active, Function, ReadString, ReadCharacter, ChangeMeta, PrintString, PrintForm, Halt, Fate, Workspace, Steps, InputFailed, OutputFailed, Text, Form, function_named, Input, State, argument, size, Answer, Gives, Ends, meaning_of, meaning, built, deliver, perform, step, need, is_read_string, reads_last, reads_to_end, Cell, Byte, flat_text, text_of_cells, character_of, IsByte, IsLastCall, Contents, used, IsSound, Stream, Full, Value, Placed, Defined, Over, texts_of, no_neutral, neutral_of, memory_of, mode_of, mode_at, is_active_mode, arguments_at, texts_from, world, IsValue, IsPlaced, IsDefined, Makes, is_plain, performs, touches_device, silent, MachineState, moment, ending, failing, state_with, state_of, failing_state_of, EndsRun, input_failures, output_failures, scene, TriedCall, ClosesCall, function_at, delivered, settled, AnswersCall, IsValueFrom, Stands, fate_after, or_right, true≢false}
+use Rattle.trac_core.proofs.Words.{failing_state_of, StopsAtInput, StopsAtOutput, ◌≡◌, ◌≢◌, ℕ, ◌+◌, ◌-◌, ◌<◌, ◌≤◌, max, Bool, true, false, not, ◌&&◌, ◌||◌, List, [], ◌∷◌, ◌++◌, length, take, drop, All, Option, Some, None, refl, sym, ap, ◌∙◌, subst, arith, append-nil, length-append, ◌==◌, slice_get, unwrap_or, nat_le, unwrap_or-slice_get, list_any, length-map, length-drop, get_or_append_left, drop-append_seam, take-append_seam, take-length, Mode, Active, Function, ReadString, ReadCharacter, ChangeMeta, PrintString, PrintForm, Halt, Fate, Workspace, Steps, InputFailed, OutputFailed, Text, Form, function_named, Input, State, argument, size, Answer, Gives, Ends, meaning_of, meaning, built, deliver, perform, step, need, is_read_string, reads_last, reads_to_end, Cell, Byte, flat_text, text_of_cells, character_of, IsByte, IsLastCall, Contents, used, IsSound, Stream, Full, AtEnd, InFront, Null, Over, texts_of, no_neutral, neutral_of, memory_of, mode_of, mode_at, is_active_mode, arguments_at, texts_from, world, IsValue, IsPlaced, IsDefined, Makes, is_plain, performs, touches_device, silent, MachineState, moment, ending, failing, state_with, state_of, failing_state_of, EndsRun, input_failures, output_failures, scene, TriedCall, ClosesCall, function_at, delivered, settled, AnswersCall, IsValueFrom, Stands, fate_after, or_right, true≢false}
 use Rattle.trac_language.specs.declared.mode.Mode.TheVariants.{Neutral as NeutralMode}
 use Rattle.trac_laws.proofs.Rules.{rule_end}
 use Rattle.trac_space.proofs.Texts.{text_of_cells-append}
-use Rattle.trac_functions.specs.declared.arguments.Made.{Made}
+use Rattle.trac_functions.specs.declared.arguments.CallResult.{CallResult}
 use Rattle.trac_functions.proofs.FlatLemmas.{with_cells-append, with_cells-text, text_of-flat, neutral_of-innermost, opened, texts_of-some, grown-mode, arguments-call_at, size-used}
 use Rattle.trac_functions.proofs.ArgumentLemmas.{bytes-flat}
 
@@ -227,15 +227,15 @@ module _ (w mid : Contents) (place : ℕ) (f : Function) (rest : List Text) (sca
       tried-full w new place (Some f) meta source source written 0 names (omega arith)
 
   -- whatever the function makes of the call
-  pub answers-made : (made : Made) → Makes f (argument (arguments_at w.neutral place) 0 ∷ rest) scanned w made mid → (meta : ℕ) (source : Stream) (written : Text) → AnswersCall place (scene w meta source written) made (scene mid meta source written)
+  pub answers-made : (made : CallResult) → Makes f (argument (arguments_at w.neutral place) 0 ∷ rest) scanned w made mid → (meta : ℕ) (source : Stream) (written : Text) → AnswersCall place (scene w meta source written) made (scene mid meta source written)
   answers-made Full is meta source written = tried-too-much mid is meta source written
-  answers-made Value is meta source written = tried-value (settled Value place (length w.neutral) mid) (length w.neutral) (used w + (length mid.neutral - length w.neutral)) is.0 false is.1 refl refl refl meta source written
-  answers-made (Placed size) is meta source written = tried-placed is.0 is.1.0 size is.1.1 meta source written
-  answers-made (Defined cells) is meta source written = tried-defined (closed mid place) (used w + cells) cells is refl refl meta source written
+  answers-made AtEnd is meta source written = tried-value (settled AtEnd place (length w.neutral) mid) (length w.neutral) (used w + (length mid.neutral - length w.neutral)) is.0 false is.1 refl refl refl meta source written
+  answers-made (InFront size) is meta source written = tried-placed is.0 is.1.0 size is.1.1 meta source written
+  answers-made (Null cells) is meta source written = tried-defined (closed mid place) (used w + cells) cells is refl refl meta source written
   answers-made (Over fate) is meta source written = absurd is
 
 -- a call of no function
-pub answers-nothing : (w : Contents) (place : ℕ) → function_named (argument (arguments_at w.neutral place) 0) ≡ None → IsSound w → (meta : ℕ) (source : Stream) (written : Text) → AnswersCall place (scene w meta source written) (Defined 0) (scene w meta source written)
+pub answers-nothing : (w : Contents) (place : ℕ) → function_named (argument (arguments_at w.neutral place) 0) ≡ None → IsSound w → (meta : ℕ) (source : Stream) (written : Text) → AnswersCall place (scene w meta source written) (Null 0) (scene w meta source written)
 answers-nothing w place names sound meta source written =
     quiet-null w place None meta meta source written names sound refl refl refl
 
@@ -260,39 +260,39 @@ value-stands : (f : Function) (args : List Text) (w mid : Contents) (forced : Bo
 value-stands f args w mid forced value is = text-stands w mid mid.forms value is.stands is.fits
 
 -- what stands there, whatever a function makes of its call
-pub stands-made : (f : Function) (args : List Text) (scanned : Bool) (w mid : Contents) (made : Made) → Makes f args scanned w made mid → Stands made (used w) (length w.neutral) mid
+pub stands-made : (f : Function) (args : List Text) (scanned : Bool) (w mid : Contents) (made : CallResult) → Makes f args scanned w made mid → Stands made (used w) (length w.neutral) mid
 stands-made f args scanned w mid Full is = tt
-stands-made f args scanned w mid Value is = value-stands f args w mid false is.0 is.1
-stands-made f args scanned w mid (Placed size) is =
+stands-made f args scanned w mid AtEnd is = value-stands f args w mid false is.0 is.1
+stands-made f args scanned w mid (InFront size) is =
     let placed = is.1.1 in
     let neutral = ap (λ (w : Contents). length w.neutral) placed.stands in
     let room = ap (λ (w : Contents). w.room) placed.stands in
     record { within = omega arith; fits = omega arith }
-stands-made f args scanned w mid (Defined cells) is =
+stands-made f args scanned w mid (Null cells) is =
     let neutral = ap (λ (w : Contents). length w.neutral) is.stands in
     let room = ap (λ (w : Contents). w.room) is.stands in
     record { within = omega arith; fits = omega arith }
 stands-made f args scanned w mid (Over fate) is = tt
 
 -- a function without devices ends no run
-pub no-failure-made : (f : Function) (args : List Text) (scanned : Bool) (w mid : Contents) (made : Made) → Makes f args scanned w made mid → (input_failures None (fate_after made) ≡ 0) × ((output_failures None (fate_after made) ≡ 0) × (made ≢ Over Steps))
+pub no-failure-made : (f : Function) (args : List Text) (scanned : Bool) (w mid : Contents) (made : CallResult) → Makes f args scanned w made mid → (input_failures None (fate_after made) ≡ 0) × ((output_failures None (fate_after made) ≡ 0) × (made ≢ Over Steps))
 no-failure-made f args scanned w mid (Over fate) is = absurd is
 no-failure-made f args scanned w mid _ is = (refl, (refl, λ e. absurd cc))
 
 -- what ends the run, or isn't done, was made of nothing but too few cells
-pub only-full : (f : Function) (args : List Text) (scanned : Bool) (w mid : Contents) (made : Made) → Makes f args scanned w made mid → fate_after made ≢ None → made ≡ Full
+pub only-full : (f : Function) (args : List Text) (scanned : Bool) (w mid : Contents) (made : CallResult) → Makes f args scanned w made mid → fate_after made ≢ None → made ≡ Full
 only-full f args scanned w mid Full is some = refl
 only-full f args scanned w mid (Over fate) is some = absurd is
 only-full f args scanned w mid _ is some = absurd (some refl)
 
 -- and then nothing is settled
-pub unsettled : (made : Made) (place from : ℕ) (w : Contents) → fate_after made ≢ None → settled made place from w ≡ w
+pub unsettled : (made : CallResult) (place from : ℕ) (w : Contents) → fate_after made ≢ None → settled made place from w ≡ w
 unsettled Full place from w some = refl
 unsettled (Over fate) place from w some = refl
 unsettled _ place from w some = absurd (some refl)
 
 -- a null value stands anywhere
-pub stands-null : (w : Contents) → IsSound w → Stands (Defined 0) (used w) (length w.neutral) w
+pub stands-null : (w : Contents) → IsSound w → Stands (Null 0) (used w) (length w.neutral) w
 stands-null w sound = let fits = sound.fits in record { within = omega arith; fits = omega arith }
 
 -- ---- the parenthesis

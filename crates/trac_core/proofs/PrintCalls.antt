@@ -1,5 +1,5 @@
 -- The calls that print, change the meta character and stop.
-use Rattle.trac_core.proofs.Words.{◌≡◌, ◌≢◌, ℕ, List, [], ◌∷◌, ◌++◌, drop, Some, None, refl, sym, ap, ◌∙◌, arith, slice_get, get_or-drop, PrintString, ChangeMeta, Halt, Halted, OutputFailed, Text, argument, World, change_meta, silent, meaning_of, value_length, Contents, used, Stream, arguments_at, world, ending, Defined, Over, scene, IsCall, AnswersCall}
+use Rattle.trac_core.proofs.Words.{◌≡◌, ◌≢◌, ℕ, List, [], ◌∷◌, ◌++◌, drop, Some, None, refl, sym, ap, ◌∙◌, arith, slice_get, get_or-drop, PrintString, ChangeMeta, Halt, Halted, OutputFailed, Text, argument, World, change_meta, silent, meaning_of, value_length, Contents, used, Stream, arguments_at, world, ending, Null, Over, scene, IsCall, AnswersCall}
 use Rattle.trac_core.proofs.Performing.{tried-null, quiet-null, tried-end, tried-broken}
 
 -- the first argument after the name
@@ -10,7 +10,7 @@ pub some-same : {a b : ℕ} → Some a ≡ Some b → a ≡ b
 some-same e = cc
 
 module _ (w : Contents) (place : ℕ) where
-  pub answers-print : IsCall w place (Some PrintString) → (meta : ℕ) (source : Stream) (written : Text) → AnswersCall place (scene w meta source written) (Defined 0) (scene w meta source (written ++ argument (arguments_at w.neutral place) 1))
+  pub answers-print : IsCall w place (Some PrintString) → (meta : ℕ) (source : Stream) (written : Text) → AnswersCall place (scene w meta source written) (Null 0) (scene w meta source (written ++ argument (arguments_at w.neutral place) 1))
   unfolding meaning_of
   answers-print call meta source written =
       tried-null w place (Some PrintString) meta meta source written (argument (arguments_at w.neutral place) 1) call.names call.sound refl refl refl
@@ -30,7 +30,7 @@ module _ (w : Contents) (place : ℕ) where
   first-meta meta meta' [] some none world' = ap (λ m. silent (record world' { meta = m })) (sym (none refl))
   first-meta meta meta' (c ∷ text) some none world' = ap (λ m. silent (record world' { meta = m })) (sym (some c refl))
 
-  pub answers-meta : (meta meta' : ℕ) → IsCall w place (Some ChangeMeta) → ((c : ℕ) → slice_get (argument (arguments_at w.neutral place) 1) 0 ≡ Some c → meta' ≡ c) → (slice_get (argument (arguments_at w.neutral place) 1) 0 ≡ None → meta' ≡ meta) → (source : Stream) (written : Text) → AnswersCall place (scene w meta source written) (Defined 0) (scene w meta' source written)
+  pub answers-meta : (meta meta' : ℕ) → IsCall w place (Some ChangeMeta) → ((c : ℕ) → slice_get (argument (arguments_at w.neutral place) 1) 0 ≡ Some c → meta' ≡ c) → (slice_get (argument (arguments_at w.neutral place) 1) 0 ≡ None → meta' ≡ meta) → (source : Stream) (written : Text) → AnswersCall place (scene w meta source written) (Null 0) (scene w meta' source written)
   unfolding meaning_of
   answers-meta meta meta' call some none source written =
       let means = first-meta meta meta' (argument (arguments_at w.neutral place) 1) some none (world w.forms meta (ending source.bytes)) in

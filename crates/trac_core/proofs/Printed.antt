@@ -2,11 +2,13 @@
 use Rattle.trac_functions.specs.Flat.{in_first}
 use Rattle.trac_space.specs.declared.cell.Cell.{Cell}
 use Rattle.trac_space.specs.declared.cell.Cell.TheVariants.{Byte as ByteCell, Call, Comma, Gap, Head}
-use Rattle.trac_core.proofs.Words.{◌≡◌, ◌≢◌, ℕ, ◌+◌, ◌<◌, Bool, true, false, List, [], ◌∷◌, ◌++◌, length, take, drop, slice_get, get_or, Option, Some, None, refl, sym, ap, ◌∙◌, arith, codes, ℤ, take-append-drop, take_more, slice_get-get_or, Mode, Item, Function, ReadString, ReadCharacter, ChangeMeta, PrintString, PrintForm, SegmentString, CallForm, CallSegment, CallCharacter, CallNumber, InitialPart, CallRestore, Arithmetic, Text, Form, before_pointer, after_pointer, OpenCall, Memory, Input, arguments, argument, World, Meaning, Gives, Ends, on_form, take_part, result_or, read_all, read_string, read_character, change_meta, show, show_form, meaning, meaning_of, before_meta, from_meta, form_of_call, Rule, EndCall, rule, function_of, world_of, perform, end_call, follow, step, with_active, IsLastCall, text_of_cells, Contents, IsSound, memory_of, mode_at, arguments_at, world, state_with, performed_by, performs, prints_output, function_at, display, shown, printed_in, zero, suc, ◌≤◌, ◌⊎◌, inl, inr, length-drop, texts_of, nat_le}
+use Rattle.trac_core.proofs.Words.{◌≡◌, ◌≢◌, ℕ, ◌+◌, ◌<◌, Bool, true, false, List, [], ◌∷◌, ◌++◌, length, take, drop, slice_get, get_or, Option, Some, None, refl, sym, ap, ◌∙◌, arith, codes, ℤ, take-append-drop, take_more, slice_get-get_or, Mode, Item, Function, ReadString, ReadCharacter, ChangeMeta, PrintString, PrintForm, SegmentString, CallForm, CallSegment, CallCharacter, CallNumber, InitialPart, CallRestore, Arithmetic, Text, Form, before_pointer, after_pointer, OpenCall, Memory, Input, arguments, argument, World, Meaning, Gives, Ends, on_form, take_part, result_or, read_all, read_string, read_character, change_meta, show, show_form, meaning, meaning_of, before_meta, from_meta, form_of_call, Rule, EndCall, rule, function_of, world_of, perform, end_call, follow, step, with_active, IsLastCall, text_of_cells, Contents, IsSound, memory_of, mode_at, arguments_at, world, state_with, performed_by, performs, prints_output, function_at, display, shown, printed_in, zero, suc, ◌≤◌, ◌⊎◌, inl, inr, length-drop, texts_of}
 use Rattle.std.proofs.lemmas.List.{length-append}
 use Rattle.trac_language.specs.declared.item.Item.TheVariants.{Byte}
 use Rattle.trac_language.specs.Part.{Part}
-use Rattle.trac_core.specs.Session.{output_after, step_prints}
+use Rattle.std.specs.Prelude.{◌&&◌, if◌then◌else◌, is_none, nat_lt}
+use Rattle.trac_core.specs.Machine.{MachineState}
+use Rattle.trac_core.specs.Session.{next_function, next_printed, output_after, step_prints}
 use Rattle.trac_core.proofs.FormDisplay.{show-append}
 use Rattle.trac_core.proofs.Performing.{closed, performs-closed, step-performs}
 
@@ -103,21 +105,28 @@ perform-prints : (mode : Mode) (m : Meaning) (memory : Memory) (input : Input) �
 perform-prints mode (Gives answer) memory input = refl
 perform-prints mode (Ends fate) memory input = refl
 
--- one that performs no call of a function prints nothing
-rule-prints : (r : Rule) (memory : Memory) (input : Input) → performed_by r memory.calls ≡ None → output_after (follow r (state_with memory input [])) ≡ []
-rule-prints (EndCall rest) memory input none = go memory.calls none
+quiet-prints : (f : Option Function) (args : List Text) (w : World) → prints_output f ≡ false → printed_in (meaning f args w) ≡ []
+quiet-prints None args w quiet = refl
+quiet-prints (Some f) args w quiet = plain-prints f args w quiet
+
+-- one that performs no call of a function that prints, prints nothing
+rule-prints : (r : Rule) (memory : Memory) (input : Input) → prints_output (performed_by r memory.calls) ≡ false → output_after (follow r (state_with memory input [])) ≡ []
+rule-prints (EndCall rest) memory input quiet = go memory.calls quiet
   where
-    go : (calls : List OpenCall) → performed_by (EndCall rest) calls ≡ None → output_after (end_call calls (with_active rest (state_with memory input []))) ≡ []
-    go [] none = refl
-    go (call ∷ outer) none =
+    go : (calls : List OpenCall) → prints_output (performed_by (EndCall rest) calls) ≡ false → output_after (end_call calls (with_active rest (state_with memory input []))) ≡ []
+    go [] quiet = refl
+    go (call ∷ outer) quiet =
         let here = world_of (with_active rest (state_with memory input [])) in
         perform-prints call.mode (meaning (function_of call) (arguments call) here) (record memory { active = rest; calls = outer }) input
-        ∙ ap (λ f. printed_in (meaning f (arguments call) here)) none
-rule-prints _ memory input none = refl
+        ∙ quiet-prints (function_of call) (arguments call) here quiet
+rule-prints _ memory input quiet = refl
+
+pub step-prints-quiet : (memory : Memory) (input : Input) → prints_output (performs memory) ≡ false → [] ≡ step_prints memory input
+unfolding step
+step-prints-quiet memory input quiet = sym (rule-prints (rule memory.active) memory input quiet)
 
 pub step-prints-none : (memory : Memory) (input : Input) → None ≡ performs memory → [] ≡ step_prints memory input
-unfolding step
-step-prints-none memory input none = sym (rule-prints (rule memory.active) memory input (sym none))
+step-prints-none memory input none = step-prints-quiet memory input (ap prints_output (sym none))
 
 pub step-prints-call : (w : Contents) (place meta : ℕ) (input : Input) → IsSound w → slice_get (text_of_cells w.active) 0 ≡ Some 41 → IsLastCall w.neutral place → step_prints (memory_of meta w) input ≡ printed_in (meaning (function_at w.neutral place) (arguments_at w.neutral place) (world w.forms meta input))
 step-prints-call w place meta input sound first last =
@@ -162,5 +171,18 @@ prints-no-more neutral place w (Some f) other = go (cases f)
         let none = ap length (other-prints (Some f) (arguments_at neutral place) w refl (λ e. not_string cc) other) in
         omega (arith, none)
 
-pub is-within : (a b : ℕ) → a ≤ b → true ≡ nat_le a b
-is-within a b within = sym (grind arith)
+-- ---- what the next step of a machine prints, by the function that it performs
+
+pub next-printing : (m : MachineState) (f : Option Function) → f ≡ next_function m → prints_output f ≡ true → (f ≡ performs m.memory) × ((input : Input) → step_prints m.memory input ≡ next_printed m input)
+next-printing m f is prints = go (is_none m.fate && nat_lt m.steps m.allowance) is
+  where
+    go : (going : Bool) → f ≡ (if going then performs m.memory else None) → (f ≡ performs m.memory) × ((input : Input) → step_prints m.memory input ≡ (if going then step_prints m.memory input else []))
+    go true is = (is, λ input. refl)
+    go false is = absurd (let none = ap prints_output is in cc)
+
+pub next-quiet : (m : MachineState) (f : Option Function) (input : Input) → f ≡ next_function m → prints_output f ≡ false → [] ≡ next_printed m input
+next-quiet m f input is quiet = go (is_none m.fate && nat_lt m.steps m.allowance) is
+  where
+    go : (going : Bool) → f ≡ (if going then performs m.memory else None) → [] ≡ (if going then step_prints m.memory input else [])
+    go true is = step-prints-quiet m.memory input (ap prints_output (sym is) ∙ quiet)
+    go false is = refl

@@ -1,5 +1,5 @@
 -- The calls that read.
-use Rattle.trac_core.proofs.Words.{◌≡◌, ℕ, ◌+◌, ◌-◌, ◌<◌, ◌≤◌, true, false, not, List, [], ◌∷◌, ◌++◌, length, drop, Some, refl, sym, ap, ◌∙◌, arith, append_assoc, length-append, ⊎_elim, eq-eqb, ◌==◌, before_first, position_or_len, list_any, length-map, cases_lt, ReadString, ReadCharacter, InputEnded, InputFailed, Text, World, meaning_of, built, before_meta, from_meta, read_string, reads_last, read_all, valued, with_input, Byte, flat_text, Contents, used, IsSound, Stream, has_byte, Reads, arguments_at, world, ending, failing, Full, Value, Over, scene, IsCall, settled, AnswersCall, IsValueFrom, TakesFrom, or_parts}
+use Rattle.trac_core.proofs.Words.{◌≡◌, ℕ, ◌+◌, ◌-◌, ◌<◌, ◌≤◌, true, false, not, List, [], ◌∷◌, ◌++◌, length, drop, Some, refl, sym, ap, ◌∙◌, arith, append_assoc, length-append, ⊎_elim, eq-eqb, ◌==◌, before_first, position_or_len, list_any, length-map, cases_lt, ReadString, ReadCharacter, InputEnded, InputFailed, Text, World, meaning_of, built, before_meta, from_meta, read_string, reads_last, read_all, valued, with_input, Byte, flat_text, Contents, used, IsSound, Stream, has_byte, Reads, arguments_at, world, ending, failing, Full, AtEnd, Over, scene, IsCall, settled, AnswersCall, IsValueFrom, TakesFrom, or_parts}
 use Rattle.trac_functions.proofs.PutCharacters.{used-with}
 use Rattle.trac_core.proofs.MetaCharacters.{position-past, before-none, from-none, before-at, from-at, length-before, any-at}
 use Rattle.trac_core.proofs.Performing.{tried-quiet, tried-full, tried-end, tried-failed, delivered-value, text-stands}
@@ -26,12 +26,12 @@ module _ (w mid : Contents) (place meta : ℕ) (text : Text) (call : IsCall w pl
   args = arguments_at w.neutral place
 
   -- what was read is the value
-  read-value : (source source' : Stream) (written : Text) → before_meta (world w.forms meta (ending source.bytes)) ≡ text → read_string text (from_meta (world w.forms meta (ending source.bytes))) (world w.forms meta (ending source.bytes)) ≡ valued text (world w.forms meta (ending source'.bytes)) → (source.ended ≡ true → source'.ended ≡ true) → (reads_last (Some ReadString) (world w.forms meta (ending source.bytes)) ≡ true → source'.ended ≡ true) → AnswersCall place (scene w meta source written) Value (scene mid meta source' written)
+  read-value : (source source' : Stream) (written : Text) → before_meta (world w.forms meta (ending source.bytes)) ≡ text → read_string text (from_meta (world w.forms meta (ending source.bytes))) (world w.forms meta (ending source.bytes)) ≡ valued text (world w.forms meta (ending source'.bytes)) → (source.ended ≡ true → source'.ended ≡ true) → (reads_last (Some ReadString) (world w.forms meta (ending source.bytes)) ≡ true → source'.ended ≡ true) → AnswersCall place (scene w meta source written) AtEnd (scene mid meta source' written)
   unfolding meaning_of
   read-value source source' written before means stays_ended read_all =
       let here = world w.forms meta (ending source.bytes) in
       let room = room-reads meta w mid text reads in
-      tried-quiet w (settled Value place (length w.neutral) mid) place (Some ReadString) meta meta source source' written (used w + (length mid.neutral - length w.neutral)) text false w.forms call.names
+      tried-quiet w (settled AtEnd place (length w.neutral) mid) place (Some ReadString) meta meta source source' written (used w + (length mid.neutral - length w.neutral)) text false w.forms call.names
       (record {
         means = ap (λ t. read_string t (from_meta here) here) before ∙ means;
         stands = delivered-value w mid _ place (length w.neutral) text false w.forms call.innermost reads.pushed refl refl;
@@ -42,7 +42,7 @@ module _ (w mid : Contents) (place meta : ℕ) (text : Text) (call : IsCall w pl
       })
 
   -- the meta character followed
-  pub read-to-meta : (source source' : Stream) (written : Text) → source.bytes ≡ text ++ meta ∷ source'.bytes → source.ended ≡ false → AnswersCall place (scene w meta source written) Value (scene mid meta source' written)
+  pub read-to-meta : (source source' : Stream) (written : Text) → source.bytes ≡ text ++ meta ∷ source'.bytes → source.ended ≡ false → AnswersCall place (scene w meta source written) AtEnd (scene mid meta source' written)
   read-to-meta source source' written gave open_still =
       let p = λ (c : ℕ). c == meta in
       let here = world w.forms meta (ending source.bytes) in
@@ -52,7 +52,7 @@ module _ (w mid : Contents) (place meta : ℕ) (text : Text) (call : IsCall w pl
       (λ e. absurd (let any = ap (list_any p) gave ∙ any-at p text meta source'.bytes (is-same meta) in let n = ap not any in cc))
 
   -- the source ended after some bytes
-  pub read-some : (source source' : Stream) (written : Text) → 0 < length text → source.bytes ≡ text → source'.bytes ≡ [] → source'.ended ≡ true → AnswersCall place (scene w meta source written) Value (scene mid meta source' written)
+  pub read-some : (source source' : Stream) (written : Text) → 0 < length text → source.bytes ≡ text → source'.bytes ≡ [] → source'.ended ≡ true → AnswersCall place (scene w meta source written) AtEnd (scene mid meta source' written)
   read-some source source' written some gave none_left ended =
       let p = λ (c : ℕ). c == meta in
       let here = world w.forms meta (ending source.bytes) in
@@ -116,7 +116,7 @@ reads-take meta w mid text last source source' reads sound short gave =
 -- ---- rc
 
 module _ (w : Contents) (place meta : ℕ) (call : IsCall w place (Some ReadCharacter)) where
-  pub character-read : (mid : Contents) (byte : ℕ) (source source' : Stream) (written : Text) → IsSound mid → mid ≡ record w { neutral = w.neutral ++ Byte byte ∷ [] } → source.bytes ≡ byte ∷ source'.bytes → source.ended ≡ false → AnswersCall place (scene w meta source written) Value (scene mid meta source' written)
+  pub character-read : (mid : Contents) (byte : ℕ) (source source' : Stream) (written : Text) → IsSound mid → mid ≡ record w { neutral = w.neutral ++ Byte byte ∷ [] } → source.bytes ≡ byte ∷ source'.bytes → source.ended ≡ false → AnswersCall place (scene w meta source written) AtEnd (scene mid meta source' written)
   unfolding meaning_of
   character-read mid byte source source' written sound pushed gave open_still =
       let args = arguments_at w.neutral place in
@@ -125,7 +125,7 @@ module _ (w : Contents) (place meta : ℕ) (call : IsCall w place (Some ReadChar
       let room = ap (λ (w : Contents). w.room) pushed in
       let cells : used mid ≡ used w + 1 = ap used pushed ∙ omega arith in
       let one : length mid.neutral ≡ length w.neutral + 1 = ap (λ (w : Contents). length w.neutral) pushed ∙ long in
-      tried-quiet w (settled Value place (length w.neutral) mid) place (Some ReadCharacter) meta meta source source' written (used w + (length mid.neutral - length w.neutral)) (byte ∷ []) false w.forms call.names
+      tried-quiet w (settled AtEnd place (length w.neutral) mid) place (Some ReadCharacter) meta meta source source' written (used w + (length mid.neutral - length w.neutral)) (byte ∷ []) false w.forms call.names
       (record {
         means = means;
         stands = delivered-value w mid _ place (length w.neutral) (byte ∷ []) false w.forms call.innermost pushed refl refl;

@@ -1,14 +1,20 @@
 -- The row of the table of scanning rules, by the first characters, as a scanner tells them.
-use Rattle.trac_core.proofs.Words.{if◌then◌else◌, Bool, true, false, codes, bytes_eq, is_layout, number_sign_rule, BeginArgument, BeginCall, DeleteLayout, EndCall, Active, ◌==◌, ◌≡◌, ◌≢◌, ℕ, ◌-◌, ◌<◌, ◌≤◌, ⊎_elim, List, [], ◌∷◌, length, take, drop, map, Option, Some, None, refl, sym, ap, ◌∙◌, arith, slice_get, slice_range, cases_eq, ne_eqb, take-length, Text, protected, AddCharacter, parenthesis_rule, rule, Cell, Call, seen, Neutral, no_neutral, with_cell, with_cells, neutral_of}
+use Rattle.trac_core.proofs.Words.{if◌then◌else◌, Bool, true, false, codes, bytes_eq, is_layout, number_sign_rule, BeginArgument, BeginCall, DeleteLayout, EndCall, Active, ◌==◌, ◌≡◌, ◌≢◌, ℕ, zero, suc, ◌+◌, ◌-◌, ◌<◌, ◌≤◌, ⊎_elim, List, [], ◌∷◌, length, take, drop, map, Option, Some, None, refl, sym, ap, ◌∙◌, arith, slice_get, slice_range, cases_eq, ne_eqb, take-length, Text, protected, AddCharacter, parenthesis_rule, rule, Cell, Call, seen, Neutral, no_neutral, with_cell, with_cells, neutral_of, text_of_cells}
 use Rattle.trac_language.specs.declared.mode.Mode.TheVariants.{Neutral as NeutralMode}
 use Rattle.trac_laws.proofs.Rules.{rule_tab, rule_line_feed, rule_return, rule_comma, rule_end, rule_active, rule_neutral, rule_other}
 use Rattle.trac_core.specs.declared.machine.view.ScanningRule.TheVariants as row
-use Rattle.trac_core.specs.View.{dropped, row_of}
+use Rattle.trac_core.specs.View.{dropped, row_of, stops_before, steps_before_call, taken, taken_in_row}
+use Rattle.std.proofs.lemmas.List.{drop-drop, length-take}
+use Rattle.std.proofs.lemmas.Slice.Eq.{bytes_eq-Decides}
 use Rattle.trac_core.proofs.Scanning.{first-rest, second-rest, third-rest, sign-rule, rule-parenthesis, rule-nothing}
 
 pub row-nothing : (text : Text) → slice_get text 0 ≡ None → row.Idling ≡ row_of (rule text)
 row-nothing [] e = ap row_of (sym rule-nothing)
 row-nothing (c ∷ text) e = absurd cc
+
+pub row-none : (cells : List Cell) → slice_get cells 0 ≡ None → row.Idling ≡ row_of (rule (text_of_cells cells))
+row-none [] e = row-nothing [] refl
+row-none (cell ∷ cells) e = absurd cc
 
 -- where the rule is this one for each text that begins with c
 row-first : (text : Text) (c : ℕ) → slice_get text 0 ≡ Some c → rule text ≡ rule (c ∷ drop 1 text)
@@ -83,6 +89,86 @@ dropped-other (c ∷ rest) n differs =
 pub dropped-parenthesis : (text : Text) (o : Option (Text × Text)) (n : ℕ) → slice_get text 0 ≡ Some 40 → protected (drop 1 text) ≡ o → dropped (parenthesis_rule o) n ≡ dropped (rule text) n
 dropped-parenthesis text o n first is =
     ap (λ r. dropped r n) (sym (row-first text 40 first ∙ rule-parenthesis (drop 1 text) o is))
+
+-- ---- what a rule takes
+
+sign-takes : (active neutral : Bool) (n : ℕ) (a b c : Text) → let r = if active then BeginCall Active a else (if neutral then BeginCall NeutralMode b else AddCharacter 35 c) in taken_in_row (row_of r) ≡ taken r n
+sign-takes true neutral n a b c = refl
+sign-takes false true n a b c = refl
+sign-takes false false n a b c = refl
+
+other-takes : (layout comma sign close : Bool) (n c : ℕ) (rest : Text) → let r = if layout then DeleteLayout rest else (if comma then BeginArgument rest else (if sign then number_sign_rule rest else (if close then EndCall rest else AddCharacter c rest))) in taken_in_row (row_of r) ≡ taken r n
+other-takes true comma sign close n c rest = refl
+other-takes false true sign close n c rest = refl
+other-takes false false true close n c rest =
+    sign-takes (bytes_eq (take 1 rest) (codes "(")) (bytes_eq (take 2 rest) (codes "#(")) n (drop 1 rest) (drop 2 rest) rest
+other-takes false false false true n c rest = refl
+other-takes false false false false n c rest = refl
+
+-- where no left parenthesis stands first it is what the row says
+pub taken-other : (text : Text) (n : ℕ) → slice_get text 0 ≢ Some 40 → taken_in_row (row_of (rule text)) ≡ taken (rule text) n
+unfolding rule
+taken-other [] n differs = refl
+taken-other (c ∷ rest) n differs =
+    let other : (c == 40) ≡ false = ne_eqb c 40 (λ e. differs (ap Some e)) in
+    rw other (other-takes (is_layout c) (c == 44) (c == 35) (c == 41) n c rest)
+
+-- a text in parentheses is taken with both, and all where there is no match
+pub taken-parenthesis : (text : Text) (o : Option (Text × Text)) (n : ℕ) → slice_get text 0 ≡ Some 40 → protected (drop 1 text) ≡ o → taken (parenthesis_rule o) n ≡ taken (rule text) n
+taken-parenthesis text o n first is =
+    ap (λ r. taken r n) (sym (row-first text 40 first ∙ rule-parenthesis (drop 1 text) o is))
+
+character-row : (sign : Bool) → taken_in_row (if sign then row.NumberSign else row.Character) ≡ 1
+character-row true = refl
+character-row false = refl
+
+sign-within : (active neutral : Bool) (n : ℕ) (a b c : Text) → (active ≡ true → 2 ≤ n) → (neutral ≡ true → 3 ≤ n) → 1 ≤ n → taken_in_row (row_of (if active then BeginCall Active a else (if neutral then BeginCall NeutralMode b else AddCharacter 35 c))) ≤ n
+sign-within true neutral n a b c two three one = two refl
+sign-within false true n a b c two three one = three refl
+sign-within false false n a b c two three one = one
+
+other-within : (layout opens comma sign close : Bool) (c : ℕ) (rest : Text) (o : Option (Text × Text)) → taken_in_row (row_of (if layout then DeleteLayout rest else (if opens then parenthesis_rule o else (if comma then BeginArgument rest else (if sign then number_sign_rule rest else (if close then EndCall rest else AddCharacter c rest)))))) ≤ suc (length rest)
+other-within true opens comma sign close c rest o = omega arith
+other-within false true comma sign close c rest None = omega arith
+other-within false true comma sign close c rest (Some parts) = omega arith
+other-within false false true sign close c rest o = omega arith
+other-within false false false true close c rest o =
+    let prefix = λ (k : ℕ) (t : Text) (is : bytes_eq (take k rest) t ≡ true). ap (λ t. length t) ((bytes_eq-Decides (take k rest) t).0 is) in
+    sign-within (bytes_eq (take 1 rest) (codes "(")) (bytes_eq (take 2 rest) (codes "#(")) (suc (length rest)) (drop 1 rest) (drop 2 rest) rest
+    (λ is. omega (arith, length-take 1 rest, prefix 1 (codes "(") is)) (λ is. omega (arith, length-take 2 rest, prefix 2 (codes "#(") is)) (omega arith)
+other-within false false false false true c rest o = omega arith
+other-within false false false false false c rest o = omega (arith, character-row (c == 35))
+
+-- no more is taken so than there is
+pub taken-within : (text : Text) → taken_in_row (row_of (rule text)) ≤ length text
+unfolding rule
+taken-within [] = omega arith
+taken-within (c ∷ rest) = other-within (is_layout c) (c == 40) (c == 44) (c == 35) (c == 41) c rest (protected rest)
+
+-- ---- the steps before a call
+
+pub steps-end : (n : ℕ) (text : Text) → stops_before (row_of (rule text)) ≡ true → steps_before_call n text ≡ 0
+unfolding steps_before_call
+steps-end zero text e = refl
+steps-end (suc n) text e = rw (e, steps_before_call) refl
+
+steps-on : (n : ℕ) (text : Text) → stops_before (row_of (rule text)) ≡ false → steps_before_call (suc n) text ≡ 1 + steps_before_call n (drop (taken (rule text) (length text)) text)
+unfolding steps_before_call
+steps-on n text e = rw (e, steps_before_call) refl
+
+pub steps-none : (text : Text) → steps_before_call 0 text ≡ 0
+unfolding steps_before_call
+steps-none text = refl
+
+-- one step more from a place on
+pub steps-more : (most steps place took : ℕ) (text : Text) → steps < most → stops_before (row_of (rule (drop place text))) ≡ false → took ≡ taken (rule (drop place text)) (length (drop place text)) → (steps + 1) + steps_before_call (most - (steps + 1)) (drop (place + took) text) ≡ steps + steps_before_call (most - steps) (drop place text)
+steps-more most steps place took text less goes is =
+    let n = most - (steps + 1) in
+    let rest = drop place text in
+    let more : most - steps ≡ suc n = omega arith in
+    let left : drop (place + took) text ≡ drop (taken (rule rest) (length rest)) rest = sym (drop-drop took place text) ∙ ap (λ k. drop k rest) is in
+    let one = ap (λ k. steps_before_call k rest) more ∙ steps-on n rest goes in
+    omega (arith, ap (λ t. steps_before_call n t) left, one)
 
 -- the number in a call mark makes no difference to the neutral string
 with_cell-seen : (n : Neutral) (cell : Cell) → with_cell n (seen cell) ≡ with_cell n cell

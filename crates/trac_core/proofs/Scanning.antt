@@ -1,6 +1,7 @@
 -- The rules that perform no call, over the contents of a workspace.
 use Rattle.trac_core.proofs.Words.{length-map, get_or-map, get_or, seen, ◌≡◌, ◌≢◌, ℕ, ◌+◌, ◌-◌, ◌<◌, true, false, List, [], ◌∷◌, ◌++◌, length, take, drop, map, All, Option, Some, None, refl, sym, ap, ◌∙◌, subst, ⊎_elim, arith, slice_get, MatchOption, is_some, slice_range, cases_eq, drop-map, take-map, length-drop, drop-drop, All-take, All-drop, take-length, Mode, Active, Text, Form, cells, protected, Input, OpenCall, add, begin_argument, Rule, LoadIdling, DeleteLayout, AddProtected, ClearActive, BeginArgument, BeginCall, EndCall, AddCharacter, parenthesis_rule, is_layout, rule, Next, idling, follow, end_need, need_by, step, need, reads_last_by, Cell, Byte, Call, Comma, NoCall, IsLastCall, flat_text, text_of_cells, character_of, IsByte, Contents, used, IsSound, Neutral, with_cell, neutral_of, memory_with, memory_of, state_with, Scans, size, State, performed_by, ending}
 use Rattle.trac_language.specs.declared.mode.Mode.TheVariants.{Neutral as NeutralMode}
+use Rattle.std.proofs.lemmas.List.{take_all}
 use Rattle.trac_laws.proofs.Rules.{rule_comma, rule_end, rule_active, rule_neutral, rule_sign_last, rule_two_signs_last, rule_sign, rule_two_signs, rule_other}
 use Rattle.trac_functions.proofs.FlatLemmas.{with_cells-append, neutral_of-push, neutral_of-innermost, size-used, with_cells-text, calls-none}
 use Rattle.trac_functions.proofs.ArgumentLemmas.{flat-bytes, text_of_cells-seen}
@@ -16,6 +17,10 @@ drop-text n cells = sym (drop-map character_of n cells)
 
 pub take-text : (n : ℕ) (cells : List Cell) → text_of_cells (take n cells) ≡ take n (text_of_cells cells)
 take-text n cells = sym (take-map character_of n cells)
+
+-- the text of the cells from a place on
+pub text-from : (n : ℕ) (cells : List Cell) → text_of_cells (take (length cells - n) (drop n cells)) ≡ drop n (text_of_cells cells)
+text-from n cells = ap text_of_cells (take_all (length cells - n) (drop n cells) (omega (arith, length-drop n cells))) ∙ drop-text n cells
 
 -- a character that was read of the cells is one of their text
 pub read-text : (cells : List Cell) (i c : ℕ) → i < length cells → c ≡ character_of (get_or cells i (Byte 0)) → (i < length (text_of_cells cells)) × (c ≡ get_or (text_of_cells cells) i 0)

@@ -20,9 +20,9 @@ use Rattle.trac_space.specs.Texts.{flat_text, text_of_cells, IsByte}
 use Rattle.trac_forms.specs.Contents.{Contents, used, IsSound}
 use Rattle.trac_devices.specs.Devices.{Stream, Sent}
 use Rattle.trac_functions.specs.declared.arguments.Arguments.{Arguments}
-use Rattle.trac_functions.specs.declared.arguments.Made.{Made}
-use Rattle.trac_functions.specs.declared.arguments.Made.TheVariants.{Full, Value, Placed, Defined}
-use Rattle.trac_functions.specs.declared.arguments.Made.TheVariants.{Over}
+use Rattle.trac_functions.specs.declared.arguments.CallResult.{CallResult}
+use Rattle.trac_functions.specs.declared.arguments.CallResult.TheVariants.{Full, AtEnd, InFront, Null}
+use Rattle.trac_functions.specs.declared.arguments.CallResult.TheVariants.{Over}
 use Rattle.trac_functions.specs.Flat.{memory_of, mode_at, arguments_at}
 use Rattle.trac_functions.specs.Calls.{texts}
 use Rattle.trac_core.specs.Performed.{performs, reads_input, prints_output}
@@ -116,33 +116,33 @@ value_delivered place from w =
 -- what a function's answer comes to: the call whose mark stands at the place leaves, and the value,
 -- which stands from another place on if it isn't placed already, is delivered; a step that isn't
 -- done, or that ends the run, leaves all as it is
-abbrev pub settled : Made → (place from : ℕ) → Contents → Contents
+abbrev pub settled : CallResult → (place from : ℕ) → Contents → Contents
 settled Full place from w = w
-settled Value place from w = value_delivered place from w
-settled (Placed cells) place from w = record w { neutral = take place w.neutral }
-settled (Defined cells) place from w = record w { neutral = take place w.neutral }
+settled AtEnd place from w = value_delivered place from w
+settled (InFront cells) place from w = record w { neutral = take place w.neutral }
+settled (Null cells) place from w = record w { neutral = take place w.neutral }
 settled (Over fate) place from w = w
 
 -- how the step ends
-abbrev pub fate_after : Made → Option Fate
+abbrev pub fate_after : CallResult → Option Fate
 fate_after Full = Some Workspace
-fate_after Value = None
-fate_after (Placed cells) = None
-fate_after (Defined cells) = None
+fate_after AtEnd = None
+fate_after (InFront cells) = None
+fate_after (Null cells) = None
 fate_after (Over fate) = Some fate
 
 -- no device failed, and the allowance was not used up
-abbrev pub EndsQuietly : Made → Type 0
+abbrev pub EndsQuietly : CallResult → Type 0
 EndsQuietly made =
     (input_failures None (fate_after made) ≡ 0) × ((output_failures None (fate_after made) ≡ 0)
     × (made ≢ Over Steps))
 
 -- the cells that it needed, where so many were used before and the value stands from a place on
-abbrev pub need_after : Made → (before from : ℕ) → Contents → ℕ
+abbrev pub need_after : CallResult → (before from : ℕ) → Contents → ℕ
 need_after Full before from w = 0
-need_after Value before from w = before + (length w.neutral - from)
-need_after (Placed cells) before from w = before + cells
-need_after (Defined cells) before from w = before + cells
+need_after AtEnd before from w = before + (length w.neutral - from)
+need_after (InFront cells) before from w = before + cells
+need_after (Null cells) before from w = before + cells
 need_after (Over fate) before from w = used w
 
 -- a text stands in neutral from a place on, and with the cells that were used before it fits
@@ -157,15 +157,15 @@ pub record IsBuilt (before from cells : ℕ) (w : Contents) : Type 0 where
   pub fits : before + cells ≤ w.room
 
 -- what the answer says of a value or of what was built stands there
-abbrev pub Stands : Made → (before from : ℕ) → Contents → Type 0
+abbrev pub Stands : CallResult → (before from : ℕ) → Contents → Type 0
 Stands Full before from w = ⊤
-Stands Value before from w = IsValueFrom before from w
-Stands (Placed cells) before from w = IsBuilt before from cells w
-Stands (Defined cells) before from w = IsBuilt before from cells w
+Stands AtEnd before from w = IsValueFrom before from w
+Stands (InFront cells) before from w = IsBuilt before from cells w
+Stands (Null cells) before from w = IsBuilt before from cells w
 Stands (Over fate) before from w = ⊤
 
 -- for each machine that is to perform this call, the function's answer comes to what is right
-abbrev pub AnswersCall : ℕ → Scene → Made → Scene → Type 0
+abbrev pub AnswersCall : ℕ → Scene → CallResult → Scene → Type 0
 AnswersCall place old made new =
     let before = used old.contents in
     let from = length old.contents.neutral in

@@ -1,6 +1,7 @@
 -- The innermost call by its parts, and a try of a step that touches no device.
 use Rattle.std.specs.Prelude.{◌≡◌, ◌≢◌, ℕ, drop, true, false, Option, None, IsSome}
 use Rattle.trac_language.specs.declared.fate.Fate.{Fate}
+use Rattle.trac_language.specs.declared.function.Function.{Function}
 use Rattle.trac_language.specs.Text.{Text}
 use Rattle.trac_language.specs.State.{Memory}
 use Rattle.trac_space.specs.Calls.{IsLastCall}
@@ -23,9 +24,9 @@ pub record IsNamed (call : NamedCall) (w : Contents) : Type 0 where
       texts w call.arguments ≡ drop 1 (arguments_at w.neutral call.place)
   pub scanned : call.arguments.scanned ≡ is_active_mode (mode_at w.neutral call.place)
 
--- the next step reads or prints
-abbrev pub TouchesDevice : Memory → Type 0
-TouchesDevice memory = touches_device (performs memory) ≡ true
+-- the next step performs this function, which reads or prints
+abbrev pub StopsBefore : Option Function → Memory → Type 0
+StopsBefore function memory = (performs memory ≡ function) × (touches_device function ≡ true)
 
 -- the next step neither reads nor prints, and for each machine that holds these contents and may
 -- step, and whatever its devices hold, the answer is right; it tells no failure of a device, and a

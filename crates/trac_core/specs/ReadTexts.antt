@@ -2,8 +2,14 @@
 use Rattle.std.specs.Prelude.{◌≡◌, ℕ, true, false, [], ◌∷◌, ◌++◌}
 use Rattle.trac_language.specs.Text.{Text}
 use Rattle.trac_devices.specs.Devices.{Stream, has_byte}
+use Rattle.trac_devices.specs.HeldBytes.{ReadsInto}
+use Rattle.trac_forms.specs.Contents.{Contents, Appended}
 use Rattle.trac_core.specs.declared.text_io.ReadEnd.{ReadEnd}
 use Rattle.trac_core.specs.declared.text_io.ReadEnd.TheVariants.{Meta, Ended, Failed, Full}
+
+-- a text without the meta character was put at the end of the neutral string
+abbrev pub Reads : ℕ → Contents → Contents → Text → Type 0
+Reads meta old new text = ReadsInto Appended meta old new text
 
 -- the failures that the end of a text counts for
 abbrev pub failures_of_read : ReadEnd → ℕ

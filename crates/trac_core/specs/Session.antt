@@ -1,14 +1,19 @@
 -- What a machine's next step reads and prints.
-use Rattle.std.specs.Prelude.{[], ◌&&◌, Option, Some, None, is_none, nat_lt, if◌then◌else◌}
+use Rattle.std.specs.Prelude.{ℕ, [], ◌&&◌, Option, Some, None, option_map, is_none, nat_lt, if◌then◌else◌}
 use Rattle.trac_language.specs.declared.function.Function.{Function}
 use Rattle.trac_language.specs.declared.function.Function.TheVariants.{ReadString, ReadCharacter}
+use Rattle.trac_language.specs.declared.report.Report.{Report}
 use Rattle.trac_language.specs.Text.{Text}
 use Rattle.trac_language.specs.State.{Memory, Input}
-use Rattle.trac_language.specs.Meaning.{Meaning, Gives, Ends}
+use Rattle.trac_language.specs.Meaning.{Meaning, Gives, Ends, meaning}
 use Rattle.trac_language.specs.Step.{Outcome, Next, Over, step}
 use Rattle.trac_core.specs.declared.machine.session.Awaits.{Awaits}
 use Rattle.trac_core.specs.declared.machine.session.Awaits.TheVariants.{Nothing, Byte}
 use Rattle.trac_core.specs.declared.machine.session.Awaits.TheVariants.{Text as TextAwaited}
+use Rattle.trac_forms.specs.Contents.{Contents}
+use Rattle.trac_functions.specs.Flat.{arguments_at}
+use Rattle.trac_functions.specs.Calls.{world}
+use Rattle.trac_core.specs.Attempts.{function_at}
 use Rattle.trac_core.specs.Performed.{performs}
 use Rattle.trac_core.specs.Machine.{MachineState, state_with}
 
@@ -43,3 +48,13 @@ step_prints memory input = output_after (step (state_with memory input []))
 abbrev pub next_printed : MachineState → Input → Text
 next_printed m input =
     if is_none m.fate && nat_lt m.steps m.allowance then step_prints m.memory input else []
+
+-- what the call prints whose mark stands at the place, over this input
+abbrev pub call_prints : Contents → (place meta : ℕ) → Input → Text
+call_prints w place meta input =
+    printed_in (meaning (function_at w.neutral place) (arguments_at w.neutral place)
+    (world w.forms meta input))
+
+-- how the run ended, if it did, with its steps and its peak
+abbrev pub report_of : MachineState → Option Report
+report_of m = option_map (λ fate. record { fate = fate; steps = m.steps; peak = m.peak }) m.fate

@@ -12,8 +12,8 @@ use Rattle.trac_space.specs.Cells.{NoComma}
 use Rattle.trac_space.specs.Texts.{text_of_cells, character_of}
 use Rattle.trac_forms.specs.Contents.{Contents}
 use Rattle.trac_functions.specs.Flat.{memory_of}
-use Rattle.trac_core.specs.declared.scan.Front.{Front}
-use Rattle.trac_core.specs.declared.scan.Front.TheVariants.{Empty, Closes}
+use Rattle.trac_core.specs.declared.scan.Pending.{Pending}
+use Rattle.trac_core.specs.declared.scan.Pending.TheVariants.{Idling, EndOfCall}
 use Rattle.trac_core.specs.declared.machine.Counters.{Counters}
 use Rattle.trac_core.specs.Performed.{performs}
 use Rattle.trac_core.specs.Machine.{MachineState, state_with}
@@ -75,15 +75,15 @@ KeepsPlain old new =
 
 -- what the next step asks for: the idling procedure, since the active string is empty; or the
 -- innermost call, since a right parenthesis that begins that string closes it
-abbrev pub AsksFor : Front → Contents → Type 0
-AsksFor Empty w = w.active ≡ []
-AsksFor (Closes call) w =
+abbrev pub AsksFor : Pending → Contents → Type 0
+AsksFor Idling w = w.active ≡ []
+AsksFor (EndOfCall call) w =
     (slice_get (text_of_cells w.active) 0 ≡ Some 41) × IsLastCall w.neutral call.place
     × IsPlainFrom call.plain w.neutral
 
 -- what the rule that fits the beginning of the active string comes to: some of those steps, at most
 -- so many, or none
-abbrev pub ComesTo : Result ℕ Front → ℕ → Contents → Contents → Type 0
+abbrev pub ComesTo : Result ℕ Pending → ℕ → Contents → Contents → Type 0
 ComesTo (Ok n) most old new = SomeSteps n most old new
 ComesTo (Err front) most old new = (new ≡ old) × AsksFor front old
 

@@ -1,6 +1,6 @@
 //! Calls: one is performed when its right parenthesis is scanned.
 ghost use Rattle.std.specs.Prelude.{◌≡◌, ◌≢◌, ◌-◌, ◌<◌, ◌≤◌, ◌^◌, ℕ};
-ghost use Rattle.std.specs.Prelude.{length, None, Some, true, false, MatchOption, ⊤};
+ghost use Rattle.std.specs.Prelude.{length, None, Some, true, false, IfOk, MatchResult};
 ghost use Rattle.trac_language.specs.Text.{Text};
 ghost use Rattle.trac_space.specs.Calls.{IsLastCall};
 ghost use Rattle.trac_forms.specs.Contents.{IsSound, used};
@@ -10,18 +10,18 @@ ghost use Rattle.trac_core.specs.Performed.{is_plain, performs, touches_device};
 ghost use Rattle.trac_core.specs.Attempts.{scene, Tried, TriedCall, function_at, TakesFrom};
 ghost use Rattle.trac_core.specs.Attempts.{TakesAtMost, AnswersCall, Stands, fate_after};
 ghost use Rattle.trac_core.specs.Attempts.{LeavesSource, LeavesSink, EndsQuietly, NoneFailed, HasArguments};
-ghost use Rattle.trac_core.specs.NamedCalls.{IsNamed, TriedAlone, TouchesDevice};
+ghost use Rattle.trac_core.specs.NamedCalls.{IsNamed, TriedAlone, StopsBefore};
 ghost use Rattle.trac_devices.specs.Devices.{Stream};
 ghost use Rattle.trac_core.specs.StepsInRow.{AsksFor, IsPlainFrom};
 ghost use Rattle.trac_functions.specs.Calls.{KeepsRoom};
 
-use crate::delivery::{is_active_call, settle};
+use crate::delivery::{finish_call, is_active_call};
 use crate::display::print_form;
 use crate::input_output::{change_meta, print_string, read_character, read_string};
-use crate::scan::{Attempt, Front, InnermostCall, load_idling};
+use crate::scan::{Attempt, InnermostCall, Pending, load_idling};
 use trac_devices::{Sink, Source};
 use trac_forms::Work;
-use trac_functions::arguments::{Arguments, Made};
+use trac_functions::arguments::{Arguments, CallResult};
 use trac_functions::{arithmetic, bit_strings, comparing, form_calls, form_parts};
 use trac_language::{Fate, Function};
 
@@ -29,9 +29,9 @@ use trac_language::{Fate, Function};
 /// the idling procedure is loaded, or the right parenthesis is deleted and the innermost call
 /// performed.
 #[inline(always)]
-pub(crate) fn carry_out<I: Source, O: Sink>(
+pub(crate) fn perform_pending<I: Source, O: Sink>(
     work: &mut Work,
-    front: Front,
+    pending: Pending,
     meta: &mut u8,
     source: &mut I,
     sink: &mut O,
@@ -39,7 +39,7 @@ pub(crate) fn carry_out<I: Source, O: Sink>(
     requires source_counts { I.failure_count source.old < 2 ^ 64 - 1 }
     requires sink_counts { O.failure_count sink.old < 2 ^ 64 - 1 }
     requires sound { IsSound work.old }
-    requires asks { AsksFor front work.old }
+    requires asks { AsksFor pending work.old }
     ensures tried { I.tells source.old → O.tells sink.old →
         Tried (scene work.old meta.old (I.stream source.old) (O.written sink.old))
         result.fate result.need
@@ -56,41 +56,46 @@ pub(crate) fn carry_out<I: Source, O: Sink>(
     ensures fits { result.need ≤ work.old.room }
     ensures keeps { KeepsRoom work.old work.new }
 {
-    match front {
-        Front::Empty => load_idling(work),
-        Front::Closes(call) => {
+    match pending {
+        Pending::Idling => load_idling(work),
+        Pending::EndOfCall(call) => {
             work.drop_active(1);
             perform(work, call, meta, source, sink)
         }
     }
 }
 
-/// The step that `carry_out` makes, where it touches no device. None where it reads or prints: then
-/// nothing is done.
+/// The step that `perform_pending` makes, where it touches no device. An error is the function that reads
+/// or prints: then nothing is done.
 #[inline(always)]
-pub(crate) fn carry_alone(work: &mut Work, front: Front, meta: &mut u8) -> Option<Attempt>
+pub(crate) fn perform_pending_alone(
+    work: &mut Work,
+    pending: Pending,
+    meta: &mut u8,
+) -> Result<Attempt, Option<Function>>
     requires sound { IsSound work.old }
-    requires asks { AsksFor front work.old }
-    ensures tried { MatchOption result
-        (TouchesDevice (memory_of meta.old work.old) × (work.new ≡ work.old) × (meta.new ≡ meta.old))
-        (λ attempt. TriedAlone work.old meta.old attempt.fate attempt.need work.new meta.new) }
-    ensures fits { MatchOption result ⊤ (λ attempt. attempt.need ≤ work.old.room) }
+    requires asks { AsksFor pending work.old }
+    ensures tried { MatchResult result
+        (λ attempt. TriedAlone work.old meta.old attempt.fate attempt.need work.new meta.new)
+        (λ function. StopsBefore function (memory_of meta.old work.old)
+        × (work.new ≡ work.old) × (meta.new ≡ meta.old)) }
+    ensures fits { IfOk result (λ attempt. attempt.need ≤ work.old.room) }
     ensures keeps { KeepsRoom work.old work.new }
 {
-    match front {
-        Front::Empty => Some(load_idling(work)),
-        Front::Closes(call) => {
+    match pending {
+        Pending::Idling => Ok(load_idling(work)),
+        Pending::EndOfCall(call) => {
             let call = named(work, call);
             if touches_device(call.function) {
-                return None;
+                return Err(call.function);
             }
             work.drop_active(1);
-            Some(perform_alone(work, call, meta))
+            Ok(perform_alone(work, call, meta))
         }
     }
 }
 
-/// The innermost call, whose right parenthesis was deleted, is performed.
+/// Performs the innermost call, whose right parenthesis was deleted.
 #[inline(always)]
 fn perform<I: Source, O: Sink>(
     work: &mut Work,
@@ -123,10 +128,10 @@ fn perform<I: Source, O: Sink>(
     let before = work.used();
     let end = work.neutral_len();
     let made = answer(work, call, meta, source, sink);
-    settle(work, (call.place, end), before, made)
+    finish_call(work, (call.place, end), before, made)
 }
 
-/// The same of a call that touches no device.
+/// Performs the innermost call, whose right parenthesis was deleted and which touches no device.
 #[inline(always)]
 fn perform_alone(work: &mut Work, call: NamedCall, meta: &mut u8) -> Attempt
     requires named { IsNamed call work.old }
@@ -143,7 +148,7 @@ fn perform_alone(work: &mut Work, call: NamedCall, meta: &mut u8) -> Attempt
     let before = work.used();
     let end = work.neutral_len();
     let made = answer_alone(work, call, meta);
-    settle(work, (call.place, end), before, made)
+    finish_call(work, (call.place, end), before, made)
 }
 
 /// The innermost call by its parts.
@@ -204,7 +209,7 @@ fn answer<I: Source, O: Sink>(
     meta: &mut u8,
     source: &mut I,
     sink: &mut O,
-) -> Made
+) -> CallResult
     requires innermost { IsLastCall work.old.neutral call.place }
     requires plain { IsPlainFrom call.plain work.old.neutral }
     requires source_counts { I.failure_count source.old < 2 ^ 64 - 1 }
@@ -218,7 +223,7 @@ fn answer<I: Source, O: Sink>(
         (function_at work.old.neutral call.place) source.old source.new }
     ensures sink { LeavesSink O.tells O.flushed O.written O.lent O.failure_count (fate_after result)
         (function_at work.old.neutral call.place) sink.old sink.new }
-    ensures unspent { result ≢ Made.Over Fate.Steps }
+    ensures unspent { result ≢ CallResult.Over Fate.Steps }
     ensures stay { fate_after result ≢ None →
         (work.new.forms ≡ work.old.forms) × (meta.new ≡ meta.old) }
     ensures takes { I.tells source.old → (taken : Text) ×
@@ -232,7 +237,7 @@ fn answer<I: Source, O: Sink>(
         scanned: is_active_call(work, call.place),
     };
     let Some(function) = arguments.function(work) else {
-        return Made::Defined(0);
+        return CallResult::Null(0);
     };
     match function {
         Function::ReadString => read_string(work, *meta, source),
@@ -245,7 +250,7 @@ fn answer<I: Source, O: Sink>(
 
 /// What the function of a call answers that touches no device.
 #[inline(always)]
-fn answer_alone(work: &mut Work, call: NamedCall, meta: &mut u8) -> Made
+fn answer_alone(work: &mut Work, call: NamedCall, meta: &mut u8) -> CallResult
     requires named { IsNamed call work.old }
     requires alone { touches_device call.function ≡ false }
     ensures answers { (source : Stream) (written : Text) →
@@ -258,14 +263,19 @@ fn answer_alone(work: &mut Work, call: NamedCall, meta: &mut u8) -> Made
     ensures keeps { KeepsRoom work.old work.new }
 {
     match call.function {
-        None => Made::Defined(0),
+        None => CallResult::Null(0),
         Some(function) => made_alone(work, function, call.arguments, meta),
     }
 }
 
 /// What a function that touches no device makes of the arguments that follow its name.
 #[inline(always)]
-fn made_alone(work: &mut Work, function: Function, arguments: Arguments, meta: &mut u8) -> Made
+fn made_alone(
+    work: &mut Work,
+    function: Function,
+    arguments: Arguments,
+    meta: &mut u8,
+) -> CallResult
     requires arguments { AreArguments work.old arguments }
     requires alone { touches_device (Some function) ≡ false }
     ensures answers { (place : ℕ) (source : Stream) (written : Text) →
@@ -281,7 +291,7 @@ fn made_alone(work: &mut Work, function: Function, arguments: Arguments, meta: &
 {
     match function {
         Function::ChangeMeta => change_meta(work, arguments, meta),
-        Function::Halt => Made::Over(Fate::Halted),
+        Function::Halt => CallResult::Over(Fate::Halted),
         _ => value_of(work, function, arguments),
     }
 }
@@ -289,11 +299,11 @@ fn made_alone(work: &mut Work, function: Function, arguments: Arguments, meta: &
 /// What the function makes of the arguments that follow its name; a null value of those that touch
 /// a device or the meta character, or end the run.
 #[inline(always)]
-fn value_of(work: &mut Work, function: Function, arguments: Arguments) -> Made
+fn value_of(work: &mut Work, function: Function, arguments: Arguments) -> CallResult
     requires arguments { AreArguments work.old arguments }
     ensures makes { is_plain function ≡ true →
         Performs function work.old arguments result work.new }
-    ensures unmade { result ≡ Made.Full → work.new.forms ≡ work.old.forms }
+    ensures unmade { result ≡ CallResult.Full → work.new.forms ≡ work.old.forms }
     ensures keeps { KeepsRoom work.old work.new }
 {
     match function {
@@ -321,6 +331,6 @@ fn value_of(work: &mut Work, function: Function, arguments: Arguments) -> Made
         | Function::PrintString
         | Function::PrintForm
         | Function::ChangeMeta
-        | Function::Halt => Made::Value,
+        | Function::Halt => CallResult::AtEnd,
     }
 }

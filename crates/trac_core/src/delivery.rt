@@ -10,7 +10,7 @@ ghost use Rattle.trac_functions.specs.Calls.{KeepsRoom};
 
 use crate::scan::Attempt;
 use trac_forms::Work;
-use trac_functions::arguments::Made;
+use trac_functions::arguments::CallResult;
 use trac_language::{Fate, Mode};
 use trac_space::Cell;
 
@@ -18,7 +18,12 @@ use trac_space::Cell;
 /// its end: a value that isn't placed yet, and stands from the second place on, is delivered. So
 /// many cells were used before.
 #[inline(always)]
-pub(crate) fn settle(work: &mut Work, places: (u32, u32), before: u32, made: Made) -> Attempt
+pub(crate) fn finish_call(
+    work: &mut Work,
+    places: (u32, u32),
+    before: u32,
+    made: CallResult,
+) -> Attempt
     requires order { places.0 < places.1 }
     requires stands { Stands made before places.1 work.old }
     requires sound { IsSound work.old }
@@ -30,13 +35,13 @@ pub(crate) fn settle(work: &mut Work, places: (u32, u32), before: u32, made: Mad
 {
     let (place, from) = places;
     let (fate, need) = match made {
-        Made::Full => (Some(Fate::Workspace), 0),
-        Made::Over(fate) => (Some(fate), work.used()),
-        Made::Placed(cells) | Made::Defined(cells) => {
+        CallResult::Full => (Some(Fate::Workspace), 0),
+        CallResult::Over(fate) => (Some(fate), work.used()),
+        CallResult::InFront(cells) | CallResult::Null(cells) => {
             work.cut_neutral(place);
             (None, before + cells)
         }
-        Made::Value => {
+        CallResult::AtEnd => {
             let need = before + (work.neutral_len() - from);
             deliver(work, place, from);
             (None, need)

@@ -14,13 +14,17 @@ use crate::text_io::print_bytes;
 use itoa::Buffer;
 use trac_devices::{Sink, SinkFailed};
 use trac_forms::{StoredForm, Work};
-use trac_functions::arguments::{Arguments, Made};
+use trac_functions::arguments::{Arguments, CallResult};
 use trac_language::{Fate, Function, Item};
 
 /// `pf,N`: the form N is displayed, and the sink flushed once: its characters as they are, each gap
 /// as its ordinal in angle brackets, and `<^>` at the pointer. A form that isn't defined prints
 /// nothing. The display is this processor's own choice.
-pub(crate) fn print_form<O: Sink>(work: &mut Work, mut arguments: Arguments, sink: &mut O) -> Made
+pub(crate) fn print_form<O: Sink>(
+    work: &mut Work,
+    mut arguments: Arguments,
+    sink: &mut O,
+) -> CallResult
     requires arguments { AreArguments work.old arguments }
     requires counts { O.failure_count sink.old < 2 ^ 64 - 1 }
     ensures answers { O.tells sink.old → (place meta : ℕ) (source : Stream) →
@@ -29,14 +33,14 @@ pub(crate) fn print_form<O: Sink>(work: &mut Work, mut arguments: Arguments, sin
         (scene work.new meta source (O.written sink.new)) }
     ensures same { work.new ≡ work.old }
     ensures stands { Stands result (used work.old) (length work.old.neutral) work.new }
-    ensures over { (result ≢ Made.Over Fate.InputFailed) × (result ≢ Made.Over Fate.Steps) }
+    ensures over { (result ≢ CallResult.Over Fate.InputFailed) × (result ≢ CallResult.Over Fate.Steps) }
     ensures sink { LeavesSink O.tells O.flushed O.written O.lent O.failure_count
         (fate_after result) (Some Function.PrintForm) sink.old sink.new }
 {
     let name = arguments.next(work);
     match show_named(work, name, sink) {
-        Ok(()) => Made::Defined(0),
-        Err(_) => Made::Over(Fate::OutputFailed),
+        Ok(()) => CallResult::Null(0),
+        Err(_) => CallResult::Over(Fate::OutputFailed),
     }
 }
 

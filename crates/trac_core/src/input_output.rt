@@ -13,14 +13,14 @@ ghost use Rattle.trac_functions.specs.Calls.{KeepsRoom};
 use crate::text_io::{ReadEnd, print_text, read_text};
 use trac_devices::{Next, Sink, Source};
 use trac_forms::Work;
-use trac_functions::arguments::{Arguments, Made, text};
+use trac_functions::arguments::{Arguments, CallResult, text};
 use trac_language::{Fate, Function};
 use trac_space::{Cell, character_of};
 
 /// `rs`: the input up to the meta character, which is consumed (Mooers 1966).
 /// A last string that no meta character follows is a value too, and the end
 /// of the input with no byte read ends the run (this processor's own choice).
-pub(crate) fn read_string<I: Source>(work: &mut Work, meta: u8, source: &mut I) -> Made
+pub(crate) fn read_string<I: Source>(work: &mut Work, meta: u8, source: &mut I) -> CallResult
     requires counts { I.failure_count source.old < 2 ^ 64 - 1 }
     requires sound { IsSound work.old }
     ensures answers { I.tells source.old → (place : ℕ) (written : Text) →
@@ -28,7 +28,7 @@ pub(crate) fn read_string<I: Source>(work: &mut Work, meta: u8, source: &mut I) 
         AnswersCall place (scene work.old meta (I.stream source.old) written) result
         (scene work.new meta (I.stream source.new) written) }
     ensures stands { Stands result (used work.old) (length work.old.neutral) work.new }
-    ensures over { (result ≢ Made.Over Fate.OutputFailed) × (result ≢ Made.Over Fate.Steps) }
+    ensures over { (result ≢ CallResult.Over Fate.OutputFailed) × (result ≢ CallResult.Over Fate.Steps) }
     ensures source { LeavesSource I.tells I.failure_count (fate_after result)
         (Some Function.ReadString) source.old source.new }
     ensures takes { I.tells source.old → (taken : Text) ×
@@ -38,17 +38,17 @@ pub(crate) fn read_string<I: Source>(work: &mut Work, meta: u8, source: &mut I) 
 {
     let from = work.neutral_len();
     match read_text(work, meta, source) {
-        ReadEnd::Meta => Made::Value,
-        ReadEnd::Ended if work.neutral_len() == from => Made::Over(Fate::InputEnded),
-        ReadEnd::Ended => Made::Value,
-        ReadEnd::Failed => Made::Over(Fate::InputFailed),
-        ReadEnd::Full => Made::Full,
+        ReadEnd::Meta => CallResult::AtEnd,
+        ReadEnd::Ended if work.neutral_len() == from => CallResult::Over(Fate::InputEnded),
+        ReadEnd::Ended => CallResult::AtEnd,
+        ReadEnd::Failed => CallResult::Over(Fate::InputFailed),
+        ReadEnd::Full => CallResult::Full,
     }
 }
 
 /// `rc`: the next byte of the input, whatever it is (Mooers 1966). At
 /// the end of the input the run ends (this processor's own choice).
-pub(crate) fn read_character<I: Source>(work: &mut Work, source: &mut I) -> Made
+pub(crate) fn read_character<I: Source>(work: &mut Work, source: &mut I) -> CallResult
     requires counts { I.failure_count source.old < 2 ^ 64 - 1 }
     requires sound { IsSound work.old }
     ensures answers { I.tells source.old → (place meta : ℕ) (written : Text) →
@@ -56,7 +56,7 @@ pub(crate) fn read_character<I: Source>(work: &mut Work, source: &mut I) -> Made
         AnswersCall place (scene work.old meta (I.stream source.old) written) result
         (scene work.new meta (I.stream source.new) written) }
     ensures stands { Stands result (used work.old) (length work.old.neutral) work.new }
-    ensures over { (result ≢ Made.Over Fate.OutputFailed) × (result ≢ Made.Over Fate.Steps) }
+    ensures over { (result ≢ CallResult.Over Fate.OutputFailed) × (result ≢ CallResult.Over Fate.Steps) }
     ensures source { LeavesSource I.tells I.failure_count (fate_after result)
         (Some Function.ReadCharacter) source.old source.new }
     ensures takes { I.tells source.old → (taken : Text) ×
@@ -67,19 +67,23 @@ pub(crate) fn read_character<I: Source>(work: &mut Work, source: &mut I) -> Made
     match source.next() {
         Next::Byte(byte) => {
             if work.push_neutral(Cell::Byte(byte)) {
-                Made::Value
+                CallResult::AtEnd
             } else {
-                Made::Full
+                CallResult::Full
             }
         }
-        Next::End => Made::Over(Fate::InputEnded),
-        Next::Failed => Made::Over(Fate::InputFailed),
+        Next::End => CallResult::Over(Fate::InputEnded),
+        Next::Failed => CallResult::Over(Fate::InputFailed),
     }
 }
 
 /// `ps,X`: X is printed, and the sink flushed once where X isn't null (Mooers 1966).
 #[inline(never)]
-pub(crate) fn print_string<O: Sink>(work: &Work, mut arguments: Arguments, sink: &mut O) -> Made
+pub(crate) fn print_string<O: Sink>(
+    work: &Work,
+    mut arguments: Arguments,
+    sink: &mut O,
+) -> CallResult
     requires arguments { AreArguments work.now arguments }
     requires counts { O.failure_count sink.old < 2 ^ 64 - 1 }
     ensures answers { O.tells sink.old → (place meta : ℕ) (source : Stream) →
@@ -87,33 +91,33 @@ pub(crate) fn print_string<O: Sink>(work: &Work, mut arguments: Arguments, sink:
         AnswersCall place (scene work.now meta source (O.written sink.old)) result
         (scene work.now meta source (O.written sink.new)) }
     ensures stands { Stands result (used work.now) (length work.now.neutral) work.now }
-    ensures over { (result ≢ Made.Over Fate.InputFailed) × (result ≢ Made.Over Fate.Steps) }
+    ensures over { (result ≢ CallResult.Over Fate.InputFailed) × (result ≢ CallResult.Over Fate.Steps) }
     ensures sink { LeavesSink O.tells O.flushed O.written O.lent O.failure_count
         (fate_after result) (Some Function.PrintString) sink.old sink.new }
 {
     let part = arguments.next(work);
     match print_text(text(work, part), sink) {
-        Ok(()) => Made::Defined(0),
-        Err(_) => Made::Over(Fate::OutputFailed),
+        Ok(()) => CallResult::Null(0),
+        Err(_) => CallResult::Over(Fate::OutputFailed),
     }
 }
 
 /// `cm,X`: the first character of X becomes the meta character (Mooers
 /// 1966); a null X changes nothing (this processor's own choice).
-pub(crate) fn change_meta(work: &Work, mut arguments: Arguments, meta: &mut u8) -> Made
+pub(crate) fn change_meta(work: &Work, mut arguments: Arguments, meta: &mut u8) -> CallResult
     requires arguments { AreArguments work.now arguments }
     ensures answers { (place : ℕ) (source : Stream) (written : Text) →
         HasArguments work.now place Function.ChangeMeta arguments →
         AnswersCall place (scene work.now meta.old source written) result
         (scene work.now meta.new source written) }
-    ensures value { result ≡ Made.Defined 0 }
+    ensures value { result ≡ CallResult.Null 0 }
     ensures stands { Stands result (used work.now) (length work.now.neutral) work.now }
 {
     let part = arguments.next(work);
     if let Some(first) = first_character(text(work, part)) {
         *meta = first;
     }
-    Made::Defined(0)
+    CallResult::Null(0)
 }
 
 /// The first character of a text.

@@ -12,7 +12,7 @@ mod scan;
 mod text_io;
 
 pub use display::{display_len, show_form};
-pub use machine::{Awaits, Machine, ScanningRule};
+pub use machine::{Awaits, Machine, Progress, ScanningRule};
 pub use runs::is_layout;
 pub use trac_devices::{
     BufferedReader, BufferedWriter, Input, Next, Output, ReadSource, RetryingReader,
@@ -22,5 +22,5 @@ pub use trac_devices::{
 pub use trac_forms::{Forms, StoredForm, Work};
 pub use trac_language::{Fate, Item, Report};
 pub use trac_laws as laws;
-pub use trac_space::Cell;
+pub use trac_space::{Cell, Neutral};
 pub use trac_values as values;

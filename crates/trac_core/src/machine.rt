@@ -14,8 +14,8 @@ ghost use Rattle.trac_forms.specs.Contents.{IsSound};
 ghost use Rattle.trac_functions.specs.Calls.{KeepsRoom};
 ghost use Rattle.trac_functions.specs.Flat.{memory_of};
 
-use crate::call::carry_out;
-use crate::scan::{Attempt, pass, scan_once};
+use crate::call::perform_pending;
+use crate::scan::{Attempt, scan_once, scan_steps};
 use std::marker::Model;
 use trac_devices::{Sink, Source};
 use trac_forms::Work;
@@ -28,6 +28,7 @@ pub(crate) mod printing;
 pub(crate) mod session;
 pub(crate) mod view;
 
+pub use advancing::Progress;
 pub use session::Awaits;
 pub use view::ScanningRule;
 
@@ -38,6 +39,8 @@ pub use view::ScanningRule;
 pub struct Machine<'a> {
     work: Work<'a>,
     meta: u8,
+    /// A place of the neutral string from which on no comma mark stands.
+    plain: u32,
     allowance: u64,
     steps: u64,
     peak: u32,
@@ -49,6 +52,7 @@ impl<'a> Model for Machine<'a> {
     ghost use Rattle.trac_forms.specs.Contents.{IsSound};
     ghost use Rattle.trac_functions.specs.Flat.{memory_of};
     ghost use Rattle.trac_core.specs.Machine.{MachineState};
+    ghost use Rattle.trac_core.specs.StepsInRow.{IsPlainFrom};
 
     ghost Value = { MachineState };
 
@@ -61,11 +65,12 @@ impl<'a> Model for Machine<'a> {
       fate = m.fate;
     } };
 
-    ghost invariant = { λ m. (m.steps ≤ m.allowance) × (m.peak ≤ m.work.room) × IsSound m.work };
+    ghost invariant = { λ m. (m.steps ≤ m.allowance) × (m.peak ≤ m.work.room) × IsSound m.work
+        × IsPlainFrom m.plain m.work.neutral };
 }
 
 impl<'a> Machine<'a> {
-    /// A machine over the cells of a block, whatever they hold, with an allowance of so many steps.
+    /// A machine over the cells of a block, whatever they hold, which may make `steps` steps.
     /// It has no form, and the apostrophe is its meta character.
     pub fn over(block: &'a mut [Cell], steps: u64) -> Machine<'a>
         requires { length block.old ≤ 16777216 }
@@ -74,6 +79,7 @@ impl<'a> Machine<'a> {
         Machine {
             work: Work::over(block),
             meta: b'\'',
+            plain: 0,
             allowance: steps,
             steps: 0,
             peak: 0,
@@ -115,7 +121,7 @@ impl<'a> Machine<'a> {
         // with the allowance used up nothing is called
         ensures spent { result ≡ Some Fate.Steps →
             (source.new ≡ source.old) × (sink.new ≡ sink.old) }
-        // the failures of the devices are told, and no others
+        // each failure of a device is answered, and no other is
         ensures input_failed { I.failure_count source.new ≡
             I.failure_count source.old + input_failures self.old.fate result }
         ensures output_failed { O.failure_count sink.new ≡
@@ -151,10 +157,12 @@ impl<'a> Machine<'a> {
             });
         }
         let need = self.work.used();
-        let Some(front) = scan_once(&mut self.work) else {
+        let Some(pending) = scan_once(&mut self.work, self.plain) else {
+            self.plain = self.work.neutral_len();
             return self.count(Attempt { fate: None, need });
         };
-        let attempt = carry_out(&mut self.work, front, &mut self.meta, source, sink);
+        let attempt = perform_pending(&mut self.work, pending, &mut self.meta, source, sink);
+        self.plain = self.work.neutral_len();
         self.count(attempt)
     }
 
@@ -269,13 +277,13 @@ fn run_to_end<I: Source, O: Sink>(
     let mut plain = work.neutral_len();
     let mut long = 0;
     while left > 0 {
-        match pass(work, left, &mut plain, &mut long) {
+        match scan_steps(work, left, &mut plain, &mut long) {
             Ok(done) => {
                 left -= done;
                 peak = peak.max(need);
             }
-            Err(front) => {
-                let last = carry_out(work, front, meta, source, sink);
+            Err(pending) => {
+                let last = perform_pending(work, pending, meta, source, sink);
                 if let Some(fate) = last.fate {
                     return ended(fate, last.need, at.allowance - left, peak);
                 }
@@ -294,7 +302,7 @@ fn run_to_end<I: Source, O: Sink>(
     }
 }
 
-/// What a run reports that ended so in a try of a step, which needed so many cells, after so many
+/// What a run reports that ended with this fate in a step that needed `need` cells, after `steps`
 /// steps and with this peak.
 fn ended(fate: Fate, need: u32, steps: u64, peak: u32) -> Report
     requires allowed { counts_as_step (Some fate) ≡ true → steps < 2 ^ 64 - 1 }

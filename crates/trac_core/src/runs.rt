@@ -195,8 +195,8 @@ pub(crate) fn matching(cells: &[Cell]) -> Option<u32>
     matching_among(cells, i, cells.len() - i, depth)
 }
 
-/// The same among so many characters from a place on, before which so many left parentheses are
-/// open.
+/// Where among `number` characters from a place on the right parenthesis stands that matches a left
+/// one before all cells. Before that place `opened` left parentheses are open.
 #[inline]
 fn matching_among(cells: &[Cell], from: usize, number: usize, opened: u32) -> Option<u32>
     requires few { length cells.now ≤ 16777216 }

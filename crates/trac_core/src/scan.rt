@@ -10,6 +10,7 @@ ghost use Rattle.trac_core.specs.StepsInRow.{ComesTo, AsksFor, IsPlainFrom, Keep
 ghost use Rattle.trac_space.specs.Calls.{IsLastCall};
 ghost use Rattle.trac_functions.specs.Calls.{KeepsRoom};
 
+use crate::machine::closing::closed_call;
 use crate::runs::{KINDS, layout_characters, matching, ordinary_characters};
 use trac_forms::Work;
 use trac_language::{Fate, Mode};
@@ -19,8 +20,8 @@ use trac_space::{Cell, byte_in};
 /// prints what is left of it (Mooers 1966).
 const IDLING: &[u8; 11] = b"#(ps,#(rs))";
 
-// So many characters of a run in a call are moved as they are looked at; more make a run long. Up
-// to twelve, the compiler makes code without a loop of them.
+// Up to this many characters of a run in a call are moved as they are looked at; a longer run is long.
+// Up to twelve, the compiler makes code without a loop.
 const FEW: u64 = 12;
 
 /// What the try of a step came to, and the cells that it needed.
@@ -55,11 +56,11 @@ pub(crate) fn is_at(work: &Work, place: u32, byte: u8) -> bool
 
 /// What the beginning of the active string asks for where no rule fits that only scans.
 #[derive(Clone, Copy, Debug, PartialEq, Eq)]
-pub(crate) enum Front {
+pub(crate) enum Pending {
     /// It is empty: the idling procedure.
-    Empty,
+    Idling,
     /// A right parenthesis: the innermost call.
-    Closes(InnermostCall),
+    EndOfCall(InnermostCall),
 }
 
 /// The innermost call that is open.
@@ -72,33 +73,38 @@ pub(crate) struct InnermostCall {
 }
 
 /// One step that performs no call. Gives what the step asks for instead where it does perform one.
-pub(crate) fn scan_once(work: &mut Work) -> Option<Front>
+/// From the plain place on no comma mark stands in the neutral string.
+pub(crate) fn scan_once(work: &mut Work, plain: u32) -> Option<Pending>
+    requires plain { IsPlainFrom plain work.old.neutral }
     requires sound { IsSound work.old }
     ensures comes { MatchOption result
         (Advances 1 work.old work.new)
-        (λ front. (work.new ≡ work.old) × AsksFor front work.old) }
+        (λ pending. (work.new ≡ work.old) × AsksFor pending work.old) }
     ensures keeps { KeepsRoom work.old work.new }
 {
-    let mut plain = work.neutral_len();
+    if let Some(place) = closed_call(work) {
+        return Some(Pending::EndOfCall(InnermostCall { place, plain }));
+    }
+    let mut plain = plain;
     let mut long = 0;
-    match pass(work, 1, &mut plain, &mut long) {
+    match scan_steps(work, 1, &mut plain, &mut long) {
         Ok(_) => None,
-        Err(front) => Some(front),
+        Err(pending) => Some(pending),
     }
 }
 
 /// The table of the rules of scanning (Mooers 1966). Makes the steps of the rule that fits the
-/// beginning of the active string, at most so many: all of a run of ordinary characters, in a call
-/// with the commas between them, or of layout characters, at once, and one of another rule that
-/// performs no call. From the plain place on no comma mark stands in the neutral string, and so many
-/// long runs followed one another before.
+/// beginning of the active string, at most `most`: a whole run of ordinary characters, in a call
+/// with the commas between them, or of layout characters, or one step of another rule that performs
+/// no call. From `plain` on no comma mark stands in the neutral string; `long` counts the long runs
+/// that followed one another before.
 #[inline]
-pub(crate) fn pass(
+pub(crate) fn scan_steps(
     work: &mut Work,
     most: u64,
     plain: &mut u32,
     long: &mut u32,
-) -> Result<u64, Front>
+) -> Result<u64, Pending>
     requires some { 0 < most }
     requires plain { IsPlainFrom plain.old work.old.neutral }
     requires sound { IsSound work.old }
@@ -107,7 +113,7 @@ pub(crate) fn pass(
     ensures keeps { KeepsRoom work.old work.new }
 {
     match character(work, 0) {
-        None => return Err(Front::Empty),
+        None => return Err(Pending::Idling),
         Some(b'\t' | b'\n' | b'\r') => return Ok(delete_layout(work, most)),
         Some(b'(') => protect(work),
         Some(b')') => return end_call(work, *plain),
@@ -121,7 +127,7 @@ pub(crate) fn pass(
 /// A right parenthesis closes the innermost call, or, where none is
 /// open, is deleted (this processor's own choice).
 #[inline]
-fn end_call(work: &mut Work, plain: u32) -> Result<u64, Front>
+fn end_call(work: &mut Work, plain: u32) -> Result<u64, Pending>
     requires closes { slice_get (text_of_cells work.old.active) 0 ≡ Some 41 }
     requires plain { IsPlainFrom plain work.old.neutral }
     requires sound { IsSound work.old }
@@ -130,7 +136,7 @@ fn end_call(work: &mut Work, plain: u32) -> Result<u64, Front>
     ensures keeps { KeepsRoom work.old work.new }
 {
     match work.last_call() {
-        Some(place) => Err(Front::Closes(InnermostCall { place, plain })),
+        Some(place) => Err(Pending::EndOfCall(InnermostCall { place, plain })),
         None => {
             work.drop_active(1);
             Ok(1)
@@ -138,10 +144,9 @@ fn end_call(work: &mut Work, plain: u32) -> Result<u64, Front>
     }
 }
 
-/// The steps by which the ordinary characters at the front of the active string are added, at most
-/// so many, all at once, and in a call the commas between them too. A run that follows two long ones,
-/// or stands in no call, is looked at before it is moved; one with commas is not long. Gives how
-/// many steps they were.
+/// Adds the ordinary characters at the front of the active string, at most `most`, and in a call the
+/// commas between them too. A run that follows two long ones, or stands in no call, is looked at
+/// before it is moved; a run with commas is not long. Gives how many steps these are.
 #[inline]
 fn add_characters(work: &mut Work, most: u64, plain: &mut u32, long: &mut u32) -> u64
     requires some { 0 < most }
@@ -191,9 +196,9 @@ fn begin_argument(work: &mut Work, most: u64, plain: &mut u32, long: bool) -> u6
     add_run(work, most, plain)
 }
 
-/// The steps of the ordinary characters and the commas at the front of the active string where a
-/// call is open, at most so many and at most `FEW`, all at once; none where another character
-/// stands there. Gives how many they were.
+/// Adds the ordinary characters and the commas at the front of the active string where a call is
+/// open, at most `most` and at most `FEW`. Gives how many steps these are: 0 where another character
+/// stands there.
 #[inline(always)]
 fn add_run(work: &mut Work, most: u64, plain: &mut u32) -> u64
     requires opened { (place : ℕ) × IsLastCall work.old.neutral place }
@@ -216,7 +221,8 @@ fn add_run(work: &mut Work, most: u64, plain: &mut u32) -> u64
     }
 }
 
-/// The same within so many characters.
+/// Adds the ordinary characters and the commas among the first `reach` characters of the active
+/// string, up to the first other one, where a call is open. Gives how many steps these are.
 #[inline]
 fn add_run_within(work: &mut Work, reach: u32, plain: &mut u32) -> u64
     requires opened { (place : ℕ) × IsLastCall work.old.neutral place }
@@ -239,8 +245,8 @@ fn add_run_within(work: &mut Work, reach: u32, plain: &mut u32) -> u64
     u64::from(count)
 }
 
-/// The steps by which the ordinary characters at the front of the active string are added, at most
-/// so many, all at once. Gives how many they were.
+/// Adds the ordinary characters at the front of the active string, at most `most`: first it looks how
+/// many they are, and then it moves them. Gives how many steps these are.
 #[inline(never)]
 fn add_long_run(work: &mut Work, most: u64) -> u64
     requires some { 0 < most }
@@ -256,8 +262,8 @@ fn add_long_run(work: &mut Work, most: u64) -> u64
     u64::from(count)
 }
 
-/// The steps by which the layout characters at the front of the active string are deleted, at most
-/// so many, all at once. Gives how many they were.
+/// Deletes the layout characters at the front of the active string, at most `most`. Gives how many
+/// steps these are.
 #[inline(always)]
 fn delete_layout(work: &mut Work, most: u64) -> u64
     requires some { 0 < most }
@@ -273,7 +279,7 @@ fn delete_layout(work: &mut Work, most: u64) -> u64
     u64::from(count)
 }
 
-/// The cells of the active string after the first, as far as so many characters of it reach.
+/// The cells of the active string after the first, as far as its first `most` characters reach.
 #[inline]
 fn after_first<'a>(work: &'a Work, most: u64) -> &'a [Cell]
     requires some { 0 < most }

@@ -5,8 +5,7 @@ ghost use Rattle.trac_language.specs.Text.{Text};
 ghost use Rattle.trac_space.specs.Texts.{character_of, text_of_cells};
 ghost use Rattle.trac_forms.specs.Contents.{used, IsSound};
 ghost use Rattle.trac_devices.specs.Devices.{failures_of, Prints, Breaks};
-ghost use Rattle.trac_devices.specs.HeldBytes.{Reads};
-ghost use Rattle.trac_core.specs.ReadTexts.{StreamsTo, failures_of_read};
+ghost use Rattle.trac_core.specs.ReadTexts.{Reads, StreamsTo, failures_of_read};
 
 use trac_devices::{Next, Sink, SinkFailed, Source};
 use trac_forms::Work;
@@ -94,7 +93,7 @@ fn put_characters<O: Sink>(text: &[Cell], sink: &mut O) -> Result<(), SinkFailed
     }
 }
 
-// The same, one by one.
+// Puts the characters of cells into a sink, one by one.
 fn put_each<O: Sink>(text: &[Cell], sink: &mut O) -> Result<(), SinkFailed>
     requires { O.failure_count sink.old < 2 ^ 64 - 1 }
     ensures prints { O.tells sink.old →

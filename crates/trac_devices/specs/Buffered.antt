@@ -13,7 +13,7 @@ unread remaining r = prepend_known r.held (remaining r.device.reader)
 abbrev pub accepted : {W : Type 0} → (W → Option (List ℕ)) → BufferedOutput W → Option (List ℕ)
 accepted contents w = append_known (contents w.device.writer) w.waiting
 
--- some bytes still wait in a buffer, the last of those that waited
+-- the last of the bytes that waited in a buffer still wait, at least one
 abbrev pub WaitsOn : {W : Type 0} → BufferedOutput W → BufferedOutput W → Type 0
 WaitsOn old new =
     (new.space ≡ old.space)

@@ -4,7 +4,7 @@ use Rattle.trac_language.specs.Text.{Text}
 use Rattle.trac_space.specs.declared.cell.Cell.{Cell}
 use Rattle.trac_space.specs.Texts.{text_of_cells}
 
--- the first so many bytes are the characters of as many cells, and there are as many of both
+-- the first i bytes are the characters of the first i cells, and there are as many bytes as cells
 pub record AreWritten (i : ℕ) (text : List Cell) (bytes : Text) : Type 0 where
   pub written : take i bytes ≡ text_of_cells (take i text)
   pub long : length bytes ≡ length text

@@ -5,12 +5,12 @@ use Rattle.std.specs.List.{list_any}
 use Rattle.trac_devices.specs.declared.device.Next.{Next}
 use Rattle.trac_devices.specs.declared.device.Next.TheVariants.{Byte, End, Failed}
 
--- where a source stands: the bytes still to come, and whether it has said that it ended
+-- where a source stands: the bytes still to come, and whether it has answered its end
 pub record Stream : Type 0 where
   pub bytes : List ℕ
   pub ended : Bool
 
--- where a reader stands that tells its bytes, if it does, and has ended or not
+-- where a source over a reader stands, by the reader's bytes, if contracts can name them
 abbrev pub told_stream : Option (List ℕ) → Bool → Stream
 told_stream told ended = record { bytes = unwrap_or told []; ended = ended }
 
@@ -18,7 +18,7 @@ told_stream told ended = record { bytes = unwrap_or told []; ended = ended }
 abbrev pub Gives : Stream → Next → Stream → Type 0
 -- the first byte, which is consumed
 Gives old (Byte b) new = (old.bytes ≡ b ∷ new.bytes) × (old.ended ≡ false) × (new.ended ≡ false)
--- the end, only where no byte is to come, and from then on
+-- the end, only if no more bytes come, and from then on
 Gives old End new = (old.bytes ≡ []) × (new.bytes ≡ []) × (new.ended ≡ true)
 -- a failure consumes nothing, and a source that has ended does not fail
 Gives old Failed new = (old.ended ≡ false) × (new ≡ old)

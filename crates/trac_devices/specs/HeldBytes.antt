@@ -1,20 +1,24 @@
--- Bytes that a source holds already, put into free cells.
-use Rattle.std.specs.Prelude.{◌≡◌, ℕ, ◌<◌, ◌≤◌, ◌⊎◌, false, List, ◌++◌, length, take}
+-- Bytes that a source already holds, put into free cells.
+use Rattle.std.specs.Prelude.{◌≡◌, ℕ, ◌<◌, ◌≤◌, ◌⊎◌, false, List, length, take}
 use Rattle.std.specs.Prelude.{slice_get, Some}
 use Rattle.trac_language.specs.Text.{Text}
-use Rattle.trac_space.specs.Texts.{flat_text}
-use Rattle.trac_forms.specs.Contents.{Contents, used}
 use Rattle.trac_devices.specs.Devices.{has_byte}
 
--- a text without the meta character was put at the end of the neutral string
-pub record Reads (meta : ℕ) (old new : Contents) (text : Text) : Type 0 where
-  pub pushed : new ≡ record old { neutral = old.neutral ++ flat_text text }
+-- what it is to append a text to the neutral string of a value
+abbrev pub Appending : Type 0 → Type 1
+Appending N = N → N → Text → Type 0
+
+-- a text without the stop was appended to the neutral string of a value
+pub record ReadsInto {N : Type 0} (appended : Appending N) (meta : ℕ) (old new : N) (text : Text) : Type 0 where
+  pub pushed : appended old new text
   pub no_meta : has_byte meta text ≡ false
 
--- so many of the bytes that a source held were put at the end of the neutral string: all, or those
--- before the stop, or as many as there were free cells
-pub record TakesHeld (stop : ℕ) (held : List ℕ) (count : ℕ) (old new : Contents) : Type 0 where
+-- the first `count` bytes that a source held were appended: all of them, those before the stop, or as many
+-- as fit
+pub record TakesHeld
+    {N : Type 0} (appended : Appending N) (full : N → Type 0) (stop : ℕ) (held : List ℕ) (count : ℕ)
+    (old new : N) : Type 0 where
   pub within : count ≤ length held
-  pub put : new ≡ record old { neutral = old.neutral ++ flat_text (take count held) }
+  pub put : appended old new (take count held)
   pub before : has_byte stop (take count held) ≡ false
-  pub stops : count < length held → (slice_get held count ≡ Some stop) ⊎ (new.room ≤ used new)
+  pub stops : count < length held → (slice_get held count ≡ Some stop) ⊎ full new

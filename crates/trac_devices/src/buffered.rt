@@ -15,7 +15,8 @@ use trac_space::Cell;
 
 const CAPACITY: usize = 8192;
 
-/// A reader that reads up to 8192 bytes ahead: `bytes[start..end]` is read and not yet given.
+/// A reader that reads up to 8192 bytes ahead. It holds `bytes[start..end]`, which are read and not yet
+/// given.
 #[derive(Drop)]
 pub struct BufferedReader<R> {
     device: InputDevice<R>,
@@ -38,7 +39,7 @@ impl<R> Model for BufferedReader<R> {
 impl<R: Read> BufferedReader<R> {
     ghost use Rattle.trac_devices.specs.Buffered.{unread};
 
-    /// The reader, with nothing read ahead.
+    /// Puts a buffer in front of a reader. It holds nothing yet.
     pub fn new(reader: R) -> BufferedReader<R>
         ensures nothing { result.held ≡ [] }
         ensures reader { result.device.reader ≡ reader }
@@ -52,7 +53,7 @@ impl<R: Read> BufferedReader<R> {
         }
     }
 
-    /// The bytes that are read and not yet given.
+    /// The bytes that it holds: they are read and not yet given.
     #[inline]
     pub fn held(&self) -> &[u8]
         ensures { result.now ≡ self.now.held }
@@ -60,7 +61,7 @@ impl<R: Read> BufferedReader<R> {
         &self.bytes[self.start..self.end]
     }
 
-    /// Gives up the first `count` of those bytes.
+    /// Drops the first `count` bytes that it holds.
     #[inline]
     pub fn skip(&mut self, count: usize)
         requires { count ≤ length self.old.held }
@@ -76,7 +77,7 @@ impl<R: Read> BufferedReader<R> {
         self.device.failures()
     }
 
-    // Reads once where nothing is held.
+    // Reads once if it holds nothing. After an error it still holds nothing.
     fn fill(&mut self) -> io::Result<()>
         ensures bytes { Keeps (unread R.remaining self.old) (unread R.remaining self.new) }
         ensures failures { Counts self.old.device.failures self.new.device.failures result }
@@ -95,7 +96,7 @@ impl<R: Read> BufferedReader<R> {
         Ok(())
     }
 
-    // Gives some of what is held, after a read where nothing is.
+    // Gives some of the bytes that it holds; if it holds none, it reads first.
     #[cold]
     #[inline(never)]
     fn read_part(&mut self, buf: &mut [u8]) -> io::Result<usize>
@@ -139,8 +140,8 @@ impl<R: Read> Read for BufferedReader<R> {
     }
 }
 
-/// A writer that holds up to 8192 bytes back: `bytes[start..end]` is given and not yet written.
-/// `flush` writes it.
+/// A writer that holds up to 8192 bytes back: `bytes[start..end]` are taken and not yet written. `flush`
+/// writes them.
 #[derive(Drop)]
 pub struct BufferedWriter<W> {
     device: OutputDevice<W>,
@@ -167,7 +168,7 @@ impl<W> Model for BufferedWriter<W> {
 impl<W: Write> BufferedWriter<W> {
     ghost use Rattle.trac_devices.specs.Buffered.{accepted, WaitsOn};
 
-    /// The writer, with nothing held back.
+    /// Puts a buffer behind a writer. No bytes wait yet.
     pub fn new(writer: W) -> BufferedWriter<W>
         ensures nothing { (result.waiting ≡ []) × (result.space ≡ 8192) }
         ensures writer { result.device.writer ≡ writer }
@@ -188,7 +189,7 @@ impl<W: Write> BufferedWriter<W> {
         self.device.failures()
     }
 
-    // Writes all that waits. After a failure the rest waits on.
+    // Writes all bytes that wait. After a failure the rest of them still waits.
     fn write_out(&mut self) -> io::Result<()>
         ensures bytes { Keeps (accepted W.contents self.old) (accepted W.contents self.new) }
         ensures failures { Counts self.old.device.failures self.new.device.failures result }
@@ -204,7 +205,7 @@ impl<W: Write> BufferedWriter<W> {
         Ok(())
     }
 
-    // Writes all that waits, where no byte more can wait.
+    // Writes all bytes that wait if the buffer is full.
     fn make_room(&mut self) -> io::Result<()>
         ensures bytes { Keeps (accepted W.contents self.old) (accepted W.contents self.new) }
         ensures failures { Counts self.old.device.failures self.new.device.failures result }
@@ -218,7 +219,7 @@ impl<W: Write> BufferedWriter<W> {
         self.write_out()
     }
 
-    // Takes some bytes, once there is room.
+    // Takes some of the bytes, at least one if there is one, and gives how many. Makes room for them first.
     #[inline(never)]
     fn write_part(&mut self, buf: &[u8]) -> io::Result<usize>
         ensures bound { WritesAtMost result buf.now }
@@ -236,7 +237,8 @@ impl<W: Write> BufferedWriter<W> {
         Ok(n)
     }
 
-    /// Takes the characters of some cells, once there is room.
+    /// Takes the characters of some of the cells, at least one if there is one, and gives how many. Makes room
+    /// for them first; if that fails, it takes none.
     pub fn write_cells(&mut self, text: &[Cell]) -> io::Result<usize>
         ensures bound { WritesAtMost result (text_of_cells text.now) }
         ensures bytes { WriteAppends (accepted W.contents self.old) (accepted W.contents self.new)
@@ -254,7 +256,7 @@ impl<W: Write> BufferedWriter<W> {
     }
 }
 
-// Writes until all is written or a write fails, and returns how many bytes were written.
+// Writes until all bytes are written or a write fails, and gives how many were written.
 fn write_until_failure<W: Write>(bytes: &[u8], to: &mut OutputDevice<W>) -> (usize, io::Result<()>)
     ensures bound { result.0 ≤ length bytes.now }
     ensures all { OnOk result.1 (result.0 ≡ length bytes.now) }

@@ -5,8 +5,8 @@ ghost use Rattle.trac_space.specs.Texts.{text_of_cells, IsByte};
 
 use trac_space::{Cell, are_characters, byte_in, character_of};
 
-/// Makes the bytes the characters of so many cells, 0 for a cell that isn't a character. A sink
-/// with a buffer takes characters so.
+/// Writes the characters of cells over as many bytes, and 0 for a cell that is no character. Use it in a
+/// sink that has a buffer.
 pub fn write_characters(text: &[Cell], bytes: &mut [u8])
     requires { length text.now ≡ length bytes.old }
     ensures { bytes.new ≡ text_of_cells text.now }
@@ -18,8 +18,8 @@ pub fn write_characters(text: &[Cell], bytes: &mut [u8])
     }
 }
 
-// The same, of as many whole blocks of eight characters as begin the text, and gives how many bytes
-// these are.
+// Writes the characters of cells over as many bytes, as long as whole blocks of eight characters follow.
+// Gives how many bytes it wrote.
 #[inline]
 fn write_blocks(text: &[Cell], bytes: &mut [u8]) -> usize
     requires { length text.now ≡ length bytes.old }
@@ -41,8 +41,7 @@ fn write_blocks(text: &[Cell], bytes: &mut [u8]) -> usize
     i
 }
 
-// Makes one byte the character at its place, which is one of a block of eight; those before it are
-// written then, if they were.
+// Writes character `k` of a block of eight characters over its byte.
 #[inline]
 fn write_byte(text: &[Cell], bytes: &mut [u8], block: usize, k: usize)
     requires within { block + 8 ≤ length text.now }
@@ -56,7 +55,7 @@ fn write_byte(text: &[Cell], bytes: &mut [u8], block: usize, k: usize)
     bytes[block + k] = byte_in(&text[block + k]);
 }
 
-// Makes one byte the character at its place; those before it are written then, if they were.
+// Writes the character of cell `i` over byte `i`.
 #[inline]
 fn write_character(text: &[Cell], bytes: &mut [u8], i: usize)
     requires within { i < length text.now }

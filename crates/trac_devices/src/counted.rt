@@ -1,5 +1,5 @@
-//! The devices under the buffers, with the number of their failures. Only what a device answered
-//! raises that number.
+//! The reader and the writer under the buffers, each with the number of its failures. Only an answer of the
+//! device itself raises that number.
 ghost use Rattle.std.specs.Prelude.{◌≡◌, ◌≤◌, ◌<◌, length, true, false, IfOk, OnOk};
 ghost use Rattle.std.specs.Io.{ReadsAtMost};
 ghost use Rattle.std.specs.Io.KnownBytes.{Keeps, ReadConsumes, WriteAppends};
@@ -25,7 +25,7 @@ impl<R> Model for InputDevice<R> {
 }
 
 impl<R: Read> InputDevice<R> {
-    /// The reader, not yet read.
+    /// Counts the failures of a reader, from 0.
     pub(crate) fn new(reader: R) -> InputDevice<R>
         ensures reader { result.reader ≡ reader }
         ensures fresh { result.failures ≡ 0 }
@@ -36,7 +36,7 @@ impl<R: Read> InputDevice<R> {
         }
     }
 
-    /// Reads once, and answers what the reader answers. A read of no byte is the reader's end.
+    /// Reads once, and answers what the reader answers. A read of no byte is the reader's end, not a failure.
     pub(crate) fn read(&mut self, buf: &mut [u8]) -> io::Result<usize>
         requires room { 0 < length buf.old }
         ensures bound { ReadsAtMost result buf.new }
@@ -80,7 +80,7 @@ impl<W> Model for OutputDevice<W> {
 }
 
 impl<W: Write> OutputDevice<W> {
-    /// The writer, not yet written to, and not yet flushed.
+    /// Counts the failures of a writer, from 0. The writer isn't flushed yet.
     pub(crate) fn new(writer: W) -> OutputDevice<W>
         ensures writer { result.writer ≡ writer }
         ensures fresh { (result.failures ≡ 0) × (result.is_flushed ≡ false) }

@@ -3,57 +3,53 @@ ghost use Rattle.std.specs.Prelude.{◌≡◌, ℕ, ◌+◌, ◌-◌, ◌^◌, �
 ghost use Rattle.std.specs.Borrow.{GName};
 ghost use Rattle.trac_language.specs.Text.{Text};
 ghost use Rattle.trac_space.specs.Texts.{text_of_cells};
-ghost use Rattle.trac_forms.specs.Contents.{IsSound};
 ghost use Rattle.trac_devices.specs.Devices.{Stream, Gives, Streams, failures_of_next, failures_of};
 ghost use Rattle.trac_devices.specs.Devices.{after_put, Prints};
-ghost use Rattle.trac_devices.specs.HeldBytes.{Reads};
+ghost use Rattle.trac_devices.specs.HeldBytes.{ReadsInto};
 
-use trac_forms::Work;
-use trac_space::{Cell, character_of};
+use trac_space::{Cell, Neutral, character_of};
 
 /// What a source answers when it is asked for its next byte.
 #[derive(Clone, Copy, Debug, PartialEq, Eq)]
 pub enum Next {
     /// The next byte, which is consumed.
     Byte(u8),
-    /// No byte is to come; from then on the source answers this.
+    /// No more bytes come. From then on the source always answers this.
     End,
     /// Reading failed, and nothing was consumed.
     Failed,
 }
 
-/// The sink didn't take a byte, or what it had taken couldn't be flushed.
+/// The sink couldn't take a byte, or couldn't flush what it had taken.
 #[derive(Clone, Copy, Debug, PartialEq, Eq, Drop, thiserror::Error)]
 #[error("sink failed")]
 pub struct SinkFailed;
 
-/// A source of bytes, which may end and may fail. That it tells its failures, and that a failure
+/// A source of bytes, which may end and may fail. That it reports its failures, and that a failure
 /// consumes nothing, is this processor's own choice.
 pub trait Source {
-    /// That the bytes of the source are known, as over memory.
+    /// That contracts can name the bytes of the source, as over memory.
     ghost tells: { Self → Type 0 };
 
-    /// The bytes still to come, and whether the source has ended.
+    /// The bytes still to come, and whether the source has answered its end.
     ghost stream: { Self → Stream };
 
     /// The number of failures so far.
     ghost failure_count: { Self → ℕ };
 
-    /// Puts bytes that the source holds already at the end of the neutral
-    /// string, by `Work::push_before`: those before the first `stop`, as far
-    /// as cells are free, or fewer. They are consumed. It waits for nothing
-    /// and can't fail. A source that holds none needs no body of its own.
-    fn take_held(&mut self, stop: u8, work: &mut Work)
-        requires { IsSound work.old }
-        ensures reads { (text : Text) × (Reads stop work.old work.new text
+    /// Appends bytes that the source already holds to a neutral string, by `Neutral::push_before`: those
+    /// before the first `stop`, as many as fit, or fewer. They are consumed. It waits for nothing and can't
+    /// fail. A source that holds no bytes inherits this method.
+    fn take_held<N: Neutral>(&mut self, stop: u8, neutral: &mut N)
+        requires { N.sound neutral.old }
+        ensures reads { (text : Text) × (ReadsInto N.appended stop neutral.old neutral.new text
             × (tells self.old → Streams (stream self.old) text (stream self.new))) }
         ensures told { tells self.old → tells self.new }
         ensures counts { failure_count self.new ≡ failure_count self.old }
-        ensures sound { IsSound work.new }
+        ensures sound { N.sound neutral.new }
     {}
 
-    /// The next byte, the end, or a failure. A source that
-    /// has ended answers the end at each later call.
+    /// The next byte, the end, or a failure. A source that has ended answers the end at each later call.
     fn next(&mut self) -> Next
         requires { failure_count self.old < 2 ^ 64 - 1 }
         ensures gives { tells self.old → Gives (stream self.old) result (stream self.new) }
@@ -66,26 +62,26 @@ pub trait Source {
         ensures { result ≡ failure_count self.now };
 }
 
-/// A sink of bytes, which may fail. That it tells its failures, and
-/// that a failure takes nothing, is this processor's own choice.
+/// A sink of bytes, which may fail. That it reports its failures, and that a failure takes nothing, is this
+/// processor's own choice.
 pub trait Sink {
-    /// That the bytes of the sink are known, as over memory.
+    /// That contracts can name the bytes of the sink, as over memory.
     ghost tells: { Self → Type 0 };
 
     /// The bytes written so far.
     ghost written: { Self → List ℕ };
 
-    /// That all that was taken has been sent on.
+    /// That everything taken has been sent on.
     ghost flushed: { Self → Type 0 };
 
     /// The number of failures so far.
     ghost failure_count: { Self → ℕ };
 
-    /// The name by which a proof knows the memory that the sink writes to, 0 where it has none of
-    /// a caller's. Each call keeps it: so who lent the memory knows what it then holds.
+    /// The name by which proofs know the lent memory that the sink writes to, 0 if it has none. No call
+    /// changes it, so whoever lent the memory knows what it holds afterwards.
     ghost lent: { Self → GName };
 
-    /// Takes a byte. An error appends nothing.
+    /// Takes a byte. On an error it takes nothing.
     fn put(&mut self, byte: u8) -> Result<(), SinkFailed>
         requires { failure_count self.old < 2 ^ 64 - 1 }
         ensures writes { tells self.old →
@@ -94,7 +90,7 @@ pub trait Sink {
         ensures counts { failure_count self.new ≡ failure_count self.old + failures_of result }
         ensures kept { lent self.new ≡ lent self.old };
 
-    /// Takes the characters of cells in their order. An error appends a first part of them.
+    /// Takes the characters of cells in their order. On an error it has taken a first part of them.
     fn put_all(&mut self, text: &[Cell]) -> Result<(), SinkFailed>
         requires { failure_count self.old < 2 ^ 64 - 1 }
         ensures prints { tells self.old →
@@ -109,7 +105,7 @@ pub trait Sink {
         Ok(())
     }
 
-    /// Sends on what was taken. It appends nothing.
+    /// Sends on what was taken.
     fn flush(&mut self) -> Result<(), SinkFailed>
         requires { failure_count self.old < 2 ^ 64 - 1 }
         ensures keeps { tells self.old → written self.new ≡ written self.old }

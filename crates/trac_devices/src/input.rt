@@ -9,11 +9,11 @@ use crate::device::{Next, Source};
 use crate::retrying::RetryingReader;
 use std::io::Read;
 use std::marker::Model;
-use trac_forms::Work;
+use trac_space::Neutral;
 
-/// A source over a reader behind a buffer, which gives what the buffer holds at once. A read that
-/// was interrupted is tried again, each other error is a failure; after a read of no byte it has
-/// ended, and reads no more. This processor's own choice.
+/// A source over a reader with a buffer of 8192 bytes, whose bytes it can give at once. It makes an
+/// interrupted read again; any other error is a failure. After a read of no byte it has ended, and reads
+/// no more. This processor's own choice.
 #[derive(Drop)]
 pub struct Input<R> {
     reader: BufferedReader<RetryingReader<R>>,
@@ -50,8 +50,8 @@ impl<R: Read> Source for Input<R> {
 
     ghost failure_count = { λ s. s.reader.device.failures };
 
-    fn take_held(&mut self, stop: u8, work: &mut Work) {
-        let count = work.push_before(stop, self.reader.held());
+    fn take_held<N: Neutral>(&mut self, stop: u8, neutral: &mut N) {
+        let count = neutral.push_before(stop, self.reader.held());
         self.reader.skip(count);
     }
 

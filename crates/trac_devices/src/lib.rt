@@ -1,6 +1,6 @@
-//! What a machine reads from and writes to: sources and sinks, those over memory, over a reader
-//! and over a writer, with buffers and without. That they tell their failures, and what each does
-//! after one, is this processor's own choice.
+//! What a machine reads from and writes to: sources and sinks over memory, over a reader and over a writer,
+//! with buffers and without. That they report their failures, and what each does after one, is this
+//! processor's own choice.
 #![tactic(auto)]
 
 mod buffered;

@@ -9,10 +9,9 @@ use std::io::Write;
 use std::marker::Model;
 use trac_space::Cell;
 
-/// A sink over a writer behind a buffer, by writes of one byte or of many. It
-/// is flushed where nothing waits in the buffer and the writer was flushed
-/// after its last write. A call that was interrupted is tried again; another
-/// error, or a write of no byte, is a failure. This processor's own choice.
+/// A sink over a writer with a buffer of 8192 bytes. It is flushed if no bytes wait in the buffer and the
+/// writer was flushed after its last write. It makes an interrupted call again; any other error, or a write
+/// of no byte, is a failure. This processor's own choice.
 #[derive(Drop)]
 pub struct Output<W> {
     writer: BufferedWriter<RetryingWriter<W>>,

@@ -7,8 +7,8 @@ use crate::device::{Next, Source};
 use std::io::Read;
 use std::marker::Model;
 
-/// A source over a reader, by reads of one byte. Each error is a failure; after a read of no byte
-/// it has ended, and reads no more. This processor's own choice.
+/// A source over a reader, from which it reads one byte at a time. Each error is a failure, an interrupted
+/// read too. After a read of no byte it has ended, and reads no more. This processor's own choice.
 #[derive(Drop)]
 pub struct ReadSource<R> {
     reader: R,

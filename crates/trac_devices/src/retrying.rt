@@ -1,4 +1,4 @@
-//! A reader and a writer that make a call again where the system interrupted it.
+//! A reader and a writer that make an interrupted call again.
 ghost use Rattle.std.specs.Prelude.{◌≡◌, ◌≢◌, IfErr};
 ghost use Rattle.std.specs.IoError.{error_kind};
 ghost use Rattle.std.specs.Io.{ReadsAtMost, WritesAtMost};
@@ -8,12 +8,12 @@ use std::io;
 use std::io::{ErrorKind, Read, Write};
 use std::marker::Model;
 
-/// How often a call is made that is interrupted each time: 1,000,000 times.
+/// A call that is interrupted each time is made this many times: 1,000,000.
 pub const TRIES: u32 = 1_000_000;
 
-/// A reader that reads again where a signal interrupted the read, which is no failure. After
-/// `TRIES` reads in a row that were interrupted it answers an error of the kind `TimedOut`, so each
-/// call returns; each other error is the reader's own. This processor's own choice.
+/// A reader that makes a read again if a signal interrupted it; that is no failure. After `TRIES`
+/// interrupted reads in a row it answers an error of the kind `TimedOut`, so each call returns. Any other
+/// error is the reader's own. This processor's own choice.
 #[derive(Drop)]
 pub struct RetryingReader<R> {
     reader: R,
@@ -47,9 +47,9 @@ impl<R: Read> Read for RetryingReader<R> {
     }
 }
 
-/// A writer that writes or flushes again where a signal interrupted the call, which is no failure.
-/// After `TRIES` calls in a row that were interrupted it answers an error of the kind `TimedOut`,
-/// so each call returns; each other error is the writer's own. This processor's own choice.
+/// A writer that makes a write or a flush again if a signal interrupted it; that is no failure. After
+/// `TRIES` interrupted calls in a row it answers an error of the kind `TimedOut`, so each call returns. Any
+/// other error is the writer's own. This processor's own choice.
 #[derive(Drop)]
 pub struct RetryingWriter<W> {
     writer: W,
@@ -90,6 +90,7 @@ impl<W: Write> Write for RetryingWriter<W> {
     }
 }
 
+// Reads once, and again as long as the read is interrupted, at most `TRIES` times.
 fn read_again<R: Read>(reader: &mut R, buf: &mut [u8]) -> io::Result<usize>
     ensures bound { ReadsAtMost result buf.new }
     ensures bytes { ReadConsumes (R.remaining reader.old) (R.remaining reader.new) result buf.new }
@@ -105,6 +106,7 @@ fn read_again<R: Read>(reader: &mut R, buf: &mut [u8]) -> io::Result<usize>
     Err(io::Error::from(ErrorKind::TimedOut))
 }
 
+// Writes once, and again as long as the write is interrupted, at most `TRIES` times.
 fn write_again<W: Write>(writer: &mut W, buf: &[u8]) -> io::Result<usize>
     ensures bound { WritesAtMost result buf.now }
     ensures bytes { WriteAppends (W.contents writer.old) (W.contents writer.new) result buf.now }
@@ -120,6 +122,7 @@ fn write_again<W: Write>(writer: &mut W, buf: &[u8]) -> io::Result<usize>
     Err(io::Error::from(ErrorKind::TimedOut))
 }
 
+// Flushes once, and again as long as the flush is interrupted, at most `TRIES` times.
 fn flush_again<W: Write>(writer: &mut W) -> io::Result<()>
     ensures bytes { Keeps (W.contents writer.old) (W.contents writer.new) }
     ensures retried { IfErr result (λ e. error_kind e ≢ ErrorKind.Interrupted) }

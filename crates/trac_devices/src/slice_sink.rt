@@ -1,18 +1,18 @@
 //! A sink over memory.
-ghost use Rattle.std.specs.Prelude.{◌≡◌, ◌+◌, ◌-◌, ◌^◌, ◌<◌, ◌≤◌, [], length, take};
+ghost use Rattle.std.specs.Prelude.{◌≡◌, ◌+◌, ◌-◌, ◌^◌, ◌<◌, ◌≤◌, [], length};
 ghost use Rattle.std.specs.Prelude.{unwrap_or, is_ok, is_err, ◌&&◌, ◌||◌, OnOk, not, nat_eq};
 ghost use Rattle.std.specs.Prelude.{nat_lt, true, false};
 ghost use Rattle.trac_devices.specs.Devices.{failures_of, after_put};
 
 use crate::device::{Sink, SinkFailed};
 
-/// A sink over memory, for embedding and for tests; it fails where its room is full, and at one
-/// flush that it is told. This processor's own choice.
+/// A sink over memory, for embedding and for tests. It fails when its memory is full, and at one flush that
+/// you can choose. This processor's own choice.
 #[derive(Drop)]
 pub struct SliceSink<'a> {
     room: &'a mut [u8],
     len: usize,
-    /// The flushes up to the one that fails; 0 where none is to fail.
+    /// How many flushes are left up to the one that fails, that one included; 0 if none fails.
     flushes_left: u64,
     failures: u64,
     is_flushed: bool,
@@ -22,8 +22,8 @@ pub struct SliceSink<'a> {
 impl<'a> SliceSink<'a> {
     ghost use Rattle.trac_devices.specs.SliceSinks.{slice_output, lent_name, lent_bytes};
 
-    /// A sink with room for so many bytes, whose flush of that
-    /// number, counted from 1, fails; none with None or 0.
+    /// A sink that writes over the bytes of `room`. Flush number `flush_fault`, from 1, fails; with None or 0
+    /// no flush does.
     pub fn new(room: &'a mut [u8], flush_fault: Option<u64>) -> SliceSink<'a>
         ensures value { slice_output result ≡ record {
           written = [];
@@ -32,7 +32,7 @@ impl<'a> SliceSink<'a> {
           failures = 0;
           is_flushed = true;
         } }
-        // what was lent holds what it held
+        // the lent memory is unchanged
         ensures lent { lent_name result ≡ room.entry.ghost_name }
         ensures holds { lent_bytes result ≡ room.old }
     {

@@ -1,17 +1,16 @@
 //! A source over memory.
 ghost use Rattle.std.specs.Prelude.{◌≡◌, ℕ, ◌+◌, ◌-◌, ◌^◌, ◌<◌, [], drop, true, false};
 ghost use Rattle.trac_language.specs.Text.{Text};
-ghost use Rattle.trac_forms.specs.Contents.{IsSound};
 ghost use Rattle.trac_devices.specs.Devices.{Gives, Streams, failures_of_next};
-ghost use Rattle.trac_devices.specs.HeldBytes.{Reads, TakesHeld};
+ghost use Rattle.trac_devices.specs.HeldBytes.{ReadsInto, TakesHeld};
 ghost use Rattle.trac_devices.specs.Slices.{slice_input, slice_answer, slice_after, stream_in};
 
 use crate::device::{Next, Source};
 use std::marker::Model;
-use trac_forms::Work;
+use trac_space::Neutral;
 
-/// A source over bytes in memory, for embedding and for tests; it
-/// may be told to fail at a place. This processor's own choice.
+/// A source over bytes in memory, for embedding and for tests. It fails at a place that you can choose.
+/// This processor's own choice.
 #[derive(Drop)]
 pub struct SliceSource<'a> {
     bytes: &'a [u8],
@@ -37,8 +36,8 @@ impl<'a> Model for SliceSource<'a> {
 }
 
 impl<'a> SliceSource<'a> {
-    /// A source that gives all the bytes and then ends; or, with a place that is at most their
-    /// number, the bytes before that place, and then fails at each call.
+    /// A source that gives all the bytes and then ends. If `fails_at` is at most their number, it gives only
+    /// the bytes before that place, and then fails at each call.
     pub fn new(bytes: &'a [u8], fails_at: Option<u64>) -> SliceSource<'a>
         ensures { result ≡ slice_input bytes.now fails_at }
     {
@@ -58,7 +57,7 @@ impl<'a> SliceSource<'a> {
         }
     }
 
-    /// The bytes that are still to come.
+    /// The bytes still to come.
     pub fn rest(&self) -> &[u8]
         ensures { result.now ≡ self.now.bytes }
     {
@@ -73,17 +72,18 @@ impl Source for SliceSource<'_> {
 
     ghost failure_count = { λ s. s.failures };
 
-    fn take_held(&mut self, stop: u8, work: &mut Work)
-        requires { IsSound work.old }
-        ensures taken { (count : ℕ) × (TakesHeld stop self.old.bytes count work.old work.new
+    fn take_held<N: Neutral>(&mut self, stop: u8, neutral: &mut N)
+        requires { N.sound neutral.old }
+        ensures taken { (count : ℕ)
+            × (TakesHeld N.appended N.full stop self.old.bytes count neutral.old neutral.new
             × (self.new ≡ record self.old { bytes = drop count self.old.bytes })) }
-        ensures reads { (text : Text) × (Reads stop work.old work.new text
+        ensures reads { (text : Text) × (ReadsInto N.appended stop neutral.old neutral.new text
             × (Unit {0} → Streams (stream_in self.old) text (stream_in self.new))) }
         ensures told { Unit {0} → Unit {0} }
         ensures counts { self.new.failures ≡ self.old.failures }
-        ensures sound { IsSound work.new }
+        ensures sound { N.sound neutral.new }
     {
-        let count = work.push_before(stop, self.bytes);
+        let count = neutral.push_before(stop, self.bytes);
         self.bytes = &self.bytes[count..];
     }
 

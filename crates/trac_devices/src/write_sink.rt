@@ -5,8 +5,8 @@ use crate::device::{Sink, SinkFailed};
 use std::io::Write;
 use std::marker::Model;
 
-/// A sink over a writer, by writes of one byte. An error, or a
-/// write of no byte, is a failure. This processor's own choice.
+/// A sink over a writer, to which it writes one byte at a time. An error, or a write of no byte, is a
+/// failure. This processor's own choice.
 #[derive(Drop)]
 pub struct WriteSink<W> {
     writer: W,

@@ -1,4 +1,4 @@
-//! What is seen of a machine before a step, and the value of the call after it.
+//! What you can see of a machine before a step, and the value of a call after it.
 ghost use Rattle.std.specs.Prelude.{◌≡◌};
 ghost use Rattle.trac_events.specs.Calls.{IsSeen, SeesValue, ends_call, reads, value_behind};
 
@@ -6,10 +6,10 @@ use crate::call::{OpenCall, innermost};
 use trac_core::{Awaits, Machine, ScanningRule};
 use trac_space::Cell;
 
-/// What is seen of a machine before a step.
+/// What you can see of a machine before a step.
 #[derive(Clone, Copy, Debug, PartialEq, Eq)]
 pub struct Before {
-    /// The steps that were done.
+    /// The steps done so far.
     pub done: u64,
     /// The rule that the step follows.
     pub rule: ScanningRule,
@@ -23,13 +23,13 @@ pub struct Before {
     pub meta: u8,
     /// How many characters the step drops, since its left parenthesis has no match.
     pub drops: u32,
-    /// The call that the step performs, where it was asked for or reads.
+    /// The call that the step performs, if you asked for it or it reads.
     pub call: Option<OpenCall>,
 }
 
 impl Before {
-    /// Looks at a machine before a step; at the call that the step performs only where that is
-    /// asked for or reads.
+    /// Looks at a machine before a step. Looks at the call that the step performs only if you ask for it or
+    /// it reads.
     pub fn new(machine: &Machine, with_call: bool) -> Before
         ensures { IsSeen machine.now with_call result }
     {
@@ -52,7 +52,7 @@ impl Before {
         }
     }
 
-    /// The value of the call that the step performed, of the machine after that step.
+    /// The value of the call that the step performed, taken from the machine after that step.
     pub fn value<'m>(&self, machine: &'m Machine) -> &'m [Cell]
         ensures { SeesValue machine.now self.now.call self.now.active result.now }
     {
@@ -63,9 +63,9 @@ impl Before {
     }
 }
 
-/// The value of a call that was performed, where the active string had so many cells before it: what
-/// stands in the active string before the cells that were left there, and where nothing does, what
-/// stands in the neutral string from the place of the call's mark on.
+/// The value of a call that was performed, by how many cells the active string had before: what stands in
+/// front of these cells in the active string or, if nothing does, what stands in the neutral string from the
+/// place of the call's mark on.
 pub fn value_behind<'m>(
     call: OpenCall,
     before: usize,
@@ -84,7 +84,7 @@ pub fn value_behind<'m>(
     }
 }
 
-// Whether a step that follows the rule performs a call, where one is open.
+// Whether a step by this rule performs a call, if one is open.
 fn ends_call(rule: ScanningRule) -> bool
     ensures { result ≡ ends_call rule }
 {

@@ -23,7 +23,7 @@ pub struct OpenCall {
     pub depth: usize,
 }
 
-/// The innermost call that is open in a neutral string. None where none is open.
+/// The innermost open call in a neutral string. None if no call is open.
 pub fn innermost(neutral: &[Cell]) -> Option<OpenCall>
     ensures { MatchOption result (NoCall neutral.now) (IsInnermost neutral.now) }
 {
@@ -45,7 +45,7 @@ pub fn arguments_of(neutral: &[Cell], call: OpenCall) -> &[Cell]
     behind(neutral, call.mark)
 }
 
-/// The arguments of the innermost call that is open in a neutral string. None where none is open.
+/// The arguments of the innermost open call in a neutral string. None if no call is open.
 pub fn arguments_at_end(neutral: &[Cell]) -> Option<&[Cell]>
     ensures { MatchOption result (NoCall neutral.now) (λ arguments.
         IsBehindLastMark neutral.now arguments.now) }
@@ -58,7 +58,8 @@ pub fn arguments_at_end(neutral: &[Cell]) -> Option<&[Cell]>
     None
 }
 
-/// An argument of a call, from 0, the name of its function; null where the call has no such one.
+/// An argument of a call, counted from 0, which is the name of its function. Null if the call has no such
+/// argument.
 pub fn argument(arguments: &[Cell], k: u32) -> &[Cell]
     ensures { result.now ≡ argument_of arguments.now k }
 {
@@ -69,7 +70,7 @@ pub fn argument(arguments: &[Cell], k: u32) -> &[Cell]
     &rest[..before_comma(rest)]
 }
 
-// The cells behind the first comma mark, none where there is no such mark.
+// The cells behind the first comma mark; none if there is no comma mark.
 fn behind_comma(cells: &[Cell]) -> &[Cell]
     ensures { result.now ≡ drop (position_or_len is_comma cells.now + 1) cells.now }
 {
@@ -102,9 +103,9 @@ fn before_comma(cells: &[Cell]) -> usize
 /// What a call names, seen before it is performed.
 #[derive(Clone, Copy)]
 pub struct Named {
-    /// The function, none where no function has the name.
+    /// The function. None if no function has the name.
     pub function: Option<Function>,
-    /// The pointer of the form that is named behind the function, where there is such a form.
+    /// The pointer of the form that is named behind the function. None if there is no such form.
     pub pointer: Option<u32>,
 }
 

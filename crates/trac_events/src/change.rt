@@ -1,4 +1,4 @@
-//! What a call makes of forms.
+//! Which forms a call can change.
 ghost use Rattle.std.specs.Prelude.{◌≡◌};
 ghost use Rattle.std.specs.List.{list_all};
 ghost use Rattle.trac_space.specs.Texts.{is_byte_cell, text_of_cells};
@@ -13,11 +13,11 @@ use trac_space::{Cell, character_of, is_character};
 pub enum Touched {
     /// None.
     Nothing,
-    /// The one that the first argument behind the function's name names.
+    /// The form that the first argument behind the function's name names.
     First,
-    /// Those that all the arguments behind the function's name name.
+    /// The forms that the arguments behind the function's name name.
     Each,
-    /// All that there are.
+    /// All forms.
     All,
 }
 
@@ -39,7 +39,7 @@ pub fn touched_by(function: Function) -> Touched
     }
 }
 
-/// The form whose name these cells are. None where no form has it, or where one of them is no character.
+/// The form whose name these cells are. None if no form has it, or if a cell is no character.
 pub fn find_form<'m>(machine: &'m Machine, name: &[Cell]) -> Option<StoredForm<'m>>
     ensures { result ≡ form_of name.now machine.now.memory.forms }
 {
@@ -50,7 +50,7 @@ pub fn find_form<'m>(machine: &'m Machine, name: &[Cell]) -> Option<StoredForm<'
     }
 }
 
-/// The pointer of that form. None where there is no such form.
+/// The pointer of the form whose name these cells are. None if there is no such form.
 pub fn pointer_of(machine: &Machine, name: &[Cell]) -> Option<u32>
     ensures { result ≡ pointer_of name.now machine.now.memory.forms }
 {

@@ -1,6 +1,6 @@
-//! What is seen of a run, step by step: places in the input, open calls and their arguments, the
-//! value of a call that was performed, and what it made of forms. What is shown of a run, and what
-//! is said to be suspicious in it, is made from these. All of it is this processor's own choice.
+//! What you can see of a run, step by step: places in the input, open calls and their arguments, the value
+//! of a call that was performed, and the forms that it changed. The tracer and its warnings are made from
+//! these. All of it is this processor's own choice.
 #![tactic(auto)]
 
 mod before;

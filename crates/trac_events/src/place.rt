@@ -23,7 +23,7 @@ impl Place {
         Place { line: 1, column: 1 }
     }
 
-    /// The place behind a byte that stands at this one.
+    /// The place behind a byte that stands at this place.
     pub fn behind(self, byte: u8) -> Place
         ensures { result ≡ behind self byte }
     {
@@ -40,7 +40,7 @@ impl Place {
         }
     }
 
-    /// The place behind bytes that stand at this one.
+    /// The place behind bytes that stand from this place on.
     pub fn behind_bytes(self, bytes: &[u8]) -> Place
         ensures { result ≡ behind_text self bytes.now }
     {
@@ -51,7 +51,7 @@ impl Place {
         place
     }
 
-    /// The place behind the characters of cells that stand at this one.
+    /// The place behind the characters of cells, if they stand from this place on.
     pub fn behind_cells(self, cells: &[Cell]) -> Place
         ensures { result ≡ behind_text self (text_of_cells cells.now) }
     {
@@ -62,7 +62,7 @@ impl Place {
         place
     }
 
-    /// The place behind the layout at the head of cells that stand at this one.
+    /// The place behind the layout at the head of cells, if they stand from this place on.
     pub fn behind_layout(self, cells: &[Cell]) -> Place
         ensures { result ≡ behind_layout self (text_of_cells cells.now) }
     {
@@ -77,17 +77,17 @@ impl Place {
     }
 }
 
-/// Where the input is read, and where the string began that was read last.
+/// Where the input is being read, and where the string read last began.
 #[derive(Clone, Copy, Debug, PartialEq, Eq)]
 pub struct Reading {
     /// The place of the next byte.
     pub next: Place,
-    /// The place of the first byte of the string, layout at its head passed over.
+    /// The place of the first byte of the string that is no layout.
     pub string: Place,
 }
 
 impl Reading {
-    /// Before anything was read.
+    /// Where a run stands before it has read anything.
     pub fn first() -> Reading
         ensures { result ≡ record { next = first_place; string = first_place } }
     {
@@ -97,7 +97,7 @@ impl Reading {
         }
     }
 
-    /// Behind a string that was read, with the meta character that ended it.
+    /// Where a run stands after it has read a string and the meta character that ended it.
     pub fn behind_string(self, cells: &[Cell], meta: u8) -> Reading
         ensures { let text = text_of_cells cells.now in result ≡ record {
           next = behind (behind_text self.next text) meta;
@@ -110,7 +110,7 @@ impl Reading {
         }
     }
 
-    /// Behind a character that was read, or none: the string is the same.
+    /// Where a run stands after it has read a character, or none. The string stays the same.
     pub fn behind_character(self, cells: &[Cell]) -> Reading
         ensures { result ≡ record self { next = behind_text self.next (text_of_cells cells.now) } }
     {

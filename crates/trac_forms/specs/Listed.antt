@@ -1,4 +1,4 @@
--- The forms of a `Work` that are looked at, one after the other.
+-- The forms of a `Work`, read one after the other.
 use Rattle.std.specs.Prelude.{◌≡◌, ℕ, ◌≤◌, List, length, map}
 use Rattle.trac_language.specs.Form.{Form}
 use Rattle.trac_language.specs.Store.{IsStore}

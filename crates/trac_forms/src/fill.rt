@@ -1,4 +1,5 @@
-//! Whole forms, their gaps filled, put at the end of neutral (Mooers 1966).
+//! Copies the rest of a form: with its gaps filled to the end of neutral, or to the front of active if it
+//! has no gap (Mooers 1966).
 ghost use Rattle.std.specs.Prelude.{◌≡◌, ◌+◌, ◌≤◌, ◌<◌, ◌↔◌, ◌++◌};
 ghost use Rattle.std.specs.Prelude.{length, map, slice_range, IsTrue, MatchOption};
 ghost use Rattle.std.specs.Bool.{OnTrue, OnFalse};
@@ -17,9 +18,9 @@ use trac_space::Part;
 use trac_store::{Located, fill_items, heads_of, load_items};
 
 impl<'a> Work<'a> {
-    /// Puts the items of the form's body from its pointer on at the end of neutral, each gap of
-    /// ordinal k replaced by the k-th, from 1, of the texts between the comma marks of neutral from
-    /// place `first` up to `end`, and by nothing where there is none. False where they don't fit.
+    /// Copies the form's body from its pointer on to the end of neutral, each gap k replaced by argument k:
+    /// the k-th, from 1, of the texts between the comma marks of neutral from place `first` up to `end`, or
+    /// nothing if there is no such text. False, with nothing changed, if the copy doesn't fit.
     pub fn fill_body(&mut self, form: FormId, first: u32, end: u32) -> bool
         requires known { form_place form < length self.old.forms }
         requires arguments { AreParted self.old.neutral first end }
@@ -46,7 +47,7 @@ impl<'a> Work<'a> {
         self.fill_located(here, texts)
     }
 
-    // The same, where another form was used last.
+    // Does what `fill_body` does for a form that isn't the one used last.
     #[inline(never)]
     fn fill_other(&mut self, form: FormId, first: u32, end: u32) -> bool
         requires known { form.0 < length self.old.forms }
@@ -68,8 +69,7 @@ impl<'a> Work<'a> {
         self.fill_located(at, texts)
     }
 
-    // Where the items that a call of the form goes through stand in the store: its body from its
-    // pointer on.
+    // The part of the store that a call of the form copies: its body from its pointer on.
     #[inline(always)]
     fn called_place(&self, form: Located) -> Part
         requires known { form.number < length self.now.forms }
@@ -87,7 +87,7 @@ impl<'a> Work<'a> {
         }
     }
 
-    // As `fill_body`, of a form whose place is known.
+    // Does what `fill_body` does for a form whose place is known.
     #[inline(always)]
     fn fill_located(&mut self, form: Located, texts: Part) -> bool
         requires known { form.number < length self.old.forms }
@@ -108,8 +108,8 @@ impl<'a> Work<'a> {
 }
 
 impl<'a> Work<'a> {
-    /// Puts the characters of the form's body from its pointer on before active, where no gap stands
-    /// among them and they fit, and gives how many they are. None where it does not put them.
+    /// Copies the form's body from its pointer on to the front of active if it has no gap there and fits, and
+    /// gives how many characters these are. None, with nothing changed, if it didn't copy them.
     #[inline(always)]
     pub fn load_body(&mut self, form: FormId) -> Option<u32>
         requires known { form_place form < length self.old.forms }

@@ -1,4 +1,4 @@
-//! The forms of a `Work`, to be looked at one after the other. Nothing here changes a cell.
+//! Reads the forms of a `Work` one after the other. Nothing here changes a cell.
 ghost use Rattle.std.specs.Prelude.{◌≡◌, ◌≤◌, ◌<◌, All, List, length, slice_get, Some};
 ghost use Rattle.std.specs.Iterator.{YieldsFirst, item_count};
 ghost use Rattle.trac_language.specs.Form.{Form};
@@ -15,7 +15,7 @@ use trac_language::Item;
 use trac_space::Cell;
 use trac_store::{Located, find_by_name, heads_at, item_of, number_in_head};
 
-/// A form as it stands in the block.
+/// A form as it stands in the block. You can read it, and not change it.
 #[derive(Drop)]
 pub struct StoredForm<'a> {
     name: &'a [Cell],
@@ -51,7 +51,7 @@ impl<'a> StoredForm<'a> {
         self.body.len() as u32
     }
 
-    /// The item at place `i` of the body, from 0. None where it has no such place.
+    /// The item at place `i` of the body, from 0. None if it has no such place.
     #[inline]
     pub fn item(&self, i: u32) -> Option<Item>
         ensures { result ≡ slice_get self.now.body i }
@@ -73,10 +73,10 @@ impl<'a> StoredForm<'a> {
     }
 }
 
-/// Forms, in the order in which they were defined: an iterator.
+/// An iterator over forms, in the order in which they were defined.
 #[derive(Drop)]
 pub struct Forms<'a> {
-    // The cells of the forms that are still to come, and how many these are.
+    // The cells of the forms still to come, and how many forms these are.
     cells: &'a [Cell],
     count: u32,
 }
@@ -129,7 +129,7 @@ impl<'a> Iterator for Forms<'a> {
 }
 
 impl<'a> Work<'a> {
-    /// The forms, to be looked at in the order in which they were defined.
+    /// Iterates over the forms, in the order in which they were defined.
     pub fn listed(&self) -> Forms<'_>
         ensures { result ≡ self.now.forms }
     {
@@ -139,8 +139,8 @@ impl<'a> Work<'a> {
         }
     }
 
-    /// The form at place `k` of the list, from 0, to be looked at; `None` past the last. It costs a walk
-    /// from the form that `form` told last, where that stands before it.
+    /// The form at place `k` of the list, from 0, to be read. None past the last. Walks there from the form
+    /// used last, or from the first form if the one used last stands behind it.
     pub fn listed_at(&self, k: u32) -> Option<StoredForm<'_>>
         ensures { result ≡ slice_get self.now.forms k }
     {
@@ -151,8 +151,8 @@ impl<'a> Work<'a> {
         }
     }
 
-    /// The form whose name is these characters, to be looked at; they need not stand in the block. `None`
-    /// where no form has the name. It is found by the index of the forms, where there is one.
+    /// The form with this name, to be read. None if no form has it. The name needn't stand in the block. The
+    /// search takes the index if there is one.
     pub fn stored_named(&self, name: &[Cell]) -> Option<StoredForm<'_>>
         requires { All IsByte name.now }
         ensures { result ≡ form_named (text_of_cells name.now) self.now.forms }
@@ -164,7 +164,7 @@ impl<'a> Work<'a> {
         }
     }
 
-    /// A form, to be looked at.
+    /// The form, to be read.
     pub fn stored(&self, form: FormId) -> StoredForm<'_>
         requires { form_place form < length self.now.forms }
         ensures { result ≡ form_at self.now.forms (form_place form) }
@@ -172,7 +172,7 @@ impl<'a> Work<'a> {
         self.stored_at(self.locate(form))
     }
 
-    // The same, of a form whose place is known.
+    // A form whose place is known, to be read.
     fn stored_at(&self, form: Located) -> StoredForm<'_>
         requires known { form.number < length self.now.forms }
         requires begins { form.start ≡ start_of self.now.forms form.number }

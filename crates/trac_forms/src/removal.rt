@@ -1,4 +1,4 @@
-//! Removing the forms of several names in one pass.
+//! Removes the forms of several names in one pass.
 ghost use Rattle.std.specs.Prelude.{◌≡◌};
 ghost use Rattle.trac_store.specs.Arguments.{AreParted, texts_between};
 ghost use Rattle.trac_forms.specs.Contents.{IsSound};
@@ -9,9 +9,9 @@ use trac_space::Part;
 use trac_store::{FIRST_FORM, mark_all, take_out_marked};
 
 impl<'a> Work<'a> {
-    /// Takes the forms out of the list whose names are the texts between the comma marks of neutral
-    /// from place `from` up to `end`. The others keep their order. One pass over the forms from the
-    /// first of them on, beside finding each.
+    /// Removes the forms whose names are the texts between the comma marks of neutral from place `from` up to
+    /// `end`. The others keep their order. Takes a search for each name, and one pass over the forms from the
+    /// first removed one on.
     pub fn delete_named(&mut self, from: u32, end: u32)
         requires { AreParted self.old.neutral from end }
         ensures gone { let names = texts_between self.old.neutral from end in

@@ -2,7 +2,7 @@
 use Rattle.trac_functions.proofs.Words.{◌≡◌, ℕ, zero, suc, ◌+◌, ◌<◌, ◌≤◌, Bool, true, false, List, [], ◌∷◌, ◌++◌, length, drop, set, slice_range, subst, ◌-◌, refl, sym, ap, ◌∙◌, arith, Some, ⊎_elim, if◌then◌else◌, flat_map, filter, bytes_eq, not, ◌||◌, list_any, cases_lt, append-nil}
 use Rattle.trac_functions.proofs.Words.{drop_more, drop_all, get_or-set_same, set-set, set-get_or, bytes_eq-Decides, length-between, All-nil, All-cons, Function, Text, Form, segment_by, IsStore, NoneNamed, is_named, without, World, meaning_of, built, value_length, argument, Cell, Byte, Call, Comma}
 use Rattle.trac_functions.proofs.Words.{Gap, Head, Contents, IsSound, form_at, name_at, body_at, pointer_at, IsTextPart, AreTextParts, part_texts, before_comma, parts_between, texts_between, AreParted, without-none, parts-first, parts-none, Arguments, texts_of, in_first}
-use Rattle.trac_functions.proofs.Words.{with_first, Means, IsValue, AreArguments, texts, Performs, Value, world, silent, form_named, form_named-none, None}
+use Rattle.trac_functions.proofs.Words.{with_first, Means, IsValue, AreArguments, texts, Performs, AtEnd, world, silent, form_named, form_named-none, None}
 use Rattle.trac_functions.proofs.ArgumentLemmas.{none-left, texts_from-some, taken-part, taken-text, taken-rest, taken-left}
 use Rattle.trac_functions.proofs.FlatLemmas.{texts_of-some}
 use Rattle.trac_functions.proofs.MadeValues.{valued-of}
@@ -17,7 +17,7 @@ null-value f args old new sound means built_is same =
     }
 
 -- a call that does nothing where no form has the name that its first argument gives
-pub idle : (f : Function) (old new : Contents) (a : Arguments) (name : Text) → AreArguments old a → ((title : Text) (w : World) → form_named (argument (texts old a) 0) w.forms ≡ None → meaning_of f (title ∷ texts old a) w ≡ silent w) → ((title : Text) (w : World) → built (Some f) (title ∷ texts old a) w ≡ value_length (meaning_of f (title ∷ texts old a) w)) → new ≡ old → NoneNamed name old.forms → name ≡ argument (texts old a) 0 → Performs f old a Value new
+pub idle : (f : Function) (old new : Contents) (a : Arguments) (name : Text) → AreArguments old a → ((title : Text) (w : World) → form_named (argument (texts old a) 0) w.forms ≡ None → meaning_of f (title ∷ texts old a) w ≡ silent w) → ((title : Text) (w : World) → built (Some f) (title ∷ texts old a) w ≡ value_length (meaning_of f (title ∷ texts old a) w)) → new ≡ old → NoneNamed name old.forms → name ≡ argument (texts old a) 0 → Performs f old a AtEnd new
 idle f old new a name are means built_is same none name_is = λ title.
     let gone = form_named-none (argument (texts old a) 0) old.forms (subst (λ n. NoneNamed n old.forms) name_is none) in
     ([], rw same (null-value f (title ∷ texts old a) old old are.sound (λ meta input. means title (world old.forms meta input) gone) (built_is title) refl))

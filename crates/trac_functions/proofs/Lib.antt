@@ -6,6 +6,7 @@ pub mod DigitParts
 pub mod FlatLemmas
 pub mod FormLemmas
 pub mod Fronts
+pub mod LongNumbers
 pub mod MadeValues
 pub mod Names
 pub mod PutCharacters

@@ -2,8 +2,8 @@
 use Rattle.trac_functions.proofs.Words.{◌≡◌, ◌≢◌, ℕ, zero, suc, ◌+◌, ◌-◌, ◌<◌, ◌≤◌, min, Bool, true, false, List, [], ◌∷◌, ◌++◌, length, take, drop, reverse, set, slice_range, get_or, Option, Some, None, refl, sym, ap, ◌∙◌, subst, arith, nat_lt, take_while, option_map}
 use Rattle.trac_functions.proofs.Words.{if◌then◌else◌, int_lt, unsigned_abs, pos, prefix_len, lt-ltb, le-ltb, length-take, length-drop, length-reverse, nil_from_length, get_or-drop, drop-drop, drop_of_length-le, sum_by-cons, Item, Function, Text, Form, is_character, text_of, after_pointer, before_pointer}
 use Rattle.trac_functions.proofs.Words.{begins, place_of, form_named, changed, cells, form_cells, Input, Part, characters, first_characters, segment_from, next_segment, unless_null, forward, backward, next_characters, previous_characters, up_to, initial_part, World, on_form, silent}
-use Rattle.trac_functions.proofs.Words.{with_form, take_part, meaning_of, value_length, built, number, flat_text, signed, character_at, is_gap, gap_at, text_at, NonePasses, IsFirst, Contents, form_at, IsNamedAt, IsSound, part_text, form_named-at, changed-at, Made, Full, Value}
-use Rattle.trac_functions.proofs.Words.{Placed, Defined, Over, world, Valued, Makes, Performs, Arguments, AreArguments, argument, texts, part_value, moved, TakesPart, TakesOrDefault}
+use Rattle.trac_functions.proofs.Words.{with_form, take_part, meaning_of, value_length, built, number, flat_text, signed, character_at, is_gap, gap_at, text_at, NonePasses, IsFirst, Contents, form_at, IsNamedAt, IsSound, part_text, form_named-at, changed-at, CallResult, Full, AtEnd}
+use Rattle.trac_functions.proofs.Words.{InFront, Null, Over, world, Valued, Makes, Performs, Arguments, AreArguments, argument, texts, part_value, moved, TakesPart, TakesOrDefault}
 use Rattle.trac_functions.proofs.FormLemmas.{null-value}
 use Rattle.trac_language.specs.declared.item.Item.TheVariants.{Byte, Gap}
 use Rattle.trac_functions.proofs.CountLimits.{counted}
@@ -15,7 +15,7 @@ use Rattle.trac_functions.proofs.TakenItems.{first_characters-none, first-charac
 -- a call of this function takes a part of the form that its first argument names
 module _ (f : Function) (args : List Text) (name : Text) (part : Form → Option Part) (z : Text) (scanned : Bool) (means : (w : World) → meaning_of f args w ≡ on_form (form_named name w.forms) (λ form. take_part name (part form) z w) w) (built_is : (w : World) → built (Some f) args w ≡ value_length (meaning_of f args w)) where
   -- what the form at a place gives
-  makes-part : (old new : Contents) (k : ℕ) (made : Made) → IsSound old → IsNamedAt old.forms name k → TakesPart (part (form_at old.forms k)) z k old made new → Makes f args scanned old made new
+  makes-part : (old new : Contents) (k : ℕ) (made : CallResult) → IsSound old → IsNamedAt old.forms name k → TakesPart (part (form_at old.forms k)) z k old made new → Makes f args scanned old made new
   makes-part old new k made sound at takes = go (part (form_at old.forms k)) refl made takes
     where
       means-at : (o : Option Part) → part (form_at old.forms k) ≡ o → (meta : ℕ) (input : Input) → meaning_of f args (world old.forms meta input) ≡ take_part name o z (world old.forms meta input)
@@ -24,13 +24,13 @@ module _ (f : Function) (args : List Text) (name : Text) (part : Form → Option
           ∙ ap (λ o. on_form o (λ form. take_part name (part form) z (world old.forms meta input)) (world old.forms meta input)) (form_named-at name old.forms k sound.forms at)
           ∙ ap (λ o. take_part name o z (world old.forms meta input)) e
 
-      go : (o : Option Part) → part (form_at old.forms k) ≡ o → (made : Made) → TakesPart o z k old made new → Makes f args scanned old made new
+      go : (o : Option Part) → part (form_at old.forms k) ≡ o → (made : CallResult) → TakesPart o z k old made new → Makes f args scanned old made new
       go o e Full takes = λ meta input. let size = built_is (world old.forms meta input) ∙ ap value_length (means-at o e meta input) ∙ long o (world old.forms meta input) in omega arith
         where
           long : (o : Option Part) (w : World) → value_length (take_part name o z w) ≡ length (part_value o z)
           long None w = refl
           long (Some p) w = refl
-      go None e (Placed size) takes =
+      go None e (InFront size) takes =
           let forms : new.forms ≡ old.forms = ap (λ (w : Contents). w.forms) takes.stands in (
             z,
             (
@@ -44,7 +44,7 @@ module _ (f : Function) (args : List Text) (name : Text) (part : Form → Option
               },
             ),
           )
-      go (Some p) e Value takes =
+      go (Some p) e AtEnd takes =
           let forms : new.forms ≡ moved old.forms k p.pointer = ap (λ (w : Contents). w.forms) takes.stands in
           let changes : changed name (λ form. record form { pointer = p.pointer }) old.forms ≡ moved old.forms k p.pointer = changed-at name (λ form. record form { pointer = p.pointer }) old.forms k sound.forms at in (
             p.text,
@@ -54,31 +54,31 @@ module _ (f : Function) (args : List Text) (name : Text) (part : Form → Option
               stands = takes.stands ∙ ap (λ fs. record old { forms = fs; neutral = old.neutral ++ flat_text p.text }) (sym forms);
             },
           )
-      go None e Value takes = absurd takes
-      go (Some p) e (Placed size) takes = absurd takes
-      go None e (Defined cells) takes = absurd takes
-      go (Some p) e (Defined cells) takes = absurd takes
+      go None e AtEnd takes = absurd takes
+      go (Some p) e (InFront size) takes = absurd takes
+      go None e (Null cells) takes = absurd takes
+      go (Some p) e (Null cells) takes = absurd takes
       go None e (Over fate) takes = absurd takes
       go (Some p) e (Over fate) takes = absurd takes
 
 -- the same, by what the code knows
-pub makes-found : (f : Function) (part : List Text → Form → Option Part) (other : ℕ) (old found new : Contents) (a : Arguments) (k : ℕ) (made : Made) (name : Text) (z : ℕ × ℕ) → ((title : Text) (w : World) → meaning_of f (title ∷ texts old a) w ≡ on_form (form_named (argument (texts old a) 0) w.forms) (λ form. take_part (argument (texts old a) 0) (part (texts old a) form) (argument (texts old a) other) w) w) → ((title : Text) (w : World) → built (Some f) (title ∷ texts old a) w ≡ value_length (meaning_of f (title ∷ texts old a) w)) → AreArguments old a → found ≡ old → IsNamedAt old.forms name k → name ≡ argument (texts old a) 0 → TakesOrDefault (part (texts old a)) k z found made new → part_text old.neutral z.0 z.1 ≡ argument (texts old a) other → Performs f old a made new
+pub makes-found : (f : Function) (part : List Text → Form → Option Part) (other : ℕ) (old found new : Contents) (a : Arguments) (k : ℕ) (made : CallResult) (name : Text) (z : ℕ × ℕ) → ((title : Text) (w : World) → meaning_of f (title ∷ texts old a) w ≡ on_form (form_named (argument (texts old a) 0) w.forms) (λ form. take_part (argument (texts old a) 0) (part (texts old a) form) (argument (texts old a) other) w) w) → ((title : Text) (w : World) → built (Some f) (title ∷ texts old a) w ≡ value_length (meaning_of f (title ∷ texts old a) w)) → AreArguments old a → found ≡ old → IsNamedAt old.forms name k → name ≡ argument (texts old a) 0 → TakesOrDefault (part (texts old a)) k z found made new → part_text old.neutral z.0 z.1 ≡ argument (texts old a) other → Performs f old a made new
 makes-found f part other old found new a k made name z means built_is are same at is takes text = λ title.
     let here = subst (λ (w : Contents). TakesOrDefault (part (texts old a)) k z w made new) same takes in
     makes-part f (title ∷ texts old a) (argument (texts old a) 0) (part (texts old a)) (argument (texts old a) other) a.scanned (means title) (built_is title) old new k made are.sound
     (subst (λ n. IsNamedAt old.forms n k) is at) (subst (λ t. TakesPart (part (texts old a) (form_at old.forms k)) t k old made new) text here)
 
 -- a part that is there is taken, and else the text of z
-pub takes-some : {part : Part} {o : Option Part} (z : ℕ × ℕ) (k : ℕ) (old : Contents) (made : Made) (new : Contents) → Some part ≡ o → ((z : Text) → TakesPart (Some part) z k old made new) → TakesPart o (part_text old.neutral z.0 z.1) k old made new
+pub takes-some : {part : Part} {o : Option Part} (z : ℕ × ℕ) (k : ℕ) (old : Contents) (made : CallResult) (new : Contents) → Some part ≡ o → ((z : Text) → TakesPart (Some part) z k old made new) → TakesPart o (part_text old.neutral z.0 z.1) k old made new
 takes-some z k old made new e takes = subst (λ o. TakesPart o (part_text old.neutral z.0 z.1) k old made new) e (takes (part_text old.neutral z.0 z.1))
 
-pub takes-none : {o : Option Part} (z : ℕ × ℕ) (k : ℕ) (old : Contents) (made : Made) (new : Contents) → o ≡ None → ((k : ℕ) → TakesPart None (part_text old.neutral z.0 z.1) k old made new) → TakesPart o (part_text old.neutral z.0 z.1) k old made new
+pub takes-none : {o : Option Part} (z : ℕ × ℕ) (k : ℕ) (old : Contents) (made : CallResult) (new : Contents) → o ≡ None → ((k : ℕ) → TakesPart None (part_text old.neutral z.0 z.1) k old made new) → TakesPart o (part_text old.neutral z.0 z.1) k old made new
 takes-none z k old made new e takes = subst (λ o. TakesPart o (part_text old.neutral z.0 z.1) k old made new) (sym e) (takes k)
 
 -- ---- a form that is changed
 
 -- a call of this function changes the form that its first argument names
-pub changes-found : (f : Function) (change : Form → Form) (old found new : Contents) (a : Arguments) (k : ℕ) (name : Text) → ((title : Text) (w : World) → meaning_of f (title ∷ texts old a) w ≡ on_form (form_named (argument (texts old a) 0) w.forms) (λ form. silent (with_form (argument (texts old a) 0) change w)) w) → ((title : Text) (w : World) → built (Some f) (title ∷ texts old a) w ≡ value_length (meaning_of f (title ∷ texts old a) w)) → AreArguments old a → found ≡ old → IsNamedAt old.forms name k → name ≡ argument (texts old a) 0 → new ≡ record found { forms = set found.forms k (change (form_at found.forms k)) } → Performs f old a Value new
+pub changes-found : (f : Function) (change : Form → Form) (old found new : Contents) (a : Arguments) (k : ℕ) (name : Text) → ((title : Text) (w : World) → meaning_of f (title ∷ texts old a) w ≡ on_form (form_named (argument (texts old a) 0) w.forms) (λ form. silent (with_form (argument (texts old a) 0) change w)) w) → ((title : Text) (w : World) → built (Some f) (title ∷ texts old a) w ≡ value_length (meaning_of f (title ∷ texts old a) w)) → AreArguments old a → found ≡ old → IsNamedAt old.forms name k → name ≡ argument (texts old a) 0 → new ≡ record found { forms = set found.forms k (change (form_at found.forms k)) } → Performs f old a AtEnd new
 changes-found f change old found new a k name means built_is are same at is changed_is = λ title.
     let first = argument (texts old a) 0 in
     let here = subst (λ n. IsNamedAt old.forms n k) is at in

@@ -29,8 +29,8 @@ pub use Rattle.trac_functions.specs.Calls.{AreArguments, IsValue, Makes, Means, 
 pub use Rattle.trac_functions.specs.Flat.{Neutral, arguments_at, in_first, memory_of, memory_with, mode_at, mode_of, neutral_of, no_neutral, texts_of, with_cell, with_cells, with_character, with_comma, with_first}
 pub use Rattle.trac_functions.specs.Taking.{IsFirstOr, TakesOrDefault, TakesPart, moved, part_value}
 pub use Rattle.trac_functions.specs.declared.arguments.Arguments.{Arguments}
-pub use Rattle.trac_functions.specs.declared.arguments.Made.{Made}
-pub use Rattle.trac_functions.specs.declared.arguments.Made.TheVariants.{Defined, Full, Over, Placed, Value}
+pub use Rattle.trac_functions.specs.declared.arguments.CallResult.{CallResult}
+pub use Rattle.trac_functions.specs.declared.arguments.CallResult.TheVariants.{Null, Full, Over, InFront, AtEnd}
 pub use Rattle.trac_functions.specs.declared.bit_strings.BitResult.{BitResult}
 pub use Rattle.trac_functions.specs.declared.bit_strings.BitResult.TheVariants.{Rotation}
 pub use Rattle.trac_language.specs.BitString.{Bits, bit_at, bits, bits_of_digit, complement, cut, intersection, is_octal, octal, octal_digits, octal_prefix, padded, rotated, shifted, union}

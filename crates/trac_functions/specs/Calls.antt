@@ -11,9 +11,9 @@ use Rattle.trac_space.specs.Cells.{NoCall, NoComma}
 use Rattle.trac_space.specs.Texts.{flat_text}
 use Rattle.trac_forms.specs.Contents.{Contents, used, IsSound}
 use Rattle.trac_functions.specs.declared.arguments.Arguments.{Arguments}
-use Rattle.trac_functions.specs.declared.arguments.Made.{Made}
-use Rattle.trac_functions.specs.declared.arguments.Made.TheVariants.{Full, Value, Placed, Defined}
-use Rattle.trac_functions.specs.declared.arguments.Made.TheVariants.{Over}
+use Rattle.trac_functions.specs.declared.arguments.CallResult.{CallResult}
+use Rattle.trac_functions.specs.declared.arguments.CallResult.TheVariants.{Full, AtEnd, InFront, Null}
+use Rattle.trac_functions.specs.declared.arguments.CallResult.TheVariants.{Over}
 use Rattle.trac_functions.specs.Flat.{texts_of}
 
 -- the arguments that are left to take: those from a place up to another, none once the place is
@@ -90,25 +90,25 @@ pub record IsDefined (function : Function) (args : List Text) (old new : Content
 
 -- what a function without devices makes of a call, whose value is scanned or not unless it is
 -- forced: its value, or more than there is room for
-abbrev pub Makes : Function → List Text → Bool → Contents → Made → Contents → Type 0
+abbrev pub Makes : Function → List Text → Bool → Contents → CallResult → Contents → Type 0
 Makes function args scanned old Full new =
     (meta : ℕ) (input : Input) →
     old.room < used old + built (Some function) args (world old.forms meta input)
-Makes function args scanned old Value new =
+Makes function args scanned old AtEnd new =
     (value : Text) × IsValue function args old new false value
-Makes function args scanned old (Placed size) new =
+Makes function args scanned old (InFront size) new =
     (value : Text) × ((forced : Bool) × IsPlaced function args scanned old new forced value size)
-Makes function args scanned old (Defined cells) new = IsDefined function args old new cells
+Makes function args scanned old (Null cells) new = IsDefined function args old new cells
 Makes function args scanned old (Over fate) new = ⊥
 
 -- the same of a call whose arguments, but for the function's name, are those that are left
-abbrev pub Performs : Function → Contents → Arguments → Made → Contents → Type 0
+abbrev pub Performs : Function → Contents → Arguments → CallResult → Contents → Type 0
 Performs function old arguments made new =
     (name : Text) → Makes function (name ∷ texts old arguments) arguments.scanned old made new
 
 -- whatever call has this value, which goes to the active string or not, and changes no form, this
 -- is what its function makes of it
-abbrev pub MakesValue : Text → Bool → Contents → Made → Contents → Type 0
+abbrev pub MakesValue : Text → Bool → Contents → CallResult → Contents → Type 0
 MakesValue value goes old made new =
     (function : Function) (args : List Text) (forced scanned : Bool) →
     (forced || scanned) ≡ goes →

@@ -7,9 +7,9 @@ use Rattle.trac_language.specs.Part.{Part}
 use Rattle.trac_space.specs.Texts.{flat_text}
 use Rattle.trac_forms.specs.Contents.{Contents, used, part_text, form_at}
 use Rattle.trac_forms.specs.Search.{NonePasses}
-use Rattle.trac_functions.specs.declared.arguments.Made.{Made}
-use Rattle.trac_functions.specs.declared.arguments.Made.TheVariants.{Full, Value, Placed, Defined}
-use Rattle.trac_functions.specs.declared.arguments.Made.TheVariants.{Over}
+use Rattle.trac_functions.specs.declared.arguments.CallResult.{CallResult}
+use Rattle.trac_functions.specs.declared.arguments.CallResult.TheVariants.{Full, AtEnd, InFront, Null}
+use Rattle.trac_functions.specs.declared.arguments.CallResult.TheVariants.{Over}
 
 -- the value of a call that takes a part, or z where there is none
 abbrev pub part_value : Option Part → Text → Text
@@ -33,18 +33,18 @@ pub record Loads (old new : Contents) (text : Text) (size : ℕ) : Type 0 where
 
 -- the part of the form at place k is the value, and its
 -- pointer is moved; or z is the value; or that doesn't fit
-abbrev pub TakesPart : Option Part → Text → ℕ → Contents → Made → Contents → Type 0
+abbrev pub TakesPart : Option Part → Text → ℕ → Contents → CallResult → Contents → Type 0
 TakesPart part z k old Full new = old.room < used old + length (part_value part z)
-TakesPart None z k old (Placed size) new = Loads old new z size
-TakesPart (Some part) z k old Value new = Puts old new (moved old.forms k part.pointer) part.text
-TakesPart None z k old Value new = ⊥
-TakesPart (Some part) z k old (Placed size) new = ⊥
-TakesPart part z k old (Defined cells) new = ⊥
+TakesPart None z k old (InFront size) new = Loads old new z size
+TakesPart (Some part) z k old AtEnd new = Puts old new (moved old.forms k part.pointer) part.text
+TakesPart None z k old AtEnd new = ⊥
+TakesPart (Some part) z k old (InFront size) new = ⊥
+TakesPart part z k old (Null cells) new = ⊥
 TakesPart part z k old (Over fate) new = ⊥
 
 -- the part of the form at place k that a call takes is the value, and its pointer is moved; or the
 -- text of z, a part of the neutral string, is the value; or that doesn't fit
-abbrev pub TakesOrDefault : (Form → Option Part) → ℕ → ℕ × ℕ → Contents → Made → Contents → Type 0
+abbrev pub TakesOrDefault : (Form → Option Part) → ℕ → ℕ × ℕ → Contents → CallResult → Contents → Type 0
 TakesOrDefault part k z old made new =
     TakesPart (part (form_at old.forms k)) (part_text old.neutral z.0 z.1) k old made new
 

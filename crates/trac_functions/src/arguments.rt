@@ -31,15 +31,15 @@ pub struct Arguments {
 
 /// What a function answers to a call.
 #[derive(Clone, Copy, PartialEq, Eq, Debug)]
-pub enum Made {
-    /// There are too few cells for what it builds.
+pub enum CallResult {
+    /// There are too few cells for what the call builds.
     Full,
-    /// Its value stands at the end of the neutral string.
-    Value,
-    /// Its value, of so many characters, goes to the active string, and stands before it already.
-    Placed(u32),
-    /// A null value; it built so many cells of forms.
-    Defined(u32),
+    /// The value stands at the end of the neutral string. It is null where nothing was appended.
+    AtEnd,
+    /// The value, of this many characters, goes to the active string, and stands before it already.
+    InFront(u32),
+    /// The value is null. The call built this many cells of forms.
+    Null(u32),
     /// The run is over, by the language or because a device failed.
     Over(Fate),
 }
@@ -113,8 +113,7 @@ pub fn text<'a>(work: &'a Work, part: (u32, u32)) -> &'a [Cell]
     work.neutral_part(part.0, part.1)
 }
 
-/// Puts a part of the neutral string that is a text once more at its end, if there are cells for
-/// it.
+/// Appends a part of the neutral string that is a text to that string, if there are cells for it.
 pub fn put_part(work: &mut Work, part: (u32, u32)) -> bool
     requires part { IsTextPart work.old.neutral part.0 part.1 }
     ensures put { let text = part_text work.old.neutral part.0 part.1 in
@@ -129,7 +128,8 @@ pub fn put_part(work: &mut Work, part: (u32, u32)) -> bool
     work.copy_neutral(part.0, part.1)
 }
 
-/// The same before the active string.
+/// Puts a part of the neutral string that is a text before the active string, if there are cells for
+/// it.
 #[inline(always)]
 pub fn load_part(work: &mut Work, part: (u32, u32)) -> bool
     requires part { IsTextPart work.old.neutral part.0 part.1 }
@@ -148,23 +148,23 @@ pub fn load_part(work: &mut Work, part: (u32, u32)) -> bool
 /// A part of the neutral string is the value of a call, which goes to the active string where it
 /// is scanned again.
 #[inline(always)]
-pub fn give(work: &mut Work, part: (u32, u32), scanned: bool) -> Made
+pub fn give(work: &mut Work, part: (u32, u32), scanned: bool) -> CallResult
     requires part { IsTextPart work.old.neutral part.0 part.1 }
     ensures makes { let text = part_text work.old.neutral part.0 part.1 in
         MakesValue text scanned work.old result work.new }
     ensures takes { let text = part_text work.old.neutral part.0 part.1 in
         scanned ≡ true → (k : ℕ) → TakesPart None text k work.old result work.new }
-    ensures unmade { result ≡ Made.Full → work.new.forms ≡ work.old.forms }
+    ensures unmade { result ≡ CallResult.Full → work.new.forms ≡ work.old.forms }
     ensures keeps { KeepsRoom work.old work.new }
 {
     if scanned {
         if !load_part(work, part) {
-            return Made::Full;
+            return CallResult::Full;
         }
-        return Made::Placed(part.1 - part.0);
+        return CallResult::InFront(part.1 - part.0);
     }
     if !put_part(work, part) {
-        return Made::Full;
+        return CallResult::Full;
     }
-    Made::Value
+    CallResult::AtEnd
 }

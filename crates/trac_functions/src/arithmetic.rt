@@ -1,31 +1,40 @@
 //! The functions of arithmetic: `ad`, `su`, `ml` and `dv`.
-ghost use Rattle.std.specs.Prelude.{◌≡◌, ◌+◌, ◌-◌, ◌≤◌, ◌∷◌, ◌++◌, false, length, List};
+ghost use Rattle.std.specs.Prelude.{◌≡◌, ◌+◌, ◌-◌, ◌^◌, ◌/◌, ◌%◌, ◌≤◌, ◌∷◌, ◌++◌, false, length, List};
+ghost use Rattle.std.specs.Prelude.{replicate, unsigned_abs};
 ghost use Rattle.std.specs.Fmt.{signed_decimal};
 ghost use Rattle.trac_language.specs.declared.function.Function.{Function};
 ghost use Rattle.trac_language.specs.declared.function.Function.TheVariants.{Arithmetic};
 ghost use Rattle.trac_language.specs.Text.{Text};
 ghost use Rattle.trac_space.specs.Texts.{flat_text};
 ghost use Rattle.trac_forms.specs.Contents.{used, part_text, IsTextPart, IsSound};
+ghost use Rattle.trac_values.specs.Digits.{padded_text, signed};
 ghost use Rattle.trac_functions.specs.Calls.{AreArguments, texts, Valued, Makes};
 ghost use Rattle.trac_functions.specs.Calls.{KeepsRoom};
 
-use crate::arguments::{Arguments, Made, give, load_part, put_part, text};
+use crate::arguments::{Arguments, CallResult, give, load_part, put_part, text};
 use crate::writing::put_bytes;
 use itoa::Buffer;
 use trac_forms::Work;
 use trac_language::Arith;
+
+// 10 ^ 19, the greatest power of ten that 64 bits hold, and 2 ^ 127 divided by it.
+const POWER: u128 = 10_000_000_000_000_000_000;
+
+const INVERSE: u128 = 17_014_118_346_046_923_173;
+
+const ZEROS: &[u8; 19] = b"0000000000000000000";
 
 /// `ad,N1,N2,Z`, `su,N1,N2,Z`, `ml,N1,N2,Z` and `dv,N1,N2,Z`: the prefix of N1 and after it the
 /// sum, difference, product or quotient of the numbers of N1 and N2 in decimal (Mooers 1966). Z,
 /// which goes to the active string whatever the call's mode, where a number or the result is
 /// outside the range of arithmetic or a divisor is 0; the range and that the quotient is rounded
 /// towards 0 are this processor's own choice.
-pub fn arithmetic(work: &mut Work, operation: Arith, mut arguments: Arguments) -> Made
+pub fn arithmetic(work: &mut Work, operation: Arith, mut arguments: Arguments) -> CallResult
     requires { AreArguments work.old arguments }
     ensures makes { (name : Text) →
         let args = name ∷ texts work.old arguments in
         Makes (Arithmetic operation) args arguments.scanned work.old result work.new }
-    ensures unmade { result ≡ Made.Full → work.new.forms ≡ work.old.forms }
+    ensures unmade { result ≡ CallResult.Full → work.new.forms ≡ work.old.forms }
     ensures keeps { KeepsRoom work.old work.new }
 {
     let scanned = arguments.scanned;
@@ -47,31 +56,34 @@ pub fn arithmetic(work: &mut Work, operation: Arith, mut arguments: Arguments) -
 
 /// A part of the neutral string, and a number in decimal behind it, are the value of a call, which
 /// goes to the active string where it is scanned again.
-fn give_number(work: &mut Work, prefix: (u32, u32), number: i128, scanned: bool) -> Made
+fn give_number(work: &mut Work, prefix: (u32, u32), number: i128, scanned: bool) -> CallResult
     requires prefix { IsTextPart work.old.neutral prefix.0 prefix.1 }
     ensures makes { (function : Function) (args : List Text) →
         let before = part_text work.old.neutral prefix.0 prefix.1 in
         let value = before ++ signed_decimal number in
         Valued function args work.old.forms value false work.old.forms →
         Makes function args scanned work.old result work.new }
-    ensures unmade { result ≡ Made.Full → work.new.forms ≡ work.old.forms }
+    ensures unmade { result ≡ CallResult.Full → work.new.forms ≡ work.old.forms }
     ensures keeps { KeepsRoom work.old work.new }
 {
+    if number.unsigned_abs() >= POWER {
+        return give_long_number(work, prefix, number, scanned);
+    }
     let mut buffer = Buffer::new();
     let digits = decimal(&mut buffer, number);
     let free = work.free();
     let size = prefix.1 - prefix.0 + digits.len() as u32;
     if free < size {
-        return Made::Full;
+        return CallResult::Full;
     }
     if scanned {
         work.load_bytes(digits);
         load_prefix(work, prefix);
-        return Made::Placed(size);
+        return CallResult::InFront(size);
     }
     put_prefix(work, prefix);
     put_bytes(work, digits);
-    Made::Value
+    CallResult::AtEnd
 }
 
 /// A number in decimal, with its sign where it is negative. One that 64 bits hold takes less.
@@ -86,8 +98,103 @@ fn decimal(buffer: &mut Buffer, number: i128) -> &[u8]
     }
 }
 
-/// Puts a part of the neutral string once more at its end, which there are cells for. It mostly is
-/// null, and then there is nothing to do.
+/// What `give_number` does with a number of more than nineteen digits: its last nineteen, and those
+/// before them with the sign, are numbers of 64 bits.
+#[inline(never)]
+fn give_long_number(work: &mut Work, prefix: (u32, u32), number: i128, scanned: bool) -> CallResult
+    requires prefix { IsTextPart work.old.neutral prefix.0 prefix.1 }
+    requires long { 10 ^ 19 ≤ unsigned_abs number }
+    ensures makes { (function : Function) (args : List Text) →
+        let before = part_text work.old.neutral prefix.0 prefix.1 in
+        let value = before ++ signed_decimal number in
+        Valued function args work.old.forms value false work.old.forms →
+        Makes function args scanned work.old result work.new }
+    ensures unmade { result ≡ CallResult.Full → work.new.forms ≡ work.old.forms }
+    ensures keeps { KeepsRoom work.old work.new }
+{
+    let (quotient, rest) = parted(number.unsigned_abs());
+    let mut front = Buffer::new();
+    let mut back = Buffer::new();
+    let first = front.format(with_sign(quotient, number < 0)).as_bytes();
+    give_digits(work, prefix, first, back.format(rest).as_bytes(), scanned)
+}
+
+/// A part of the neutral string, digits, and nineteen digits of which zeros at the front are left
+/// out here, are the value of a call.
+fn give_digits(
+    work: &mut Work,
+    prefix: (u32, u32),
+    first: &[u8],
+    last: &[u8],
+    scanned: bool,
+) -> CallResult
+    requires prefix { IsTextPart work.old.neutral prefix.0 prefix.1 }
+    requires short { (length first.now ≤ 40) × (length last.now ≤ 19) }
+    ensures makes { (function : Function) (args : List Text) →
+        let before = part_text work.old.neutral prefix.0 prefix.1 in
+        let value = before ++ (first.now ++ padded_text 19 last.now) in
+        Valued function args work.old.forms value false work.old.forms →
+        Makes function args scanned work.old result work.new }
+    ensures unmade { result ≡ CallResult.Full → work.new.forms ≡ work.old.forms }
+    ensures keeps { KeepsRoom work.old work.new }
+{
+    let free = work.free();
+    let size = prefix.1 - prefix.0 + first.len() as u32 + 19;
+    if free < size {
+        return CallResult::Full;
+    }
+    if scanned {
+        work.load_bytes(last);
+        work.load_bytes(zeros_before(last));
+        work.load_bytes(first);
+        load_prefix(work, prefix);
+        return CallResult::InFront(size);
+    }
+    put_prefix(work, prefix);
+    put_bytes(work, first);
+    put_bytes(work, zeros_before(last));
+    put_bytes(work, last);
+    CallResult::AtEnd
+}
+
+/// A number, or its negative.
+fn with_sign(number: u64, negative: bool) -> i128
+    ensures number { result ≡ signed negative number }
+{
+    if negative {
+        -i128::from(number)
+    } else {
+        i128::from(number)
+    }
+}
+
+/// The zeros that make nineteen digits of these, which are no more.
+fn zeros_before(digits: &[u8]) -> &'static [u8]
+    requires { length digits.now ≤ 19 }
+    ensures { result.now ≡ replicate (19 - length digits.now) 48 }
+{
+    let zeros: &[u8] = ZEROS;
+    &zeros[digits.len()..]
+}
+
+/// The quotient and the remainder of a number by 10 ^ 19. A guess that is too low by a few at most
+/// takes the place of a division of 128 bits, which many processors lack.
+fn parted(number: u128) -> (u64, u64)
+    requires { number ≤ 2 ^ 127 }
+    ensures quotient { result.0 ≡ number / 10 ^ 19 }
+    ensures remainder { result.1 ≡ number % 10 ^ 19 }
+{
+    let mut quotient = ((number >> 64) * INVERSE) >> 63;
+    let mut rest = number - quotient * POWER;
+    while rest >= POWER {
+        rest -= POWER;
+        quotient += 1;
+    }
+    (quotient as u64, rest as u64)
+}
+
+/// Appends a part of the neutral string to that string. The caller has made sure that it fits. Most
+/// parts are null, and then there is nothing to do.
 #[inline(always)]
 fn put_prefix(work: &mut Work, part: (u32, u32))
     requires part { IsTextPart work.old.neutral part.0 part.1 }
@@ -102,7 +209,7 @@ fn put_prefix(work: &mut Work, part: (u32, u32))
     }
 }
 
-/// The same before the active string.
+/// Puts a part of the neutral string before the active string. The caller has made sure that it fits.
 #[inline(always)]
 fn load_prefix(work: &mut Work, part: (u32, u32))
     requires part { IsTextPart work.old.neutral part.0 part.1 }

@@ -14,7 +14,7 @@ ghost use Rattle.trac_functions.specs.BitResults.{bits_at, AreDigits, AreFor, oc
 ghost use Rattle.trac_functions.specs.Calls.{AreArguments, Valued, Makes, Performs};
 ghost use Rattle.trac_functions.specs.Calls.{KeepsRoom};
 
-use crate::arguments::{Arguments, Made, put_part, text};
+use crate::arguments::{Arguments, CallResult, put_part, text};
 use trac_forms::{Cell, Work};
 use trac_values::Count;
 
@@ -32,10 +32,10 @@ pub enum BitResult {
 /// `bu,A,B`: the prefix of A and after it the union of the bit strings of A and B in octal digits
 /// (Mooers 1966). That the shorter is filled with zeros at the left, and that the prefix of B is
 /// dropped, is this processor's own choice.
-pub fn union(work: &mut Work, mut arguments: Arguments) -> Made
+pub fn union(work: &mut Work, mut arguments: Arguments) -> CallResult
     requires { AreArguments work.old arguments }
     ensures makes { Performs Union work.old arguments result work.new }
-    ensures unmade { result ≡ Made.Full → work.new.forms ≡ work.old.forms }
+    ensures unmade { result ≡ CallResult.Full → work.new.forms ≡ work.old.forms }
     ensures keeps { KeepsRoom work.old work.new }
 {
     let first = arguments.next(work);
@@ -48,10 +48,10 @@ pub fn union(work: &mut Work, mut arguments: Arguments) -> Made
 /// `bi,A,B`: the prefix of A and after it the intersection of the bit strings
 /// of A and B in octal digits (Mooers 1966). That the longer is cut at the
 /// left, and that the prefix of B is dropped, is this processor's own choice.
-pub fn intersection(work: &mut Work, mut arguments: Arguments) -> Made
+pub fn intersection(work: &mut Work, mut arguments: Arguments) -> CallResult
     requires { AreArguments work.old arguments }
     ensures makes { Performs Intersection work.old arguments result work.new }
-    ensures unmade { result ≡ Made.Full → work.new.forms ≡ work.old.forms }
+    ensures unmade { result ≡ CallResult.Full → work.new.forms ≡ work.old.forms }
     ensures keeps { KeepsRoom work.old work.new }
 {
     let first = arguments.next(work);
@@ -67,10 +67,10 @@ pub fn intersection(work: &mut Work, mut arguments: Arguments) -> Made
 
 /// `bc,O`: the prefix of O and after it the octal digits of
 /// its bit string with each bit turned over (Mooers 1966).
-pub fn complement(work: &mut Work, mut arguments: Arguments) -> Made
+pub fn complement(work: &mut Work, mut arguments: Arguments) -> CallResult
     requires { AreArguments work.old arguments }
     ensures makes { Performs Complement work.old arguments result work.new }
-    ensures unmade { result ≡ Made.Full → work.new.forms ≡ work.old.forms }
+    ensures unmade { result ≡ CallResult.Full → work.new.forms ≡ work.old.forms }
     ensures keeps { KeepsRoom work.old work.new }
 {
     let first = arguments.next(work);
@@ -82,10 +82,10 @@ pub fn complement(work: &mut Work, mut arguments: Arguments) -> Made
 /// bits as the number of D says, to the left where that is positive and to the right where it is
 /// negative (Mooers 1966). That zeros come in and the length is kept, and that the number may have
 /// any length, is this processor's own choice.
-pub fn shift(work: &mut Work, mut arguments: Arguments) -> Made
+pub fn shift(work: &mut Work, mut arguments: Arguments) -> CallResult
     requires { AreArguments work.old arguments }
     ensures makes { Performs Shift work.old arguments result work.new }
-    ensures unmade { result ≡ Made.Full → work.new.forms ≡ work.old.forms }
+    ensures unmade { result ≡ CallResult.Full → work.new.forms ≡ work.old.forms }
     ensures keeps { KeepsRoom work.old work.new }
 {
     let distance = arguments.next(work);
@@ -99,10 +99,10 @@ pub fn shift(work: &mut Work, mut arguments: Arguments) -> Made
 /// rotated by as many bits as the number of D says, to the left where that is
 /// positive and to the right where it is negative (Mooers 1966). That the length is
 /// kept, and that the number may have any length, is this processor's own choice.
-pub fn rotate(work: &mut Work, mut arguments: Arguments) -> Made
+pub fn rotate(work: &mut Work, mut arguments: Arguments) -> CallResult
     requires { AreArguments work.old arguments }
     ensures makes { Performs Rotate work.old arguments result work.new }
-    ensures unmade { result ≡ Made.Full → work.new.forms ≡ work.old.forms }
+    ensures unmade { result ≡ CallResult.Full → work.new.forms ≡ work.old.forms }
     ensures keeps { KeepsRoom work.old work.new }
 {
     let distance = arguments.next(work);
@@ -175,7 +175,7 @@ fn digit_made(work: &Work, bits: BitResult, place: u32) -> Option<u8>
     }
 }
 
-/// Puts the octal digits of a result at the end of the neutral string, which there are cells for.
+/// Appends the octal digits of a result to the neutral string. The caller has made sure that they fit.
 fn put_digits(work: &mut Work, bits: BitResult)
     requires parts { AreFor work.old.neutral bits }
     requires fits { used work.old + length (octal_made work.old.neutral bits) ≤ work.old.room }
@@ -193,7 +193,7 @@ fn put_digits(work: &mut Work, bits: BitResult)
 
 /// A part of the neutral string, and the octal digits of a
 /// result behind it, are the value of a call.
-fn give_bits(work: &mut Work, prefix: (u32, u32), bits: BitResult) -> Made
+fn give_bits(work: &mut Work, prefix: (u32, u32), bits: BitResult) -> CallResult
     requires prefix { IsTextPart work.old.neutral prefix.0 prefix.1 }
     requires parts { AreFor work.old.neutral bits }
     ensures makes { (function : Function) (args : List Text) (scanned : Bool) →
@@ -201,13 +201,13 @@ fn give_bits(work: &mut Work, prefix: (u32, u32), bits: BitResult) -> Made
         let value = before ++ octal_made work.old.neutral bits in
         Valued function args work.old.forms value false work.old.forms →
         Makes function args scanned work.old result work.new }
-    ensures unmade { result ≡ Made.Full → work.new.forms ≡ work.old.forms }
+    ensures unmade { result ≡ CallResult.Full → work.new.forms ≡ work.old.forms }
     ensures keeps { KeepsRoom work.old work.new }
 {
     if work.free() < prefix.1 - prefix.0 + digits_made(work, bits) {
-        return Made::Full;
+        return CallResult::Full;
     }
     put_part(work, prefix);
     put_digits(work, bits);
-    Made::Value
+    CallResult::AtEnd
 }

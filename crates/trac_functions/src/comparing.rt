@@ -4,14 +4,14 @@ ghost use Rattle.trac_language.specs.declared.function.Function.TheVariants.{Equ
 ghost use Rattle.trac_functions.specs.Calls.{AreArguments, Performs};
 ghost use Rattle.trac_functions.specs.Calls.{KeepsRoom};
 
-use crate::arguments::{Arguments, Made, give, text};
+use crate::arguments::{Arguments, CallResult, give, text};
 use trac_forms::Work;
 
 /// `eq,A,B,X,Y`: X where A and B are the same text, else Y (Mooers 1966).
-pub fn equal(work: &mut Work, mut arguments: Arguments) -> Made
+pub fn equal(work: &mut Work, mut arguments: Arguments) -> CallResult
     requires { AreArguments work.old arguments }
     ensures makes { Performs Equal work.old arguments result work.new }
-    ensures unmade { result ≡ Made.Full → work.new.forms ≡ work.old.forms }
+    ensures unmade { result ≡ CallResult.Full → work.new.forms ≡ work.old.forms }
     ensures keeps { KeepsRoom work.old work.new }
 {
     let scanned = arguments.scanned;
@@ -29,10 +29,10 @@ pub fn equal(work: &mut Work, mut arguments: Arguments) -> Made
 
 /// `gr,N1,N2,X,Y`: X where the number of N1 is greater than that of N2, else Y (Mooers 1966). That
 /// the numbers may have any length is this processor's own choice.
-pub fn greater(work: &mut Work, mut arguments: Arguments) -> Made
+pub fn greater(work: &mut Work, mut arguments: Arguments) -> CallResult
     requires { AreArguments work.old arguments }
     ensures makes { Performs Greater work.old arguments result work.new }
-    ensures unmade { result ≡ Made.Full → work.new.forms ≡ work.old.forms }
+    ensures unmade { result ≡ CallResult.Full → work.new.forms ≡ work.old.forms }
     ensures keeps { KeepsRoom work.old work.new }
 {
     let scanned = arguments.scanned;

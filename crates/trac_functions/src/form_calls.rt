@@ -18,40 +18,40 @@ ghost use Rattle.trac_forms.specs.Loading.{called_part, IsLoaded};
 ghost use Rattle.trac_functions.specs.Calls.{AreArguments, texts, Makes, Performs};
 ghost use Rattle.trac_functions.specs.Calls.{KeepsRoom};
 
-use crate::arguments::{Arguments, Made, put_part};
+use crate::arguments::{Arguments, CallResult, put_part};
 use trac_forms::{FormId, Work};
 
-// So many names of `dd` go one by one, since a form that stays is sooner brought forward twice in the
-// index than put into it again.
+// Up to this many names of `dd` are deleted one by one: to move a form that stays twice in the index
+// costs less than to put it in anew.
 const FEW: u32 = 2;
 
 /// `da`: all forms are removed (Mooers 1966).
-pub fn delete_all(work: &mut Work) -> Made
+pub fn delete_all(work: &mut Work) -> CallResult
     requires { IsSound work.old }
     ensures makes { (args : List Text) (scanned : Bool) →
         Makes DeleteAll args scanned work.old result work.new }
-    ensures unmade { result ≡ Made.Full → work.new.forms ≡ work.old.forms }
+    ensures unmade { result ≡ CallResult.Full → work.new.forms ≡ work.old.forms }
     ensures keeps { KeepsRoom work.old work.new }
 {
     work.delete_all();
-    Made::Value
+    CallResult::AtEnd
 }
 
 /// `ds,N,X`: the form N with the characters of X as its body becomes the last, in place of an older
 /// form N (Mooers 1966). It takes 3 cells beside its name and its body, while an older one still
 /// stands (this processor's own choice).
-pub fn define_string(work: &mut Work, mut arguments: Arguments) -> Made
+pub fn define_string(work: &mut Work, mut arguments: Arguments) -> CallResult
     requires { AreArguments work.old arguments }
     ensures makes { Performs DefineString work.old arguments result work.new }
-    ensures unmade { result ≡ Made.Full → work.new.forms ≡ work.old.forms }
+    ensures unmade { result ≡ CallResult.Full → work.new.forms ≡ work.old.forms }
     ensures keeps { KeepsRoom work.old work.new }
 {
     let name = arguments.next(work);
     let text = arguments.next(work);
     let cells = 3 + (name.1 - name.0) + (text.1 - text.0);
     match work.define(name, text) {
-        Ok(()) => Made::Defined(cells),
-        Err(_) => Made::Full,
+        Ok(()) => CallResult::Null(cells),
+        Err(_) => CallResult::Full,
     }
 }
 
@@ -59,14 +59,14 @@ pub fn define_string(work: &mut Work, mut arguments: Arguments) -> Made
 /// then each occurrence of X2 in what is left a gap of ordinal 2, and so on (Mooers 1966). The
 /// pointer goes to the start, also where no X is given, a null X keeps its ordinal, and earlier
 /// gaps stay (this processor's own choice).
-pub fn segment_string(work: &mut Work, mut arguments: Arguments) -> Made
+pub fn segment_string(work: &mut Work, mut arguments: Arguments) -> CallResult
     requires { AreArguments work.old arguments }
     ensures makes { Performs SegmentString work.old arguments result work.new }
-    ensures unmade { result ≡ Made.Full → work.new.forms ≡ work.old.forms }
+    ensures unmade { result ≡ CallResult.Full → work.new.forms ≡ work.old.forms }
     ensures keeps { KeepsRoom work.old work.new }
 {
     let Some(form) = next_form(work, &mut arguments) else {
-        return Made::Value;
+        return CallResult::AtEnd;
     };
     work.set_pointer(form, 0);
     let mut ordinal = 0;
@@ -75,26 +75,26 @@ pub fn segment_string(work: &mut Work, mut arguments: Arguments) -> Made
         ordinal += 1;
         work.segment(form, part, ordinal);
     }
-    Made::Value
+    CallResult::AtEnd
 }
 
 /// `ln,X`: for each form, in the order in which they were defined, X and then its name (Mooers
 /// 1966; X before each name is this processor's own choice).
-pub fn list_names(work: &mut Work, mut arguments: Arguments) -> Made
+pub fn list_names(work: &mut Work, mut arguments: Arguments) -> CallResult
     requires { AreArguments work.old arguments }
     ensures makes { Performs ListNames work.old arguments result work.new }
-    ensures unmade { result ≡ Made.Full → work.new.forms ≡ work.old.forms }
+    ensures unmade { result ≡ CallResult.Full → work.new.forms ≡ work.old.forms }
     ensures keeps { KeepsRoom work.old work.new }
 {
     let before = arguments.next(work);
     for k in 0..work.forms() {
         if let Some(form) = work.form(k) {
             if !put_name(work, before, form) {
-                return Made::Full;
+                return CallResult::Full;
             }
         }
     }
-    Made::Value
+    CallResult::AtEnd
 }
 
 /// Puts a part of the neutral string and then the form's name at its end, if there are cells for
@@ -121,15 +121,15 @@ fn put_name(work: &mut Work, before: (u32, u32), form: FormId) -> bool
 
 /// `dd,N1,N2,..`: the forms of these names are removed (Mooers 1966). A name that no form has is
 /// ignored, and only the arguments that are written are names (this processor's own choice).
-pub fn delete_definition(work: &mut Work, mut arguments: Arguments) -> Made
+pub fn delete_definition(work: &mut Work, mut arguments: Arguments) -> CallResult
     requires { AreArguments work.old arguments }
     ensures makes { Performs DeleteDefinition work.old arguments result work.new }
-    ensures unmade { result ≡ Made.Full → work.new.forms ≡ work.old.forms }
+    ensures unmade { result ≡ CallResult.Full → work.new.forms ≡ work.old.forms }
     ensures keeps { KeepsRoom work.old work.new }
 {
     for _name in 0..FEW {
         if arguments.is_empty() {
-            return Made::Value;
+            return CallResult::AtEnd;
         }
         if let Some(form) = next_form(work, &mut arguments) {
             work.delete(form);
@@ -138,31 +138,31 @@ pub fn delete_definition(work: &mut Work, mut arguments: Arguments) -> Made
     if !arguments.is_empty() {
         work.delete_named(arguments.from, arguments.end);
     }
-    Made::Value
+    CallResult::AtEnd
 }
 
 /// `cl,N,X1,X2,..`: the form N from its pointer on, each gap of ordinal k replaced by Xk, or by
 /// nothing where that is missing (Mooers 1966). What stands before the pointer is left out, and the
 /// pointer stays (this processor's own choice).
 #[inline(always)]
-pub fn call_form(work: &mut Work, mut arguments: Arguments) -> Made
+pub fn call_form(work: &mut Work, mut arguments: Arguments) -> CallResult
     requires { AreArguments work.old arguments }
     ensures makes { Performs CallForm work.old arguments result work.new }
-    ensures unmade { result ≡ Made.Full → work.new.forms ≡ work.old.forms }
+    ensures unmade { result ≡ CallResult.Full → work.new.forms ≡ work.old.forms }
     ensures keeps { KeepsRoom work.old work.new }
 {
     let scanned = arguments.scanned;
     let Some(form) = next_form(work, &mut arguments) else {
-        return Made::Value;
+        return CallResult::AtEnd;
     };
     // a form that is called without arguments mostly has no gaps
     if let Some(size) = place_body(work, form, scanned && arguments.is_empty()) {
-        return Made::Placed(size);
+        return CallResult::InFront(size);
     }
     if work.fill_body(form, arguments.from, arguments.end) {
-        Made::Value
+        CallResult::AtEnd
     } else {
-        Made::Full
+        CallResult::Full
     }
 }
 

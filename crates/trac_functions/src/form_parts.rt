@@ -21,7 +21,7 @@ ghost use Rattle.trac_functions.specs.Taking.{TakesPart, IsFirstOr, TakesOrDefau
 ghost use Rattle.trac_forms.specs.Contents.{form_place};
 ghost use Rattle.trac_functions.specs.Calls.{KeepsRoom};
 
-use crate::arguments::{Arguments, Made, give, put_part, text};
+use crate::arguments::{Arguments, CallResult, give, put_part, text};
 use trac_forms::{FormId, Work};
 use trac_language::Item;
 use trac_values::{Count, count_of};
@@ -30,27 +30,27 @@ use trac_values::{Count, count_of};
 /// follows; the pointer goes past that gap (Mooers 1966). With the pointer at the end Z is the
 /// value, and goes to the active string whatever the call's mode; a form that isn't defined gives a
 /// null value (this processor's own choice).
-pub fn call_segment(work: &mut Work, mut arguments: Arguments) -> Made
+pub fn call_segment(work: &mut Work, mut arguments: Arguments) -> CallResult
     requires { AreArguments work.old arguments }
     ensures makes { Performs CallSegment work.old arguments result work.new }
-    ensures unmade { result ≡ Made.Full → work.new.forms ≡ work.old.forms }
+    ensures unmade { result ≡ CallResult.Full → work.new.forms ≡ work.old.forms }
     ensures keeps { KeepsRoom work.old work.new }
 {
     let name = arguments.next(work);
     let default = arguments.next(work);
     match work.find(name.0, name.1) {
         Some(form) => take_segment(work, form, default),
-        None => Made::Value,
+        None => CallResult::AtEnd,
     }
 }
 
 /// Takes the characters up to the next gap.
-fn take_segment(work: &mut Work, form: FormId, default: (u32, u32)) -> Made
+fn take_segment(work: &mut Work, form: FormId, default: (u32, u32)) -> CallResult
     requires known { form_place form < length work.old.forms }
     requires part { IsTextPart work.old.neutral default.0 default.1 }
     requires sound { IsSound work.old }
     ensures takes { TakesOrDefault next_segment (form_place form) default work.old result work.new }
-    ensures unmade { result ≡ Made.Full → work.new.forms ≡ work.old.forms }
+    ensures unmade { result ≡ CallResult.Full → work.new.forms ≡ work.old.forms }
     ensures keeps { KeepsRoom work.old work.new }
 {
     let from = work.pointer(form);
@@ -66,28 +66,28 @@ fn take_segment(work: &mut Work, form: FormId, default: (u32, u32)) -> Made
 
 /// `cc,N,Z`: the next character after the pointer, gaps skipped;
 /// the pointer goes behind it (Mooers 1966). Z as for `cs`.
-pub fn call_character(work: &mut Work, mut arguments: Arguments) -> Made
+pub fn call_character(work: &mut Work, mut arguments: Arguments) -> CallResult
     requires { AreArguments work.old arguments }
     ensures makes { Performs CallCharacter work.old arguments result work.new }
-    ensures unmade { result ≡ Made.Full → work.new.forms ≡ work.old.forms }
+    ensures unmade { result ≡ CallResult.Full → work.new.forms ≡ work.old.forms }
     ensures keeps { KeepsRoom work.old work.new }
 {
     let name = arguments.next(work);
     let default = arguments.next(work);
     match work.find(name.0, name.1) {
         Some(form) => take_character(work, form, default),
-        None => Made::Value,
+        None => CallResult::AtEnd,
     }
 }
 
 /// Takes the next character after the pointer.
-fn take_character(work: &mut Work, form: FormId, default: (u32, u32)) -> Made
+fn take_character(work: &mut Work, form: FormId, default: (u32, u32)) -> CallResult
     requires known { form_place form < length work.old.forms }
     requires part { IsTextPart work.old.neutral default.0 default.1 }
     requires sound { IsSound work.old }
     ensures takes { TakesOrDefault (next_characters 1) (form_place form) default
         work.old result work.new }
-    ensures unmade { result ≡ Made.Full → work.new.forms ≡ work.old.forms }
+    ensures unmade { result ≡ CallResult.Full → work.new.forms ≡ work.old.forms }
     ensures keeps { KeepsRoom work.old work.new }
 {
     let from = work.pointer(form);
@@ -98,7 +98,7 @@ fn take_character(work: &mut Work, form: FormId, default: (u32, u32)) -> Made
 }
 
 /// Takes the character at a place of the body; the pointer goes behind it.
-fn take_one(work: &mut Work, form: FormId, place: u32) -> Made
+fn take_one(work: &mut Work, form: FormId, place: u32) -> CallResult
     requires known { form_place form < length work.old.forms }
     requires within { place < length (body_at work.old.forms (form_place form)) }
     requires character { character_at (body_at work.old.forms (form_place form)) place ≡ true }
@@ -107,14 +107,14 @@ fn take_one(work: &mut Work, form: FormId, place: u32) -> Made
         let body = body_at work.old.forms (form_place form) in
         let taken = part_between body (place, place + 1) (place + 1) in
         TakesPart (Some taken) z (form_place form) work.old result work.new }
-    ensures unmade { result ≡ Made.Full → work.new.forms ≡ work.old.forms }
+    ensures unmade { result ≡ CallResult.Full → work.new.forms ≡ work.old.forms }
     ensures keeps { KeepsRoom work.old work.new }
 {
     if !copy_character(work, form, place) {
-        return Made::Full;
+        return CallResult::Full;
     }
     work.set_pointer(form, place + 1);
-    Made::Value
+    CallResult::AtEnd
 }
 
 /// Puts the character at a place of the body at the end of the neutral string, if there is a cell
@@ -141,10 +141,10 @@ fn copy_character(work: &mut Work, form: FormId, place: u32) -> bool
 /// `cn,N,D,Z`: the next D characters, or the last -D before the pointer where D is negative, gaps
 /// skipped; the pointer goes to the other side of them (Mooers 1966). All of them where there are
 /// fewer; D has any length; D = 0 gives a null value; Z as for `cs` (this processor's own choice).
-pub fn call_number(work: &mut Work, mut arguments: Arguments) -> Made
+pub fn call_number(work: &mut Work, mut arguments: Arguments) -> CallResult
     requires { AreArguments work.old arguments }
     ensures makes { Performs CallNumber work.old arguments result work.new }
-    ensures unmade { result ≡ Made.Full → work.new.forms ≡ work.old.forms }
+    ensures unmade { result ≡ CallResult.Full → work.new.forms ≡ work.old.forms }
     ensures keeps { KeepsRoom work.old work.new }
 {
     let name = arguments.next(work);
@@ -153,18 +153,18 @@ pub fn call_number(work: &mut Work, mut arguments: Arguments) -> Made
     let count = count_of(text(work, number));
     match work.find(name.0, name.1) {
         Some(form) => take_characters(work, form, count, default),
-        None => Made::Value,
+        None => CallResult::AtEnd,
     }
 }
 
 /// Takes so many characters forward or backward.
-fn take_characters(work: &mut Work, form: FormId, count: Count, default: (u32, u32)) -> Made
+fn take_characters(work: &mut Work, form: FormId, count: Count, default: (u32, u32)) -> CallResult
     requires known { form_place form < length work.old.forms }
     requires part { IsTextPart work.old.neutral default.0 default.1 }
     requires sound { IsSound work.old }
     ensures takes { let part = characters (signed count.negative count.size) in
         TakesOrDefault part (form_place form) default work.old result work.new }
-    ensures unmade { result ≡ Made.Full → work.new.forms ≡ work.old.forms }
+    ensures unmade { result ≡ CallResult.Full → work.new.forms ≡ work.old.forms }
     ensures keeps { KeepsRoom work.old work.new }
 {
     if count.size == 0 {
@@ -178,14 +178,14 @@ fn take_characters(work: &mut Work, form: FormId, count: Count, default: (u32, u
 }
 
 /// Takes the next so many characters after the pointer.
-fn take_forward(work: &mut Work, form: FormId, count: u32, default: (u32, u32)) -> Made
+fn take_forward(work: &mut Work, form: FormId, count: u32, default: (u32, u32)) -> CallResult
     requires known { form_place form < length work.old.forms }
     requires some { 0 < count }
     requires part { IsTextPart work.old.neutral default.0 default.1 }
     requires sound { IsSound work.old }
     ensures takes { TakesOrDefault (next_characters count) (form_place form) default
         work.old result work.new }
-    ensures unmade { result ≡ Made.Full → work.new.forms ≡ work.old.forms }
+    ensures unmade { result ≡ CallResult.Full → work.new.forms ≡ work.old.forms }
     ensures keeps { KeepsRoom work.old work.new }
 {
     let from = work.pointer(form);
@@ -197,14 +197,14 @@ fn take_forward(work: &mut Work, form: FormId, count: u32, default: (u32, u32)) 
 }
 
 /// Takes the last so many characters before the pointer.
-fn take_backward(work: &mut Work, form: FormId, count: u32, default: (u32, u32)) -> Made
+fn take_backward(work: &mut Work, form: FormId, count: u32, default: (u32, u32)) -> CallResult
     requires known { form_place form < length work.old.forms }
     requires some { 0 < count }
     requires part { IsTextPart work.old.neutral default.0 default.1 }
     requires sound { IsSound work.old }
     ensures takes { let part = previous_characters count in
         TakesOrDefault part (form_place form) default work.old result work.new }
-    ensures unmade { result ≡ Made.Full → work.new.forms ≡ work.old.forms }
+    ensures unmade { result ≡ CallResult.Full → work.new.forms ≡ work.old.forms }
     ensures keeps { KeepsRoom work.old work.new }
 {
     let to = work.pointer(form);
@@ -255,7 +255,7 @@ fn place_before(work: &Work, form: FormId, to: u32, count: u32) -> u32
 }
 
 /// Takes the characters of a part of the body, and moves the pointer.
-fn take_part(work: &mut Work, form: FormId, part: (u32, u32), pointer: u32) -> Made
+fn take_part(work: &mut Work, form: FormId, part: (u32, u32), pointer: u32) -> CallResult
     requires known { form_place form < length work.old.forms }
     requires order { part.0 ≤ part.1 }
     requires within { part.1 ≤ length (body_at work.old.forms (form_place form)) }
@@ -264,14 +264,14 @@ fn take_part(work: &mut Work, form: FormId, part: (u32, u32), pointer: u32) -> M
     ensures takes { (z : Text) →
         let taken = part_between (body_at work.old.forms (form_place form)) part pointer in
         TakesPart (Some taken) z (form_place form) work.old result work.new }
-    ensures unmade { result ≡ Made.Full → work.new.forms ≡ work.old.forms }
+    ensures unmade { result ≡ CallResult.Full → work.new.forms ≡ work.old.forms }
     ensures keeps { KeepsRoom work.old work.new }
 {
     if !copy_characters(work, form, part.0, part.1) {
-        return Made::Full;
+        return CallResult::Full;
     }
     work.set_pointer(form, pointer);
-    Made::Value
+    CallResult::AtEnd
 }
 
 /// Puts the characters of a part of the body, gaps left out, at
@@ -336,10 +336,10 @@ fn gap_or(work: &Work, form: FormId, from: u32, to: u32) -> u32
 /// `in,N,X,Z`: the characters from the pointer up to the first occurrence of X, which reaches
 /// across no gap; the pointer goes past it (Mooers 1966). Z where there is none, and a null value
 /// for a null X (this processor's own choice).
-pub fn initial_part(work: &mut Work, mut arguments: Arguments) -> Made
+pub fn initial_part(work: &mut Work, mut arguments: Arguments) -> CallResult
     requires { AreArguments work.old arguments }
     ensures makes { Performs InitialPart work.old arguments result work.new }
-    ensures unmade { result ≡ Made.Full → work.new.forms ≡ work.old.forms }
+    ensures unmade { result ≡ CallResult.Full → work.new.forms ≡ work.old.forms }
     ensures keeps { KeepsRoom work.old work.new }
 {
     let name = arguments.next(work);
@@ -347,19 +347,24 @@ pub fn initial_part(work: &mut Work, mut arguments: Arguments) -> Made
     let default = arguments.next(work);
     match work.find(name.0, name.1) {
         Some(form) => take_initial(work, form, sought, default),
-        None => Made::Value,
+        None => CallResult::AtEnd,
     }
 }
 
 /// Takes the characters up to the first occurrence of a text.
-fn take_initial(work: &mut Work, form: FormId, sought: (u32, u32), default: (u32, u32)) -> Made
+fn take_initial(
+    work: &mut Work,
+    form: FormId,
+    sought: (u32, u32),
+    default: (u32, u32),
+) -> CallResult
     requires known { form_place form < length work.old.forms }
     requires sought { IsTextPart work.old.neutral sought.0 sought.1 }
     requires part { IsTextPart work.old.neutral default.0 default.1 }
     requires sound { IsSound work.old }
     ensures takes { let text = part_text work.old.neutral sought.0 sought.1 in
         TakesOrDefault (initial_part text) (form_place form) default work.old result work.new }
-    ensures unmade { result ≡ Made.Full → work.new.forms ≡ work.old.forms }
+    ensures unmade { result ≡ CallResult.Full → work.new.forms ≡ work.old.forms }
     ensures keeps { KeepsRoom work.old work.new }
 {
     let pointer = work.pointer(form);
@@ -373,15 +378,15 @@ fn take_initial(work: &mut Work, form: FormId, sought: (u32, u32), default: (u32
 }
 
 /// `cr,N`: the pointer goes back to the start (Mooers 1966).
-pub fn call_restore(work: &mut Work, mut arguments: Arguments) -> Made
+pub fn call_restore(work: &mut Work, mut arguments: Arguments) -> CallResult
     requires { AreArguments work.old arguments }
     ensures makes { Performs CallRestore work.old arguments result work.new }
-    ensures unmade { result ≡ Made.Full → work.new.forms ≡ work.old.forms }
+    ensures unmade { result ≡ CallResult.Full → work.new.forms ≡ work.old.forms }
     ensures keeps { KeepsRoom work.old work.new }
 {
     let name = arguments.next(work);
     if let Some(form) = work.find(name.0, name.1) {
         work.set_pointer(form, 0);
     }
-    Made::Value
+    CallResult::AtEnd
 }

@@ -5,7 +5,7 @@ ghost use Rattle.trac_forms.specs.Contents.{used, IsSound};
 
 use trac_forms::Work;
 
-/// Puts characters at the end of the neutral string, which there are cells for.
+/// Appends characters to the neutral string. The caller has made sure that they fit.
 pub fn put_bytes(work: &mut Work, bytes: &[u8])
     requires { used work.old + length bytes.now ≤ work.old.room }
     ensures put { work.new ≡ record work.old { neutral = work.old.neutral ++ flat_text bytes.now } }

@@ -18,7 +18,7 @@ is_octal c = nat_le 48 c && nat_le c 55
 abbrev pub octal_digits : Text → Text
 octal_digits text = drop (length text - suffix_len is_octal text) text
 
--- the text before that
+-- the text before these digits
 abbrev pub octal_prefix : Text → Text
 octal_prefix text = take (length text - suffix_len is_octal text) text
 
@@ -41,7 +41,7 @@ octal (a ∷ []) = []
 octal (a ∷ b ∷ []) = []
 octal (a ∷ b ∷ c ∷ rest) = octal_digit a b c ∷ octal rest
 
--- the operation on each two bits that stand at one place
+-- the operation on the two bits at each place
 abbrev pub bitwise : (Bool → Bool → Bool) → Bits → Bits → Bits
 bitwise f [] others = []
 bitwise f (a ∷ rest) [] = []
@@ -63,23 +63,23 @@ union a b = bitwise ◌||◌ (padded (length b) a) (padded (length a) b)
 abbrev pub intersection : Bits → Bits → Bits
 intersection a b = bitwise ◌&&◌ (cut (length b) a) (cut (length a) b)
 
--- each bit turned
+-- each bit turned over
 abbrev pub complement : Bits → Bits
 complement l = map not l
 
--- the bit at a place, 0 where there is none
+-- the bit at a place, 0 if there is none
 abbrev pub bit_at : Bits → ℤ → Bool
 bit_at l (pos i) = get_or l i false
 bit_at l (negsuc i) = false
 
--- the list of so many bits that has at each place the bit that is given for it
+-- the list of n bits that a function from places to bits gives
 abbrev pub bits_by : (ℕ → Bool) → ℕ → Bits
 bits_by f n = map f (range_with_len 0 n)
 
--- bit i of the shift is bit i + d, 0 where there is none
+-- bit i of the shift is bit i + d, 0 if there is none
 abbrev pub shifted : ℤ → Bits → Bits
 shifted d l = bits_by (λ i. bit_at l (pos i +ℤ d)) (length l)
 
--- bit i of the rotation is bit i + d, counted round the length
+-- bit i of the rotation is bit i + d, modulo the length
 abbrev pub rotated : ℤ → Bits → Bits
 rotated d l = bits_by (λ i. bit_at l (int_rem_euclid (pos i +ℤ d) (pos (length l)))) (length l)

@@ -33,7 +33,7 @@ before_pointer form = take form.pointer form.body
 abbrev pub after_pointer : Form → List Item
 after_pointer form = drop form.pointer form.body
 
--- each character itself, each gap k replaced by the k-th of the texts, null where there is none
+-- each character as it is, each gap k replaced by the k-th text, or by nothing if there is none
 abbrev pub fill : List Text → List Item → Text
 fill texts [] = []
 fill texts (Byte c ∷ items) = c ∷ fill texts items

@@ -66,7 +66,7 @@ silent world = valued [] world
 abbrev pub printing : Text → World → Meaning
 printing text world = Gives (record { value = []; forced = false; world = world; printed = text })
 
--- the input before the meta character, or all of it where none follows
+-- the input before the meta character, or all of it if none follows
 abbrev pub before_meta : World → Text
 before_meta world = before_first (λ c. c == world.meta) world.input.text
 
@@ -78,7 +78,7 @@ from_meta world = drop (position_or_len (λ c. c == world.meta) world.input.text
 abbrev pub with_input : Text → World → World
 with_input text world = record world { input = record { text = text; fails = world.input.fails } }
 
--- what was read, of a source that gave all it had
+-- what was read from a source that gave everything it had
 abbrev pub read_all : Bool → Text → World → Meaning
 read_all true text world = Ends InputFailed
 read_all false [] world = Ends InputEnded
@@ -110,7 +110,7 @@ show (Gap k ∷ items) = codes "<" ++ decimal k ++ codes ">" ++ show items
 abbrev pub show_form : Form → Text
 show_form form = show (before_pointer form) ++ codes "<^>" ++ show (after_pointer form)
 
--- a call that reads or changes a form has no effect and a null value where no form has the name
+-- a call that reads or changes a form has no effect and a null value if no form has the name
 abbrev pub on_form : Option Form → (Form → Meaning) → World → Meaning
 on_form None meaning world = silent world
 on_form (Some form) meaning world = meaning form
@@ -147,7 +147,7 @@ bits_result before l world = valued (before ++ octal l) world
 abbrev pub form_of_call : List Text → World → Option Form
 form_of_call args world = form_named (argument args 1) world.forms
 
--- the meaning where there is such a form
+-- the meaning if there is such a form
 abbrev pub on_form_of_call : List Text → World → (Form → Meaning) → Meaning
 on_form_of_call args world meaning = on_form (form_of_call args world) meaning world
 
@@ -218,7 +218,7 @@ abbrev pub meaning : Option Function → List Text → World → Meaning
 meaning None args world = silent world
 meaning (Some function) args world = meaning_of function args world
 
--- the length of a value, 0 where the run ends
+-- the length of a value, 0 if the run ends
 abbrev pub value_length : Meaning → ℕ
 value_length (Gives answer) = length answer.value
 value_length (Ends fate) = 0

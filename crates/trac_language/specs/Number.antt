@@ -13,7 +13,7 @@ use Rattle.trac_language.specs.Text.{Text}
 abbrev pub digits : Text → Text
 digits text = drop (length text - suffix_len is_ascii_digit text) text
 
--- the text before that
+-- the text before these digits
 abbrev pub before_digits : Text → Text
 before_digits text = take (length text - suffix_len is_ascii_digit text) text
 
@@ -21,18 +21,18 @@ before_digits text = take (length text - suffix_len is_ascii_digit text) text
 abbrev pub ends_with : ℕ → Text → Bool
 ends_with c text = nat_lt 0 (length text) && (slice_index text (length text - 1) == c)
 
--- the number, made negative where a minus sign stands just before the digits
+-- the number, negative if a minus sign stands just before the digits
 abbrev pub number : Text → ℤ
 number text =
     if ends_with 45 (before_digits text) then neg_ℤ (pos (digits_value 10 (digits text)))
     else pos (digits_value 10 (digits text))
 
--- without a sign at the end
+-- the text without a sign at its end
 abbrev pub without_sign : Text → Text
 without_sign text =
     if ends_with 43 text || ends_with 45 text then take (length text - 1) text else text
 
--- the text before the number and its sign; the whole text where there are no digits
+-- the text before the number and its sign; the whole text if there are no digits
 abbrev pub prefix : Text → Text
 prefix text = if length (digits text) == 0 then text else without_sign (before_digits text)
 
@@ -40,7 +40,7 @@ prefix text = if length (digits text) == 0 then text else without_sign (before_d
 abbrev pub in_range : ℤ → Bool
 in_range n = nat_lt (unsigned_abs n) (2 ^ 127)
 
--- the result in whole numbers without bound, none for a divisor of 0
+-- the result in whole numbers without bound; none for a divisor of 0
 abbrev pub exactly : Arith → ℤ → ℤ → Option ℤ
 exactly Add m n = Some (m +ℤ n)
 exactly Subtract m n = Some (m -ℤ n)
@@ -52,7 +52,7 @@ abbrev pub if_in_range : Option ℤ → Option ℤ
 if_in_range None = None
 if_in_range (Some n) = if in_range n then Some n else None
 
--- the result, none where an operand or the result is outside the range or the divisor is 0
+-- the result; none if an operand or the result is outside the range, or the divisor is 0
 abbrev pub arith : Arith → ℤ → ℤ → Option ℤ
 arith operation m n =
     if in_range m && in_range n then if_in_range (exactly operation m n) else None

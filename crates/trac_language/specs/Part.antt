@@ -22,7 +22,7 @@ abbrev pub part_between : List Item → ℕ × ℕ → ℕ → Part
 part_between body places pointer =
     record { text = characters_between body places.0 places.1; pointer = pointer }
 
--- the shortest prefix with n characters, or all items where there are fewer
+-- the shortest prefix with n characters, or all items if there are fewer
 abbrev pub first_characters : ℕ → List Item → List Item
 first_characters n [] = []
 first_characters zero (item ∷ items) = []
@@ -61,19 +61,19 @@ forward form u = unless_null (record { text = text_of u; pointer = form.pointer 
 abbrev pub backward : Form → List Item → Option Part
 backward form u = unless_null (record { text = text_of u; pointer = form.pointer - length u })
 
--- the next n characters after the pointer, all of them where fewer follow
+-- the next n characters after the pointer, or all of them if fewer follow
 abbrev pub next_characters : ℕ → Form → Option Part
 next_characters n form =
     forward form
     (first_characters (min n (length (text_of (after_pointer form)))) (after_pointer form))
 
--- the last n characters before the pointer, all of them where there are fewer
+-- the last n characters before the pointer, or all of them if there are fewer
 abbrev pub previous_characters : ℕ → Form → Option Part
 previous_characters n form =
     backward form
     (last_characters (min n (length (text_of (before_pointer form)))) (before_pointer form))
 
--- so many characters forward, or backward where the number is negative
+-- this number of characters forward, or backward if it is negative
 abbrev pub characters : ℤ → Form → Option Part
 characters (pos zero) form = Some (record { text = []; pointer = form.pointer })
 characters (pos (suc n)) form = next_characters (suc n) form

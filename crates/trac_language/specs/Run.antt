@@ -16,7 +16,7 @@ pub record Run : Type 0 where
   pub steps : ℕ
   pub peak : ℕ
 
--- whether the step that ended the run so counts
+-- whether the step that ended the run in this way counts
 abbrev pub counted : Fate → ℕ
 counted Halted = 1
 counted InputEnded = 1
@@ -41,7 +41,7 @@ one_more cells run =
       peak = max cells run.peak;
     }
 
--- what follows a step, which needed so many cells
+-- what follows a step, whose need in cells is given
 abbrev pub go_on : ℕ → Outcome → State → (State → Run) → Run
 go_on cells (Over fate) state rest =
     record {
@@ -58,7 +58,7 @@ abbrev pub within : Bool → State → (State → Run) → Run
 within true state rest = stopped Workspace state
 within false state rest = go_on (need state) (step state) state rest
 
--- a run in a room of so many cells, with an allowance of so many steps
+-- a run with a room in cells and an allowance of steps
 unfoldable pub run : (room allowance : ℕ) → State → Run
 run room zero state = stopped Steps state
 run room (suc allowance) state = within (nat_lt room (need state)) state (run room allowance)

@@ -18,8 +18,8 @@ place_of text [] = None
 place_of text (item ∷ items) =
     if begins (item ∷ items) text then Some 0 else option_map suc (place_of text items)
 
--- the items, where skip of them belong to the occurrence that became a gap, and each later
--- occurrence becomes one
+-- the items, the first skip of them left out, since they belong to an occurrence that became a gap; each
+-- later occurrence is replaced by a gap
 unfoldable pub segment_after : ℕ → Text → ℕ → List Item → List Item
 segment_after skip text k [] = []
 segment_after (suc skip) text k (item ∷ items) = segment_after skip text k items

@@ -15,7 +15,7 @@ pub record OpenCall : Type 0 where
 abbrev pub arguments : OpenCall → List Text
 arguments call = call.earlier ++ call.last ∷ []
 
--- argument k, null where it is missing
+-- argument k, null if it is missing
 abbrev pub argument : List Text → ℕ → Text
 argument texts k = get_or texts k []
 
@@ -55,14 +55,14 @@ abbrev pub size : Memory → ℕ
 size memory =
     length memory.active + length memory.base + sum_by call_cells memory.calls + cells memory.forms
 
--- the text at the end of the last argument of the innermost
--- open call, or of the base text where no call is open
+-- the text put at the end of the last argument of the innermost open call, or of the base text if no call
+-- is open
 abbrev pub add_to : List OpenCall → Text → Memory → Memory
 add_to [] text memory = record memory { base = memory.base ++ text }
 add_to (call ∷ outer) text memory =
     record memory { calls = record call { last = call.last ++ text } ∷ outer }
 
--- the same of the memory's own open calls
+-- the text put at the end of the neutral string
 abbrev pub add : Text → Memory → Memory
 add text memory = add_to memory.calls text memory
 

@@ -23,8 +23,8 @@ changed name change [] = []
 changed name change (form ∷ forms) =
     if is_named name form then change form ∷ forms else form ∷ changed name change forms
 
--- the forms with a new last one, which has the characters of the text as its body; an older one of
--- that name is gone
+-- the forms with a new last one, whose body is the characters of the text; an older one of that name is
+-- removed
 abbrev pub defined : Text → Text → List Form → List Form
 defined name text forms =
     without name forms ++ record { name = name; body = items_of text; pointer = 0 } ∷ []

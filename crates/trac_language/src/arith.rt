@@ -17,10 +17,9 @@ pub enum Arith {
 }
 
 impl Arith {
-    /// The sum, difference, product or quotient of two numbers in the range
-    /// of arithmetic (Mooers 1966). None where it is outside that range, from
-    /// -(2^127 - 1) up to 2^127 - 1, and for a divisor of 0. The range, and
-    /// that a quotient is rounded towards 0, is this processor's own choice.
+    /// The sum, difference, product or quotient of two numbers in the range of arithmetic (Mooers 1966).
+    /// None if it is outside that range, from -(2^127 - 1) up to 2^127 - 1, or if the divisor is 0. The
+    /// range, and that a quotient is rounded towards 0, is this processor's own choice.
     pub fn apply(self, a: i128, b: i128) -> Option<i128>
         requires left { IsTrue (in_range a) }
         requires right { IsTrue (in_range b) }
@@ -39,8 +38,8 @@ impl Arith {
     }
 }
 
-/// The quotient, rounded towards 0; None for a divisor of
-/// 0. Numbers that 64 bits hold are divided as such.
+/// The quotient, rounded towards 0. None if the divisor is 0. Numbers that fit in 64 bits are divided as
+/// numbers of 64 bits, which is faster.
 fn quotient(a: i128, b: i128) -> Option<i128>
     requires left { IsTrue (in_range a) }
     requires right { IsTrue (in_range b) }

@@ -5,54 +5,54 @@ use crate::arith::Arith;
 /// A function that a call can name (Mooers 1966 and 1972).
 #[derive(Clone, Copy)]
 pub enum Function {
-    /// `rs`: the input up to the meta character.
+    /// `rs`: gives the input up to the meta character.
     ReadString,
-    /// `rc`: the next character of the input.
+    /// `rc`: gives the next character of the input.
     ReadCharacter,
-    /// `cm`: the character becomes the meta character.
+    /// `cm`: makes a character the meta character.
     ChangeMeta,
-    /// `ps`: the text is printed.
+    /// `ps`: prints a text.
     PrintString,
-    /// `hl`: the run ends.
+    /// `hl`: ends the run.
     Halt,
-    /// `ds`: the text becomes a form.
+    /// `ds`: makes a text a form.
     DefineString,
-    /// `ss`: texts in a form become gaps.
+    /// `ss`: makes texts in a form gaps.
     SegmentString,
-    /// `dd`: the forms of these names go.
+    /// `dd`: removes the forms of these names.
     DeleteDefinition,
-    /// `da`: all forms go.
+    /// `da`: removes all forms.
     DeleteAll,
-    /// `ln`: the names of all forms.
+    /// `ln`: gives the names of all forms.
     ListNames,
-    /// `pf`: the form is displayed.
+    /// `pf`: displays a form.
     PrintForm,
-    /// `cl`: the form with its gaps filled.
+    /// `cl`: gives a form with its gaps filled.
     CallForm,
-    /// `cs`: the form up to its next gap.
+    /// `cs`: gives a form up to its next gap.
     CallSegment,
-    /// `cc`: its next character.
+    /// `cc`: gives the next character of a form.
     CallCharacter,
-    /// `cn`: so many of its characters.
+    /// `cn`: gives a number of characters of a form.
     CallNumber,
-    /// `in`: the form up to a text.
+    /// `in`: gives a form up to a text.
     InitialPart,
-    /// `cr`: the pointer goes back to the start.
+    /// `cr`: sets the pointer of a form back to the start.
     CallRestore,
-    /// `eq`: whether two texts are the same.
+    /// `eq`: asks whether two texts are the same.
     Equal,
-    /// `gr`: whether a number is greater than another.
+    /// `gr`: asks whether a number is greater than another.
     Greater,
-    /// `ad`, `su`, `ml` or `dv`.
+    /// `ad`, `su`, `ml` or `dv`: computes with two numbers.
     Arithmetic(Arith),
-    /// `bu`: the union of two bit strings.
+    /// `bu`: gives the union of two bit strings.
     Union,
-    /// `bi`: their intersection.
+    /// `bi`: gives the intersection of two bit strings.
     Intersection,
-    /// `bc`: the complement of a bit string.
+    /// `bc`: gives the complement of a bit string.
     Complement,
-    /// `bs`: a bit string shifted.
+    /// `bs`: shifts a bit string.
     Shift,
-    /// `br`: a bit string rotated.
+    /// `br`: rotates a bit string.
     Rotate,
 }

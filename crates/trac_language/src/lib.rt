@@ -1,7 +1,7 @@
 //! What the language is: what a reader must believe, and nothing else.
 //!
 //! The definition stands in `specs/`: texts, forms, the state of the processor, the rules of
-//! scanning, what each function means, a step, and a run. Here are only the few kinds that it
+//! scanning, what each function means, a step, and a run. Here are only the few types that it
 //! speaks of. The language is that of Mooers, "TRAC, A Procedure-Describing Language for the
 //! Reactive Typewriter", CACM 9(3), 1966, and "Definition and Standard for TRAC T-64 Language",
 //! 1972.

@@ -3,7 +3,7 @@
 /// What becomes of the value of a call (Mooers 1966).
 #[derive(Clone, Copy, PartialEq, Eq, Debug)]
 pub enum Mode {
-    /// Opened by `#(`: the value goes before the active string, and is scanned.
+    /// Opened by `#(`: the value goes to the front of the active string, and is scanned.
     Active,
     /// Opened by `##(`: the value goes to the end of the neutral string.
     Neutral,

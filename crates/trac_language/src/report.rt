@@ -1,4 +1,4 @@
-//! What runs come to.
+//! What a run came to.
 
 use crate::fate::Fate;
 
@@ -9,6 +9,6 @@ pub struct Report {
     pub fate: Fate,
     /// The steps done.
     pub steps: u64,
-    /// The greatest need of a step, in cells: the least room in which the run ends the same way.
+    /// The greatest need of a step, in cells: the smallest room in which the run ends the same way.
     pub peak: u32,
 }

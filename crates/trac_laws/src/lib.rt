@@ -1,5 +1,5 @@
-//! Laws of the definition: of whole runs, which say what the room and the allowance of a run
-//! decide, and of single steps.
+//! Laws of the definition: what the room and the allowance of a whole run decide, and what single steps do.
+//! Each function proves its law and does nothing.
 #![tactic(auto)]
 
 ghost use Rattle.trac_laws.specs.Laws.{MoreRoom, MoreSteps, FewerSteps, LeastRoom, LessRoom};
@@ -11,29 +11,29 @@ pub fn more_room()
     ensures { MoreRoom }
 {}
 
-/// A run whose fate isn't `Steps` is the same with every larger allowance; with every allowance
-/// below its steps it has the fate `Steps` and a prefix of the output.
+/// A run whose fate isn't `Steps` is the same with every larger allowance. With an allowance below its
+/// steps it has the fate `Steps` and a prefix of the output.
 pub fn more_steps()
     ensures larger { MoreSteps }
     ensures fewer { FewerSteps }
 {}
 
-/// The peak of a run whose fate isn't `Workspace` is its least room:
-/// it is the same in every room of at least that, and in every smaller
-/// room it has the fate `Workspace` and a prefix of the output.
+/// The peak of a run whose fate isn't `Workspace` is the smallest room in which it is the same, in cells. It
+/// is the same in every larger room; in a smaller one it has the fate `Workspace` and a prefix of the
+/// output.
 pub fn least_room()
     ensures enough { LeastRoom }
     ensures less { LessRoom }
 {}
 
-/// A balanced text without an apostrophe, quoted and printed, is the output, in 25 steps, with a
-/// peak of 16 cells more than it has.
+/// If a script quotes and prints a text with balanced parentheses and no apostrophe, the output is that
+/// text. The run takes 25 steps, and its peak is 16 cells more than the text has.
 pub fn quoted()
     ensures { Quoted }
 {}
 
-/// Of a text at most one part is protected at its beginning: that up to the right parenthesis that
-/// matches. A step takes this part, wherever there is one (Mooers 1966).
+/// At most one part of a text is protected at its beginning: the one up to the matching right parenthesis.
+/// If there is one, a step takes it (Mooers 1966).
 pub fn one_protected()
     ensures only { OneProtected }
     ensures found { FindsProtected }
@@ -44,14 +44,13 @@ pub fn forms_kept()
     ensures { KeepsForms }
 {}
 
-/// A step that doesn't read to the end of its input reads no further than what it takes: with more
-/// behind that input, and however that ends, it does the same, needs as much, and leaves it there.
+/// A step that doesn't read to the end of its input reads no further than what it takes. With more input
+/// behind it, whatever its end, the step does the same, needs the same cells, and leaves that input there.
 pub fn reads_no_further()
     ensures { ReadsNoFurther }
 {}
 
-/// The rule of scanning by which a step goes is the one that fits the active string (Mooers 1966),
-/// and no other does; a step is what this rule does.
+/// Exactly one rule of scanning fits the active string (Mooers 1966), and a step does what that rule says.
 pub fn one_rule_fits()
     ensures rule { RuleFits }
     ensures step { StepFits }

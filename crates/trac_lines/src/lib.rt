@@ -1,5 +1,5 @@
-//! What the programs that run scripts say beside their output, where the words give no settings and
-//! after a run, and their exit status. All of it is this processor's own choice.
+//! The lines that the programs write to standard error, when their words give no settings and after a run,
+//! and their exit statuses. All of it is this processor's own choice.
 #![tactic(auto)]
 
 ghost use Rattle.std.specs.Prelude.{◌≡◌, ◌+◌, ◌≤◌, ◌++◌, ◌∷◌, [], List, ℕ, length, take, true};
@@ -33,8 +33,8 @@ impl Model for Line {
     ghost invariant = { λ line. (line.len ≤ 80) × (is_one_line (take line.len line.bytes) ≡ true) };
 }
 
-/// Writes a line and its line feed to standard error, or wherever the program tells its faults. An
-/// error is the writer's; who tells a fault ignores it.
+/// Writes a line and a line feed, to standard error or to what stands in its place. An error is the
+/// writer's; the programs ignore it, since they have no place left to report it.
 pub fn write_line<W: Write>(errors: &mut W, line: &Line) -> io::Result<()>
     ensures { OnOk result (Appends (W.contents errors.old) (W.contents errors.new)
         (line.now ++ 10 ∷ [])) }
@@ -44,6 +44,7 @@ pub fn write_line<W: Write>(errors: &mut W, line: &Line) -> io::Result<()>
 }
 
 impl Line {
+    // An empty line.
     fn new() -> Line
         ensures { result ≡ [] }
     {
@@ -62,6 +63,7 @@ impl Line {
         &self.bytes[..self.len]
     }
 
+    // Appends a text without a line feed, which must fit.
     fn push(&mut self, text: &[u8])
         requires fits { length self.old + length text.now ≤ 80 }
         requires one_line { is_one_line text.now ≡ true }
@@ -73,6 +75,7 @@ impl Line {
         self.len = end;
     }
 
+    // Appends the decimal digits of a number of at most 20 digits, which must fit.
     fn push_number(&mut self, n: u128)
         requires small { n ≤ 18446744073709551616 }
         requires fits { length self.old + 20 ≤ 80 }
@@ -83,8 +86,8 @@ impl Line {
     }
 }
 
-/// The line on a run that didn't end well, `None` where it halted or its input ended. It tells the
-/// cells or the steps of the settings, or the step that wasn't done: one more than the steps done.
+/// The line on how a run failed. None if it halted or its input ended. The line names the cells or the
+/// steps of the settings, or the step that wasn't done: one more than the steps done.
 pub fn fault_line(report: &Report, settings: &Settings) -> Option<Line>
     ensures { result ≡
         fault_text report.now.fate settings.now.cells settings.now.steps report.now.steps }
@@ -116,7 +119,7 @@ pub fn fault_line(report: &Report, settings: &Settings) -> Option<Line>
     Some(line)
 }
 
-/// The line that tells the steps that a run did and its peak in cells, always in the plural.
+/// The line with the steps that a run did and its peak in cells; both words are always in the plural.
 pub fn report_line(report: &Report) -> Line
     ensures { result ≡ report_text report.now.steps report.now.peak }
 {
@@ -129,7 +132,7 @@ pub fn report_line(report: &Report) -> Line
     line
 }
 
-/// The line where there is no memory for a workspace of the settings' cells.
+/// The line for the case that there is no memory for a workspace with the settings' cells.
 pub fn memory_line(settings: &Settings) -> Line
     ensures { result ≡ memory_text settings.now.cells }
 {
@@ -140,15 +143,15 @@ pub fn memory_line(settings: &Settings) -> Line
     line
 }
 
-/// The exit status of the program after a run: 0 where it halted or its input ended, 1 for a full
-/// workspace, 3 for steps used up, 4 for input and 5 for output that failed.
+/// The exit status of the program after a run: 0 if it halted or its input ended, 1 for a full workspace, 3
+/// for steps used up, 4 for failed input and 5 for failed output.
 pub fn status(report: &Report) -> u8
     ensures { result ≡ status_of report.now.fate }
 {
     fate_status(report.fate)
 }
 
-/// The same, of how a run ended.
+/// The exit status of the program after a run that ended in this way, as `status` gives it.
 pub fn fate_status(fate: Fate) -> u8
     ensures { result ≡ status_of fate }
 {

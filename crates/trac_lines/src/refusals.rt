@@ -1,4 +1,4 @@
-//! What is said where the words give no settings, and the exit status then.
+//! What the programs write when their words give no settings, and the exit status then.
 ghost use Rattle.std.specs.Prelude.{◌≡◌, ◌≢◌, ◌-◌, ◌^◌, ◌<◌, ◌==◌};
 ghost use Rattle.std.specs.Bool.{OnTrue};
 ghost use Rattle.clap.specs.Words.{kind_of};
@@ -9,15 +9,15 @@ use std::fmt::Write;
 use std::{fmt, io};
 use trac_devices::Sink;
 
-// The status where the words can't be used.
+// The status for words that the program refuses.
 const USAGE: u8 = 2;
-// The status where the help can't be written, as for a run whose output failed.
+// The status if the help can't be written, the same as for a run whose output failed.
 const OUTPUT_FAILED: u8 = 5;
-// The status where there is no memory for the words.
+// The status if there is no memory for the words.
 const NO_MEMORY: u8 = 6;
 
-/// Says why the words could not be read, and gives the status. The
-/// last text is the line where there was no memory for them.
+/// Writes to standard error why the words couldn't be read, and gives the status. `no_memory` is the line
+/// for the case that there was no memory for them. A failure of standard error is ignored.
 pub fn refused_words<R: Eprint>(rt: &R, kind: io::ErrorKind, no_memory: &str) -> u8
     ensures { result ≡ unread_status kind }
 {
@@ -29,9 +29,9 @@ pub fn refused_words<R: Eprint>(rt: &R, kind: io::ErrorKind, no_memory: &str) ->
     USAGE
 }
 
-/// Shows what clap answered in place of settings, the help on `output` and all else on standard
-/// error, and gives the status: a help is shown where the output did not fail. The last text is the
-/// line where there was no memory for the words. That standard error fails is ignored.
+/// Writes what clap answered in place of settings, and gives the status. The help goes to `output`, all
+/// else to standard error. `no_memory` is the line for the case that there was no memory for the words. A
+/// failure of the output changes the status; a failure of standard error is ignored.
 pub fn refused<R: Eprint, O: Sink>(
     rt: &R,
     output: &mut O,
@@ -56,7 +56,7 @@ pub fn refused<R: Eprint, O: Sink>(
     error_status(kind)
 }
 
-/// The status for a kind of error of the words.
+/// The status for a kind of answer of clap: 0 for help, 6 for want of memory, 2 for refused words.
 pub fn error_status(kind: ErrorKind) -> u8
     ensures { result ≡ refusal_status kind }
 {
@@ -67,14 +67,14 @@ pub fn error_status(kind: ErrorKind) -> u8
     }
 }
 
-// The status after a help that was shown or could not be.
+// The status after help, by whether it could be written.
 fn help_status(is_shown: bool) -> u8
     ensures { result ≡ shown_status ErrorKind.DisplayHelp is_shown }
 {
     if is_shown { 0 } else { OUTPUT_FAILED }
 }
 
-// Puts the help, and sends it on. The answer is whether the output did not fail.
+// Writes the help and flushes it. True if the output didn't fail.
 fn show<O: Sink>(output: &mut O, help: &clap::Error) -> bool
     requires { O.failure_count output.old < 2 ^ 64 - 1 }
     ensures shown { result ≡ (O.failure_count output.new == O.failure_count output.old) }
@@ -85,7 +85,7 @@ fn show<O: Sink>(output: &mut O, help: &clap::Error) -> bool
     output.failures() == failures && output.flush().is_ok()
 }
 
-// A sink, for what is displayed. It takes nothing after a failure.
+// A sink to which clap can write. It takes nothing after a failure.
 #[derive(Drop)]
 struct Shown<'a, O> {
     output: &'a mut O,

@@ -11,11 +11,6 @@ pub behind-of : {X : Type 0} (was after source : List X) (to m most : ℕ) → m
 behind-of was after source to m most few within long is =
     rw is (same_lists _ _ (search (rules, places)) (λ i d less. grind (arith, places)))
 
--- to a place behind: k cells are there, and n more follow
-pub copied-on : {X : Type 0} (was now after : List X) (start to k n : ℕ) → start + k + n ≤ to → to + (k + n) ≤ length was → now ≡ paste was to (drop start was) k → after ≡ copy_within now (start + k) (start + k + n) (to + k) → after ≡ paste was to (drop start was) (k + n)
-copied-on was now after start to k n apart within is moved =
-    rw (moved, is) (same_lists _ _ (search (rules, places)) (λ i d less. grind (arith, places)))
-
 -- j characters more, of cells before the place, which are as they were
 pub bytes-on : (was now : List Cell) (start to n k j : ℕ) → to + n ≤ length was → now ≡ paste was to (drop start was) n → start + k + j ≤ to → All IsByte (take k (drop start was)) → All IsByte (take j (drop (start + k) now)) → All IsByte (take (k + j) (drop start was))
 bytes-on was now start to n k j long is apart bytes more =

@@ -7,7 +7,7 @@ use Rattle.trac_space.specs.Cells.{is_comma}
 use Rattle.trac_space.specs.Overlay.{under, over, has_number}
 use Rattle.trac_space.specs.Texts.{is_byte_cell}
 
--- the ordinal of a gap, 0 of any other cell
+-- the ordinal of a gap, 0 for any other cell
 abbrev pub ordinal_of : Cell → ℕ
 ordinal_of (Byte _) = 0
 ordinal_of (Call _ _) = 0
@@ -24,16 +24,16 @@ parts_at from at (cell ∷ cells) =
     then (from, at) ∷ parts_at (at + 1) (at + 1) cells
     else parts_at from (at + 1) cells
 
--- the part of a number, from 1; a null one where there is none
+-- the part of a number, from 1; a null part if there is none
 abbrev pub numbered_part : List (ℕ × ℕ) → ℕ → ℕ × ℕ
 numbered_part parts number = slice_index_or ((0, 0) ∷ parts) number (0, 0)
 
--- its cells
+-- the cells of the part of a number
 abbrev pub part_between : List Cell → ℕ → List Cell
 part_between given number =
     slice_range given (numbered_part (parts_at 0 0 given) number).0 (numbered_part (parts_at 0 0 given) number).1
 
--- what fills a cell: a character itself, any other the part of its ordinal
+-- what stands for a cell: a character for itself, the part of its ordinal for any other
 abbrev pub filling : List Cell → Cell → List Cell
 filling given cell = if is_byte_cell cell then cell ∷ [] else part_between given (ordinal_of cell)
 
@@ -41,7 +41,7 @@ abbrev pub filled : List Cell → List Cell → List Cell
 filled given [] = []
 filled given (cell ∷ cells) = filling given cell ++ filled given cells
 
--- over the first cells lies where the comma marks of all of them stand, which are so many
+-- the cells have `count` comma marks, and the places of these lie over the first `count` cells
 pub record HaveCommas (cells : List Cell) (count : ℕ) : Type 0 where
   pub within : count ≤ length cells
   pub others : map under (drop count cells) ≡ drop count cells
@@ -50,7 +50,7 @@ pub record HaveCommas (cells : List Cell) (count : ℕ) : Type 0 where
   pub ends : (k : ℕ) → k < count →
       over (slice_index_or cells k Comma) ≡ (numbered_part (parts_at 0 0 (map under cells)) (suc k)).1
 
--- more cells stand from a place on, up to an end that is given, if that isn't past another place
+-- more cells were put from place `to` on, and their end is the result; or they would pass place `last`
 abbrev pub IsPut : List Cell → List Cell → ℕ → ℕ → List Cell → Option ℕ → Type 0
 IsPut was now to last more result =
     MatchOption result

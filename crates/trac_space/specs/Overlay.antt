@@ -19,7 +19,7 @@ under Comma = Comma
 under (Gap _) = Comma
 under (Head x) = Byte (x % 256)
 
--- the number over a cell, 0 over one that has none
+-- the number over a cell, 0 if none lies there
 abbrev pub over : Cell → ℕ
 over (Byte _) = 0
 over (Call _ _) = 0

@@ -8,7 +8,7 @@ use Rattle.trac_space.specs.declared.cell.Cell.TheVariants.{Byte, Call, Comma, G
 abbrev pub flat_text : Text → List Cell
 flat_text text = map Byte text
 
--- the character of a cell, 0 of one that isn't a character
+-- the character of a cell, 0 for a cell that is no character
 abbrev pub character_of : Cell → ℕ
 character_of (Byte c) = c
 character_of (Call mode distance) = 0
@@ -32,7 +32,7 @@ is_byte_cell (Head _) = false
 abbrev pub IsByte : Cell → Type 0
 IsByte cell = T (is_byte_cell cell)
 
--- the number of the kind that a cell is, 0 of a character
+-- the number of a cell's kind, 0 for a character
 abbrev pub kind_number : Cell → ℕ
 kind_number (Byte _) = 0
 kind_number (Call _ _) = 1

@@ -1,5 +1,9 @@
-//! Moves of cells within a block.
-ghost use Rattle.std.specs.Prelude.{◌≡◌, ◌+◌, ◌-◌, ◌≤◌, ◌<◌, ◌⊎◌, ◌++◌};
+//! Copies of cells within the block that a `Space` is lent, and runs of characters there.
+//!
+//! Each `copy_..` meets the contract of std's `copy_within`. They differ in what they are fast for:
+//! `higher` and `lower` say where the target lies, `apart` that the ranges are disjoint, `by_..` how many
+//! cells go at once.
+ghost use Rattle.std.specs.Prelude.{◌≡◌, ◌+◌, ◌-◌, ◌≤◌, ◌<◌, ◌⊎◌};
 ghost use Rattle.std.specs.Prelude.{All, IsTrue, drop, false, ℕ};
 ghost use Rattle.std.specs.Prelude.{length, take, ◌==◌, if◌then◌else◌, slice_index_or};
 ghost use Rattle.std.specs.List.{copy_within};
@@ -10,18 +14,16 @@ ghost use Rattle.trac_space.specs.Texts.{IsByte, byte_cell_at};
 
 use crate::cell::{Cell, are_characters, are_four, are_two, byte_in, is_character};
 
-// How many cells a long move takes at once.
-const LONG_PART: usize = 256;
-// How near two places are whose cells go one by one.
-const NEAR: usize = 8;
-// How many cells are moved by blocks at most, and not by a call, where the two places are apart.
-const MOST_BY_BLOCKS: usize = 24;
-// How many are moved so where they overlap, and not part by part.
+// A long copy moves this many cells at once.
+const CELLS_IN_A_PART: usize = 256;
+// Up to this many cells are copied inline between ranges that are apart; more take a call.
+const MOST_INLINE: usize = 24;
+// Up to this many cells of overlapping ranges are copied block by block; more go part by part.
 const MOST_OVERLAPPING_BY_BLOCKS: usize = 48;
-// How many characters are moved at once before each of them is looked at.
+// The cells of a block, which are copied or tested together.
 pub(crate) const BLOCK: usize = 8;
 
-// As `copy_within`. A short move goes cell by cell.
+// Copies cells as `copy_within` does. Fewer than a block need no call.
 #[inline]
 pub(crate) fn copy_cells(cells: &mut [Cell], start: usize, end: usize, to: usize)
     requires order { start ≤ end }
@@ -30,16 +32,16 @@ pub(crate) fn copy_cells(cells: &mut [Cell], start: usize, end: usize, to: usize
     ensures len { length cells.new ≡ length cells.old }
     ensures after { cells.new ≡ copy_within cells.old start end to }
 {
-    if end - start < 8 {
+    if end - start < BLOCK {
         cells.copy_within(start..end, to);
     } else {
         copy_long(cells, start, end, to);
     }
 }
 
-// As `copy_within`, for moves that mostly are of one cell.
+// Copies cells as `copy_within` does. One cell needs no call.
 #[inline]
-pub(crate) fn copy_one_or_more(cells: &mut [Cell], start: usize, end: usize, to: usize)
+pub(crate) fn copy_mostly_one(cells: &mut [Cell], start: usize, end: usize, to: usize)
     requires order { start ≤ end }
     requires within { end ≤ length cells.old }
     requires room { to + (end - start) ≤ length cells.old }
@@ -49,23 +51,12 @@ pub(crate) fn copy_one_or_more(cells: &mut [Cell], start: usize, end: usize, to:
     if end - start == 1 {
         cells.copy_within(start..start + 1, to);
     } else {
-        copy_more(cells, start, end, to);
+        copy_long(cells, start, end, to);
     }
 }
 
-// The same, not repeated where it is called.
-#[inline(never)]
-fn copy_more(cells: &mut [Cell], start: usize, end: usize, to: usize)
-    requires order { start ≤ end }
-    requires within { end ≤ length cells.old }
-    requires room { to + (end - start) ≤ length cells.old }
-    ensures len { length cells.new ≡ length cells.old }
-    ensures after { cells.new ≡ copy_within cells.old start end to }
-{
-    copy_cells(cells, start, end, to);
-}
-
-// The same. Where the two places are apart they go as blocks of memory, and else part by part.
+// Copies cells as `copy_within` does. Disjoint ranges are copied as memory; overlapping ranges go
+// block by block or part by part, and ranges less than a block apart cell by cell.
 #[inline(never)]
 fn copy_long(cells: &mut [Cell], start: usize, end: usize, to: usize)
     requires order { start ≤ end }
@@ -74,11 +65,13 @@ fn copy_long(cells: &mut [Cell], start: usize, end: usize, to: usize)
     ensures len { length cells.new ≡ length cells.old }
     ensures after { cells.new ≡ copy_within cells.old start end to }
 {
-    if end <= to {
-        copy_apart(cells, start, end, to);
+    if end - start < BLOCK {
+        cells.copy_within(start..end, to);
+    } else if end <= to {
+        copy_disjoint(cells, start, end, to);
     } else if to + (end - start) <= start {
-        copy_apart(cells, start, end, to);
-    } else if start.abs_diff(to) < NEAR {
+        copy_disjoint(cells, start, end, to);
+    } else if start.abs_diff(to) < BLOCK {
         cells.copy_within(start..end, to);
     } else if start < to {
         copy_higher_by_parts(cells, start, end, to);
@@ -89,9 +82,9 @@ fn copy_long(cells: &mut [Cell], start: usize, end: usize, to: usize)
     }
 }
 
-// The same, where the two places are apart.
+// Copies cells as `copy_within` does, between disjoint ranges in either order.
 #[inline]
-fn copy_apart(cells: &mut [Cell], start: usize, end: usize, to: usize)
+fn copy_disjoint(cells: &mut [Cell], start: usize, end: usize, to: usize)
     requires order { start ≤ end }
     requires within { end ≤ length cells.old }
     requires room { to + (end - start) ≤ length cells.old }
@@ -102,14 +95,14 @@ fn copy_apart(cells: &mut [Cell], start: usize, end: usize, to: usize)
     let n = end - start;
     if end <= to {
         let (front, back) = cells.split_at_mut(to);
-        copy_other(&front[start..end], &mut back[..n]);
+        copy_slice(&front[start..end], &mut back[..n]);
     } else {
         let (front, back) = cells.split_at_mut(start);
-        copy_other(&back[..n], &mut front[to..to + n]);
+        copy_slice(&back[..n], &mut front[to..to + n]);
     }
 }
 
-// As `copy_within`, to a higher place: part by part, the last first.
+// Copies cells as `copy_within` does, to a higher place: part by part, beginning with the last part.
 #[inline(never)]
 fn copy_higher_by_parts(cells: &mut [Cell], start: usize, end: usize, to: usize)
     requires order { start ≤ end }
@@ -118,16 +111,16 @@ fn copy_higher_by_parts(cells: &mut [Cell], start: usize, end: usize, to: usize)
     ensures len { length cells.new ≡ length cells.old }
     ensures after { cells.new ≡ copy_within cells.old start end to }
 {
-    let part = (to - start).min(LONG_PART);
+    let part = (to - start).min(CELLS_IN_A_PART);
     let mut left = end - start;
     while left > 0 {
         let last = left;
         left -= part.min(left);
-        copy_apart(cells, start + left, start + last, to + left);
+        copy_disjoint(cells, start + left, start + last, to + left);
     }
 }
 
-// As `copy_within`, to a lower place: part by part, the first first.
+// Copies cells as `copy_within` does, to a lower place: part by part, beginning with the first part.
 #[inline(never)]
 fn copy_lower_by_parts(cells: &mut [Cell], start: usize, end: usize, to: usize)
     requires order { start ≤ end }
@@ -136,48 +129,48 @@ fn copy_lower_by_parts(cells: &mut [Cell], start: usize, end: usize, to: usize)
     ensures len { length cells.new ≡ length cells.old }
     ensures after { cells.new ≡ copy_within cells.old start end to }
 {
-    let part = (start - to).min(LONG_PART);
+    let part = (start - to).min(CELLS_IN_A_PART);
     let all = end - start;
     let mut done = 0;
     while done < all {
         let first = done;
         done += part.min(all - done);
-        copy_apart(cells, start + first, start + done, to + first);
+        copy_disjoint(cells, start + first, start + done, to + first);
     }
 }
 
-// Makes some cells the same as others.
+// Copies one slice over another of the same length.
 #[inline]
-fn copy_other(from: &[Cell], to: &mut [Cell])
+fn copy_slice(from: &[Cell], to: &mut [Cell])
     requires { length from.now ≡ length to.old }
     ensures { to.new ≡ from.now }
 {
-    if from.len() <= LONG_PART {
+    if from.len() <= CELLS_IN_A_PART {
         to.copy_from_slice(from);
     } else {
-        copy_parts(from, to);
+        copy_slice_by_parts(from, to);
     }
 }
 
-// The same, part by part.
+// Copies one slice over another of the same length, part by part.
 #[inline(never)]
-fn copy_parts(from: &[Cell], to: &mut [Cell])
+fn copy_slice_by_parts(from: &[Cell], to: &mut [Cell])
     requires { length from.now ≡ length to.old }
     ensures { to.new ≡ from.now }
 {
     let mut done = 0;
     while done < from.len() {
-        let end = done + LONG_PART.min(from.len() - done);
+        let end = done + CELLS_IN_A_PART.min(from.len() - done);
         to[done..end].copy_from_slice(&from[done..end]);
         done = end;
     }
 }
 
-// Moves characters to a place before, at most so many, up to the first that the table has a number
-// over 1 for; one that it has 1 for becomes a comma mark. Gives how many they are, and how many of
-// them stand up to the last comma mark.
+// Copies characters to a lower place, at most `most`. `table` has a number for each byte: 0 keeps the
+// character, 1 makes it a comma mark, a higher number ends the run before it. Gives the length of the
+// run, and the place in it behind its last comma mark.
 #[inline]
-pub(crate) fn copy_run(
+pub(crate) fn copy_turned(
     cells: &mut [Cell],
     start: usize,
     to: usize,
@@ -217,8 +210,8 @@ pub(crate) fn copy_run(
     (count, last)
 }
 
-// Whether so many cells from a place on are all characters: by eights, of which the last may begin in
-// the one before it.
+// Whether the `n` cells from place `at` on are all characters. Tests eight cells at a time; the last
+// group may overlap the one before it.
 #[inline(always)]
 pub(crate) fn are_all_characters(cells: &[Cell], at: usize, n: usize) -> bool
     requires { at + n ≤ length cells.now }
@@ -237,7 +230,7 @@ pub(crate) fn are_all_characters(cells: &[Cell], at: usize, n: usize) -> bool
     are_characters(cells, at + (n - BLOCK))
 }
 
-// The same of no more than eight.
+// Whether the `n` cells from place `at` on, at most eight, are all characters.
 #[inline(always)]
 fn are_few_characters(cells: &[Cell], at: usize, n: usize) -> bool
     requires few { n ≤ 8 }
@@ -253,7 +246,7 @@ fn are_few_characters(cells: &[Cell], at: usize, n: usize) -> bool
     }
 }
 
-// How many characters stand from a place on, at most so many.
+// How many characters stand in a row from place `start` on; counts up to `most`.
 #[inline(always)]
 pub(crate) fn characters_from(cells: &[Cell], start: usize, most: usize) -> usize
     requires { start + most ≤ length cells.now }
@@ -272,7 +265,7 @@ pub(crate) fn characters_from(cells: &[Cell], start: usize, most: usize) -> usiz
     count + characters_each(cells, start + count, most - count)
 }
 
-// The same, one by one.
+// How many characters stand in a row from place `start` on; counts up to `most`, cell by cell.
 #[inline]
 fn characters_each(cells: &[Cell], start: usize, most: usize) -> usize
     requires { start + most ≤ length cells.now }
@@ -287,7 +280,7 @@ fn characters_each(cells: &[Cell], start: usize, most: usize) -> usize
     count
 }
 
-// How many characters begin the block of cells at a place.
+// How many of the eight cells from place `at` on stand before the first that is no character.
 #[inline]
 pub(crate) fn characters_in_block(cells: &[Cell], at: usize) -> usize
     requires { at + 8 ≤ length cells.now }
@@ -302,7 +295,7 @@ pub(crate) fn characters_in_block(cells: &[Cell], at: usize) -> usize
     count
 }
 
-// As `copy_within`, for moves to a place that mostly is higher and apart.
+// Copies cells as `copy_within` does. A short copy to a higher place apart needs no call.
 #[inline(always)]
 pub(crate) fn copy_mostly_apart(cells: &mut [Cell], start: usize, end: usize, to: usize)
     requires order { start ≤ end }
@@ -311,14 +304,14 @@ pub(crate) fn copy_mostly_apart(cells: &mut [Cell], start: usize, end: usize, to
     ensures len { length cells.new ≡ length cells.old }
     ensures after { cells.new ≡ copy_within cells.old start end to }
 {
-    if end <= to && end - start <= MOST_BY_BLOCKS {
-        copy_apart_higher(cells, start, to - start, end - start);
+    if end <= to && end - start <= MOST_INLINE {
+        copy_short_higher(cells, start, to - start, end - start);
     } else {
         copy_cells(cells, start, end, to);
     }
 }
 
-// As `copy_within`, to a lower place. A few blocks go by code that stands where it is used.
+// Copies cells as `copy_within` does, to a lower place. A few blocks need no call.
 #[inline(always)]
 pub(crate) fn copy_lower(cells: &mut [Cell], start: usize, end: usize, to: usize)
     requires order { start ≤ end }
@@ -328,14 +321,14 @@ pub(crate) fn copy_lower(cells: &mut [Cell], start: usize, end: usize, to: usize
     ensures after { cells.new ≡ copy_within cells.old start end to }
 {
     let n = end - start;
-    if n >= BLOCK && n <= MOST_BY_BLOCKS && start - to >= BLOCK {
+    if n >= BLOCK && n <= MOST_INLINE && start - to >= BLOCK {
         copy_lower_by_blocks(cells, start, n, to);
     } else {
         copy_cells(cells, start, end, to);
     }
 }
 
-// As `copy_within`, to a higher place. A few blocks go by code that stands where it is used.
+// Copies cells as `copy_within` does, to a higher place. A few blocks need no call.
 #[inline(always)]
 pub(crate) fn copy_higher(cells: &mut [Cell], start: usize, end: usize, to: usize)
     requires order { start ≤ end }
@@ -352,8 +345,8 @@ pub(crate) fn copy_higher(cells: &mut [Cell], start: usize, end: usize, to: usiz
     }
 }
 
-// As `copy_within`, to a place that is a block higher or more, by blocks, the last first.
-// The first may end in the one behind it: what it moves isn't written over yet.
+// Copies cells as `copy_within` does, to a place that is a block higher or more: block by block,
+// beginning with the last. The first block may overlap the second; its cells aren't overwritten yet.
 #[inline(always)]
 fn copy_higher_by_blocks(cells: &mut [Cell], start: usize, n: usize, distance: usize)
     requires some { 8 ≤ n }
@@ -366,12 +359,12 @@ fn copy_higher_by_blocks(cells: &mut [Cell], start: usize, n: usize, distance: u
     let mut left = n;
     while left > BLOCK {
         left -= BLOCK;
-        copy_some_higher(cells, start + left, distance, BLOCK);
+        copy_at_once_higher(cells, start + left, distance, BLOCK);
     }
-    copy_some_higher(cells, start, distance, BLOCK);
+    copy_at_once_higher(cells, start, distance, BLOCK);
 }
 
-// As `copy_within`, to a lower place apart, for moves of few cells.
+// Copies `n` cells as `copy_within` does, to a lower place apart. Up to `MOST_INLINE` need no call.
 #[inline(always)]
 #[tactic(auto, using(crate::proofs::Moves::move_one))]
 pub(crate) fn copy_apart_lower(cells: &mut [Cell], start: usize, n: usize, to: usize)
@@ -380,22 +373,23 @@ pub(crate) fn copy_apart_lower(cells: &mut [Cell], start: usize, n: usize, to: u
     ensures len { length cells.new ≡ length cells.old }
     ensures after { cells.new ≡ copy_within cells.old start (start + n) to }
 {
-    if n > MOST_BY_BLOCKS {
+    if n > MOST_INLINE {
         copy_long(cells, start, start + n, to);
     } else if n >= BLOCK {
         copy_lower_by_blocks(cells, start, n, to);
     } else if n >= 4 {
-        copy_halves_lower(cells, start, n, to, 4);
+        copy_lower_by_halves(cells, start, n, to, 4);
     } else if n >= 2 {
-        copy_halves_lower(cells, start, n, to, 2);
+        copy_lower_by_halves(cells, start, n, to, 2);
     } else if n == 1 {
         cells[to] = cells[start];
     }
 }
 
-// The same, by two halves, of which the second may begin in the first.
+// Copies `n` cells as `copy_within` does, to a lower place apart: the first `half` cells, then the last
+// `half`, which may overlap them.
 #[inline(always)]
-fn copy_halves_lower(cells: &mut [Cell], start: usize, n: usize, to: usize, half: usize)
+fn copy_lower_by_halves(cells: &mut [Cell], start: usize, n: usize, to: usize, half: usize)
     requires some { half ≤ n }
     requires few { n ≤ half + half }
     requires apart { to + n ≤ start }
@@ -403,13 +397,13 @@ fn copy_halves_lower(cells: &mut [Cell], start: usize, n: usize, to: usize, half
     ensures len { length cells.new ≡ length cells.old }
     ensures after { cells.new ≡ copy_within cells.old start (start + n) to }
 {
-    copy_some_lower(cells, start, to, half);
-    copy_some_lower(cells, start + (n - half), to + (n - half), half);
+    copy_at_once_lower(cells, start, to, half);
+    copy_at_once_lower(cells, start + (n - half), to + (n - half), half);
 }
 
-// As `copy_within`, to a lower place apart.
+// Copies `n` cells as `copy_within` does, to a lower place apart, as one copy of memory.
 #[inline(always)]
-fn copy_some_lower(cells: &mut [Cell], start: usize, to: usize, n: usize)
+fn copy_at_once_lower(cells: &mut [Cell], start: usize, to: usize, n: usize)
     requires apart { to + n ≤ start }
     requires within { start + n ≤ length cells.old }
     ensures len { length cells.new ≡ length cells.old }
@@ -419,11 +413,10 @@ fn copy_some_lower(cells: &mut [Cell], start: usize, to: usize, n: usize)
     front[to..to + n].copy_from_slice(&back[..n]);
 }
 
-// As `copy_within`, to a place so much higher that the places are apart. A move of eight cells or
-// more goes by blocks, of which the last may begin in the one before it; a shorter one by two
-// halves, which may do so too.
+// Copies `n` cells as `copy_within` does, to a place that is `distance` higher and apart, without a
+// call: by blocks, or by two halves where they are fewer than a block.
 #[inline(always)]
-pub(crate) fn copy_apart_higher(cells: &mut [Cell], start: usize, distance: usize, n: usize)
+pub(crate) fn copy_short_higher(cells: &mut [Cell], start: usize, distance: usize, n: usize)
     requires apart { n ≤ distance }
     requires room { start + distance + n ≤ length cells.old }
     ensures len { length cells.new ≡ length cells.old }
@@ -431,52 +424,35 @@ pub(crate) fn copy_apart_higher(cells: &mut [Cell], start: usize, distance: usiz
         cells.new ≡ copy_within cells.old start (start + n) to }
 {
     if n >= BLOCK {
-        copy_blocks_higher(cells, start, distance, n);
+        copy_higher_by_blocks(cells, start, n, distance);
     } else if n >= 4 {
-        copy_halves_higher(cells, start, distance, n, 4);
+        copy_higher_by_halves(cells, start, distance, n, 4);
     } else if n >= 2 {
-        copy_halves_higher(cells, start, distance, n, 2);
+        copy_higher_by_halves(cells, start, distance, n, 2);
     } else if n == 1 {
         cells[start + distance] = cells[start];
     }
 }
 
-// As `copy_within`, to a higher place apart; a long move goes by a call.
+// Copies `n` cells as `copy_within` does, to a higher place apart. Up to `MOST_INLINE` need no call.
 #[inline(always)]
-pub(crate) fn copy_apart_to(cells: &mut [Cell], start: usize, n: usize, to: usize)
+pub(crate) fn copy_apart_higher(cells: &mut [Cell], start: usize, n: usize, to: usize)
     requires apart { start + n ≤ to }
     requires room { to + n ≤ length cells.old }
     ensures len { length cells.new ≡ length cells.old }
     ensures after { cells.new ≡ copy_within cells.old start (start + n) to }
 {
-    if n > MOST_BY_BLOCKS {
+    if n > MOST_INLINE {
         copy_long(cells, start, start + n, to);
     } else {
-        copy_apart_higher(cells, start, to - start, n);
+        copy_short_higher(cells, start, to - start, n);
     }
 }
 
-// As `copy_apart_higher`, of a block or more.
+// Copies `n` cells as `copy_within` does, to a place that is `distance` higher and apart: the first
+// `half` cells, then the last `half`, which may overlap them.
 #[inline(always)]
-fn copy_blocks_higher(cells: &mut [Cell], start: usize, distance: usize, n: usize)
-    requires some { 8 ≤ n }
-    requires apart { n ≤ distance }
-    requires room { start + distance + n ≤ length cells.old }
-    ensures len { length cells.new ≡ length cells.old }
-    ensures after { (to : ℕ) → to ≡ start + distance →
-        cells.new ≡ copy_within cells.old start (start + n) to }
-{
-    let mut done = 0;
-    while n - done > BLOCK {
-        copy_some_higher(cells, start + done, distance, BLOCK);
-        done += BLOCK;
-    }
-    copy_some_higher(cells, start + (n - BLOCK), distance, BLOCK);
-}
-
-// As `copy_apart_higher`, by two halves, of which the second may begin in the first.
-#[inline(always)]
-fn copy_halves_higher(cells: &mut [Cell], start: usize, distance: usize, n: usize, half: usize)
+fn copy_higher_by_halves(cells: &mut [Cell], start: usize, distance: usize, n: usize, half: usize)
     requires some { half ≤ n }
     requires few { n ≤ half + half }
     requires apart { n ≤ distance }
@@ -485,13 +461,14 @@ fn copy_halves_higher(cells: &mut [Cell], start: usize, distance: usize, n: usiz
     ensures after { (to : ℕ) → to ≡ start + distance →
         cells.new ≡ copy_within cells.old start (start + n) to }
 {
-    copy_some_higher(cells, start, distance, half);
-    copy_some_higher(cells, start + (n - half), distance, half);
+    copy_at_once_higher(cells, start, distance, half);
+    copy_at_once_higher(cells, start + (n - half), distance, half);
 }
 
-// As `copy_within`, to a place that is `distance` higher, and apart.
+// Copies `n` cells as `copy_within` does, to a place that is `distance` higher and apart, as one copy
+// of memory.
 #[inline(always)]
-pub(crate) fn copy_some_higher(cells: &mut [Cell], start: usize, distance: usize, n: usize)
+pub(crate) fn copy_at_once_higher(cells: &mut [Cell], start: usize, distance: usize, n: usize)
     requires apart { n ≤ distance }
     requires room { start + distance + n ≤ length cells.old }
     ensures len { length cells.new ≡ length cells.old }
@@ -505,8 +482,8 @@ pub(crate) fn copy_some_higher(cells: &mut [Cell], start: usize, distance: usize
     back[..n].copy_from_slice(&front[start..end]);
 }
 
-// As `copy_within`, to a place that is a block lower or more, by blocks. The last may begin
-// in the one before it: what it moves isn't written over yet.
+// Copies `n` cells as `copy_within` does, to a place that is a block lower or more: block by block,
+// beginning with the first. The last block may overlap the one before it; its cells aren't overwritten yet.
 #[inline(always)]
 fn copy_lower_by_blocks(cells: &mut [Cell], start: usize, n: usize, to: usize)
     requires some { 8 ≤ n }
@@ -517,8 +494,8 @@ fn copy_lower_by_blocks(cells: &mut [Cell], start: usize, n: usize, to: usize)
 {
     let mut done = 0;
     while n - done > BLOCK {
-        copy_some_lower(cells, start + done, to + done, BLOCK);
+        copy_at_once_lower(cells, start + done, to + done, BLOCK);
         done += BLOCK;
     }
-    copy_some_lower(cells, start + (n - BLOCK), to + (n - BLOCK), BLOCK);
+    copy_at_once_lower(cells, start + (n - BLOCK), to + (n - BLOCK), BLOCK);
 }

@@ -1,5 +1,5 @@
-//! Cells of the store, put at the end of neutral with their gaps filled by what stands between comma
-//! marks. Where these stand lies meanwhile over the cells themselves.
+//! Copies cells of the store to the end of neutral, and fills their gaps with what stands between comma
+//! marks. Meanwhile the places of the comma marks lie over the first cells that they part.
 ghost use Rattle.std.specs.Prelude.{◌≡◌, ◌+◌, ◌-◌, ◌≤◌, ◌<◌, ◌++◌, IsTrue, All, length, take, drop};
 ghost use Rattle.std.specs.Prelude.{map, slice_range, slice_index_or, suc};
 ghost use Rattle.std.specs.List.{copy_within};
@@ -9,11 +9,11 @@ ghost use Rattle.trac_space.specs.Filled.{IsPut, parts_at, numbered_part};
 ghost use Rattle.trac_space.specs.Overlay.{takes_number, under};
 
 use crate::cell::{Cell, is_character, is_comma};
-use crate::copies::{BLOCK, characters_in_block, copy_apart_higher, copy_some_higher};
+use crate::copies::{BLOCK, characters_in_block, copy_at_once_higher, copy_short_higher};
 use crate::overlay::{cell_under, laid, lift, number_over_laid};
 
-// The cells between whose comma marks the parts stand: where they begin, how many they are, and how
-// many comma marks there are, whose places lie over the first of them.
+// The cells whose parts fill the gaps: where they begin in the block, how many they are, and how many
+// comma marks are among them. The places of the comma marks lie over the first of these cells.
 #[derive(Clone, Copy)]
 pub(crate) struct Given {
     pub(crate) start: usize,
@@ -21,7 +21,7 @@ pub(crate) struct Given {
     pub(crate) commas: usize,
 }
 
-/// Lays where the comma marks stand over the first of the cells, and gives how many they are.
+/// Lays the places of the comma marks over the first cells, in order, and gives how many they are.
 #[inline(always)]
 pub(crate) fn lay_commas(cells: &mut [Cell]) -> usize
     requires takes { All (λ cell. IsTrue (takes_number cell)) cells.old }
@@ -39,9 +39,9 @@ pub(crate) fn lay_commas(cells: &mut [Cell]) -> usize
     count
 }
 
-// Puts the cells from place `from` up to `stop` once more at a place behind, each character as it
-// is, any other replaced by the part of its ordinal. Gives where they end, None where they would
-// reach past `last`; then cells before it may be written over.
+// Copies the cells from place `from` up to `stop` to the higher place `to`: a character as it is, and
+// the part of a gap's ordinal in place of the gap. Gives the end of the copy. None if it would pass
+// `last`; then the cells from `to` up to `last` are unspecified.
 #[inline(always)]
 pub(crate) fn fill_cells(
     cells: &mut [Cell],
@@ -69,7 +69,7 @@ pub(crate) fn fill_cells(
     let mut at = from;
     let mut to = to;
     while to + BLOCK <= last && distance(at, to) >= BLOCK {
-        copy_some_higher(cells, at, distance(at, to), BLOCK);
+        copy_at_once_higher(cells, at, distance(at, to), BLOCK);
         let run = characters_in_block(cells, at);
         let gap = at + run;
         if gap >= stop {
@@ -80,18 +80,18 @@ pub(crate) fn fill_cells(
         if run == BLOCK {
             continue;
         }
-        let (start, n) = part_of(cells, ordinal_in(cells[at]), given);
+        let (start, n) = part_numbered(cells, ordinal_in(cells[at]), given);
         if n > last - to {
             return None;
         }
-        put_part(cells, start, to, n, given);
+        put_lifted(cells, start, to, n, given);
         at += 1;
         to += n;
     }
     fill_each(cells, at, stop, to, last, given)
 }
 
-// The same, one by one.
+// Does what `fill_cells` does, cell by cell.
 #[inline(never)]
 fn fill_each(
     cells: &mut [Cell],
@@ -118,19 +118,19 @@ fn fill_each(
 {
     let mut to = to;
     for at in from..stop {
-        let (start, n) = cells_for(cells, at, given);
+        let (start, n) = filling_of(cells, at, given);
         if n > last - to {
             return None;
         }
-        put_part(cells, start, to, n, given);
+        put_lifted(cells, start, to, n, given);
         to += n;
     }
     Some(to)
 }
 
-// Puts cells once more at a place behind them, without the numbers over them.
+// Copies `n` cells to a higher place apart, without the numbers that lie over them.
 #[inline(always)]
-fn put_part(cells: &mut [Cell], start: usize, to: usize, n: usize, given: Given)
+fn put_lifted(cells: &mut [Cell], start: usize, to: usize, n: usize, given: Given)
     requires apart { start + n ≤ to }
     requires room { to + n ≤ length cells.old }
     requires bounded { length cells.old ≤ 16777216 }
@@ -143,20 +143,20 @@ fn put_part(cells: &mut [Cell], start: usize, to: usize, n: usize, given: Given)
 {
     let laid = given.start + given.commas;
     if start >= laid {
-        copy_part(cells, start, to, n);
+        put_plain(cells, start, to, n);
         return;
     }
     if n == 1 {
         cells[to] = cell_under(cells[start]);
         return;
     }
-    copy_apart_higher(cells, start, distance(start, to), n);
+    copy_short_higher(cells, start, distance(start, to), n);
     lift(&mut cells[to..to + n.min(laid - start)]);
 }
 
-// Puts cells once more at a place behind them; often it is one.
+// Copies `n` cells to a higher place apart. One cell, the commonest case, needs no call.
 #[inline(always)]
-fn copy_part(cells: &mut [Cell], start: usize, to: usize, n: usize)
+fn put_plain(cells: &mut [Cell], start: usize, to: usize, n: usize)
     requires apart { start + n ≤ to }
     requires room { to + n ≤ length cells.old }
     requires bounded { length cells.old ≤ 16777216 }
@@ -166,11 +166,11 @@ fn copy_part(cells: &mut [Cell], start: usize, to: usize, n: usize)
     if n == 1 {
         cells.copy_within(start..start + 1, to);
     } else {
-        copy_apart_higher(cells, start, distance(start, to), n);
+        copy_short_higher(cells, start, distance(start, to), n);
     }
 }
 
-// How far a place is from another: a number of 32 bits, which the compiler tests as it is.
+// How far `to` is behind `start`, as a number of 32 bits, which the compiler compares as it is.
 #[inline(always)]
 fn distance(start: usize, to: usize) -> usize
     requires order { start ≤ to }
@@ -180,9 +180,10 @@ fn distance(start: usize, to: usize) -> usize
     (to - start) as u32 as usize
 }
 
-// Where the cells begin that fill one at a place, and how many they are.
+// Where the cells begin that stand for the one at place `at`, and how many they are: a character stands
+// for itself, the part of its ordinal for a gap.
 #[inline]
-fn cells_for(cells: &[Cell], at: usize, given: Given) -> (usize, usize)
+fn filling_of(cells: &[Cell], at: usize, given: Given) -> (usize, usize)
     requires before { at < given.start }
     requires inside { given.start + given.len ≤ length cells.now }
     requires bounded { length cells.now ≤ 16777216 }
@@ -199,12 +200,13 @@ fn cells_for(cells: &[Cell], at: usize, given: Given) -> (usize, usize)
     if is_character(&cells[at]) {
         return (at, 1);
     }
-    part_of(cells, ordinal_in(cells[at]), given)
+    part_numbered(cells, ordinal_in(cells[at]), given)
 }
 
-// Where the part of a number begins, and how many cells it has.
+// Where the part of this number, from 1, begins, and how many cells it has: none if there is no such
+// part.
 #[inline(always)]
-fn part_of(cells: &[Cell], number: u32, given: Given) -> (usize, usize)
+fn part_numbered(cells: &[Cell], number: u32, given: Given) -> (usize, usize)
     requires inside { given.start + given.len ≤ length cells.now }
     requires bounded { length cells.now ≤ 16777216 }
     requires commas { let parts = slice_range cells.now given.start (given.start + given.len) in
@@ -221,14 +223,14 @@ fn part_of(cells: &[Cell], number: u32, given: Given) -> (usize, usize)
     if place > given.commas {
         return (given.start, 0);
     }
-    let from = begin_of(cells, place, given);
-    let end = end_of(cells, place, given);
+    let from = part_begin(cells, place, given);
+    let end = part_end(cells, place, given);
     (given.start + from, end - from)
 }
 
-// Where the part behind so many comma marks begins, counted from the first of the cells.
+// Where the part behind `place` comma marks begins, counted from the first of the given cells.
 #[inline(always)]
-fn begin_of(cells: &[Cell], place: usize, given: Given) -> usize
+fn part_begin(cells: &[Cell], place: usize, given: Given) -> usize
     requires place { place ≤ given.commas }
     requires inside { given.start + given.len ≤ length cells.now }
     requires bounded { length cells.now ≤ 16777216 }
@@ -243,9 +245,9 @@ fn begin_of(cells: &[Cell], place: usize, given: Given) -> usize
     number_over_laid(cells[given.start + place - 1]) as usize + 1
 }
 
-// Where it ends.
+// Where the part behind `place` comma marks ends, counted from the first of the given cells.
 #[inline(always)]
-fn end_of(cells: &[Cell], place: usize, given: Given) -> usize
+fn part_end(cells: &[Cell], place: usize, given: Given) -> usize
     requires place { place ≤ given.commas }
     requires inside { given.start + given.len ≤ length cells.now }
     requires bounded { length cells.now ≤ 16777216 }
@@ -260,7 +262,7 @@ fn end_of(cells: &[Cell], place: usize, given: Given) -> usize
     number_over_laid(cells[given.start + place]) as usize
 }
 
-// The ordinal of a gap, 0 of any other cell.
+// The ordinal of a gap, 0 for any other cell.
 #[inline]
 fn ordinal_in(cell: Cell) -> u32
     ensures { result ≡ ordinal_of cell }

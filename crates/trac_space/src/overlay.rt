@@ -1,13 +1,13 @@
-//! Numbers that lie over the cells of neutral for a while: a character and a comma mark leave 24
-//! bits of their cell free, and no place of a block needs more. So a search of a text has its list
-//! in the cells of the text itself, and takes no other.
+//! Numbers laid over cells of neutral for a while. A character or a comma mark leaves 24 bits of its
+//! cell free, enough for each place of a block. So a search for a text keeps its table in the cells of
+//! that text, and needs no other memory.
 ghost use Rattle.std.specs.Prelude.{◌≡◌, ◌<◌, IsTrue, map};
 ghost use Rattle.trac_space.specs.Cells.{IsNoCall};
 ghost use Rattle.trac_space.specs.Overlay.{takes_number, under, over, has_number};
 
-use crate::cell::{Cell, NO_NUMBER};
+use crate::cell::{Cell, UNREACHED_NUMBER};
 
-/// The character or the comma mark with a number over it.
+/// Lays a number over a character or a comma mark. `cell_under` and `number_over` read the two back.
 #[inline]
 pub fn laid(cell: Cell, number: u32) -> Cell
     requires takes { IsTrue (takes_number cell) }
@@ -23,7 +23,7 @@ pub fn laid(cell: Cell, number: u32) -> Cell
     }
 }
 
-/// The cell under a number.
+/// The character or comma mark under a number. A cell without a number stays as it is.
 #[inline]
 pub fn cell_under(cell: Cell) -> Cell
     ensures { result ≡ under cell }
@@ -35,7 +35,7 @@ pub fn cell_under(cell: Cell) -> Cell
     }
 }
 
-/// The number over a cell, 0 over one that has none.
+/// The number over a cell, or 0 if none lies there.
 #[inline]
 pub fn number_over(cell: Cell) -> u32
     ensures { result ≡ over cell }
@@ -54,7 +54,7 @@ pub(crate) fn number_over_laid(cell: Cell) -> u32
 {
     match cell {
         Cell::Head(number) | Cell::Gap(number) => number / 256,
-        _ => NO_NUMBER[0],
+        _ => UNREACHED_NUMBER[0],
     }
 }
 

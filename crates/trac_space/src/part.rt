@@ -1,6 +1,6 @@
 //! A part of a list of cells.
 
-/// The cells of a list from place `from` up to place `to`.
+/// The cells of a list from place `from` up to place `to`, which is the first behind them.
 #[derive(Clone, Copy, Debug)]
 pub struct Part {
     pub from: u32,

@@ -17,8 +17,7 @@ abbrev pub before_comma : List Cell → ℕ
 before_comma [] = 0
 before_comma (cell ∷ cells) = if is_comma cell then 0 else suc (before_comma cells)
 
--- the parts of neutral between the comma marks from a place up to another; none once the place is
--- past that
+-- the parts of neutral between the comma marks from a place up to another; none if the place is past it
 abbrev pub parts_between : List Cell → ℕ → ℕ → List (ℕ × ℕ)
 parts_between neutral from end =
     if nat_le from end then parts_at from from (slice_range neutral from end) else []

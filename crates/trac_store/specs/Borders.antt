@@ -18,7 +18,7 @@ pub record IsBorder (text : List ℕ) (n b : ℕ) : Type 0 where
   pub within : b ≤ n
   pub same : (k : ℕ) → k < b → byte_at text k ≡ byte_at text (n - b + k)
 
--- no other less than n does so with more characters
+-- no other number of characters below n that does so is greater
 pub record IsLongestBorder (text : List ℕ) (n b : ℕ) : Type 0 where
   pub shorter : b < n
   pub border : IsBorder text n b
@@ -42,12 +42,12 @@ pub record AreLaid (was now : List Cell) (a b : ℕ) : Type 0 where
   pub borders : HaveBorders (slice_range now a b) (b - a)
   pub long : length now ≡ length was
 
--- such a beginning, of b characters, goes on with the cell behind the first n
+-- the first b characters end the first n, and the text goes on from them with the cell
 pub record GoesOn (text : List ℕ) (n : ℕ) (cell : Cell) (b : ℕ) : Type 0 where
   pub border : IsBorder text n b
   pub next : is_byte (byte_at text b) cell ≡ true
 
--- the most characters of such a beginning with that cell, 0 where none goes on
+-- the length of the longest such beginning with that cell, 0 if none goes on
 pub record IsNextBorder (text : List ℕ) (n : ℕ) (cell : Cell) (next : ℕ) : Type 0 where
   pub some : 0 < next → GoesOn text n cell (next - 1)
   pub most : (b : ℕ) → GoesOn text n cell b → b < next

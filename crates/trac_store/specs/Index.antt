@@ -9,12 +9,12 @@ use Rattle.trac_space.specs.declared.cell.Cell.TheVariants.{Byte, Call, Comma, G
 use Rattle.trac_store.specs.Forms.{name_at}
 use Rattle.trac_store.specs.FlatForms.{flat_forms}
 
--- the characters of a name, mixed to a number of 64 bits
+-- the characters of a name mixed into a number of 64 bits
 abbrev pub mixed : Text → ℕ
 mixed [] = 0
 mixed (c ∷ name) = (mixed name + c) % 2 ^ 64 * 11400714819323198485 % 2 ^ 64
 
--- its upper half: where the search for a name begins
+-- the hash of a name, the upper half of that number: there the search for the name begins
 abbrev pub hash : Text → ℕ
 hash name = mixed name / 2 ^ 32
 
@@ -35,7 +35,7 @@ home_place table k = slots table + quarter table + k
 abbrev pub cell_at : List Cell → ℕ → Cell
 cell_at table i = slice_index_or table i (Byte 0)
 
--- the slot that is looked at after so many others
+-- the slot that a search from a hash looks at after i others
 abbrev pub slot : List Cell → ℕ → ℕ → ℕ
 slot table number i = bit_and (number + i) (slots table - 1)
 
@@ -55,7 +55,7 @@ is_open Comma = true
 is_open (Gap _) = true
 is_open (Head _) = false
 
--- a slot comes for a number after so many others, none of which is blank
+-- a search from a hash comes to slot s after `after` others, none of them blank
 pub record IsReached (table : List Cell) (number s after : ℕ) : Type 0 where
   pub within : after < slots table
   pub slot_is : s ≡ slot table number after
@@ -90,15 +90,15 @@ IsIndex table forms =
     IsIndexBut table (length forms) (length forms) (name_at forms)
     (λ k. length (flat_forms (take k forms)))
 
--- where there is a table it is one of the forms
+-- there is no table, or it is one of the forms
 abbrev pub IsIndexed : List Cell → List Form → Type 0
 IsIndexed table forms = 0 < length table → IsIndex table forms
 
--- the spare list is as it was, or let go
+-- the spare list is as it was, or dropped
 abbrev pub IsKept : List Cell → List Cell → Type 0
 IsKept was now = (now ≡ was) ⊎ (now ≡ [])
 
--- an open slot comes first for a name of that number
+-- the slot is the first open one for a name of that hash
 pub record IsOpenAfter (table : List Cell) (number s after : ℕ) : Type 0 where
   pub reached : IsReached table number s after
   pub free : is_open (cell_at table s) ≡ true
@@ -112,7 +112,7 @@ with_entry table s k start =
     set (set (set table s (Head k)) (start_place table k) (Head start))
     (home_place table k) (Head s)
 
--- the number in a cell of the table, 0 where it has none
+-- the number in a cell of the table, 0 if it has none
 abbrev pub number_of : Cell → ℕ
 number_of (Byte _) = 0
 number_of (Call _ _) = 0
@@ -130,11 +130,11 @@ home_in table k = number_of (cell_at table (home_place table k))
 abbrev pub buried : List Cell → ℕ → List Cell
 buried table k = set table (home_in table k) Comma
 
--- the table with form k one place forward, and beginning so many cells earlier
+-- the table with form k renumbered as form k - 1, which begins so many cells lower
 abbrev pub forward : List Cell → ℕ → ℕ → List Cell
 forward table k less = with_entry table (home_in table k) (k - 1) (start_in table k - less)
 
--- the table with form k beginning so many cells earlier
+-- the table with form k beginning so many cells lower
 abbrev pub earlier : List Cell → ℕ → ℕ → List Cell
 earlier table k less = set table (start_place table k) (Head (start_in table k - less))
 

@@ -18,15 +18,15 @@ is_among names form = list_any (bytes_eq form.name) names
 abbrev pub without_all : List Text → List Form → List Form
 without_all names forms = filter (λ form. not (is_among names form)) forms
 
--- the pointer of a form that is to go, greater than the length of any body
+-- the pointer of a marked form, greater than the length of any body
 abbrev pub mark : ℕ
 mark = 4294967295
 
--- whether the form is to go
+-- whether the form is marked
 abbrev pub is_marked : Form → Bool
 is_marked form = form.pointer == mark
 
--- the form with that pointer
+-- the form, marked
 abbrev pub marked : Form → Form
 marked form = record form { pointer = mark }
 
@@ -37,7 +37,7 @@ marked_if listed form = if listed then marked form else form
 abbrev pub with_marks : List Text → List Form → List Form
 with_marks names forms = map (λ form. marked_if (is_among names form) form) forms
 
--- the forms that stay
+-- the forms that aren't marked
 abbrev pub unmarked : List Form → List Form
 unmarked forms = filter (λ form. not (is_marked form)) forms
 
@@ -55,7 +55,7 @@ pub record IsFormed (s : Lists) (count last start : ℕ) : Type 0 where
   pub distinct : HaveOwnNames (forms_in s.store)
   pub index : IsIndexed s.spare (forms_in s.store)
 
--- the first form with a mark, if there is one, is that at place k or behind it, and that begins there
+-- no form before form k is marked, and form k begins at `start`
 pub record IsMarkedFrom (forms : List Form) (k start : ℕ) : Type 0 where
   pub place : IsPlace forms k start
   pub plain : (j : ℕ) → j < k → is_marked (form_at forms j) ≡ false

@@ -11,7 +11,7 @@ use Rattle.trac_space.specs.Texts.{text_of_cells}
 use Rattle.trac_store.specs.FlatForms.{flat_forms}
 use Rattle.trac_store.specs.Forms.{IsNamedAt}
 
--- the item of a cell, a gap of ordinal 0 of one that is none
+-- the item in a cell, a gap of ordinal 0 if it holds none
 abbrev pub item_of : Cell → Item
 item_of (Byte b) = item.Byte b
 item_of (Call _ _) = item.Gap 0

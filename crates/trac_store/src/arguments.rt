@@ -1,10 +1,10 @@
-//! Where the first comma mark stands: there an argument of a call ends.
+//! Finds the first comma mark, where an argument of a call ends.
 ghost use Rattle.std.specs.Prelude.{◌≡◌, ◌+◌, ◌≤◌, length, drop};
 ghost use Rattle.trac_store.specs.Arguments.{before_comma};
 
 use trac_space::{Cell, are_characters};
 
-/// How many cells stand before the first comma mark.
+/// How many cells stand before the first comma mark; all of them if there is none.
 #[inline]
 pub fn before_comma(cells: &[Cell]) -> u32
     requires { length cells.now ≤ 16777216 }
@@ -28,7 +28,8 @@ pub fn before_comma(cells: &[Cell]) -> u32
     before_far_comma(cells)
 }
 
-// The same, where none stands among the first four: eight in a turn.
+// How many cells stand before the first comma mark, if the first four are none. Looks at eight cells in
+// a turn.
 #[inline(never)]
 fn before_far_comma(cells: &[Cell]) -> u32
     requires few { length cells.now ≤ 16777216 }
@@ -43,7 +44,8 @@ fn before_far_comma(cells: &[Cell]) -> u32
     i as u32 + before_near_comma(&cells[i..])
 }
 
-// The same, of few cells.
+// How many cells stand before the first comma mark; all of them if there is none. Looks at two cells in
+// a turn.
 #[inline]
 fn before_near_comma(cells: &[Cell]) -> u32
     requires { length cells.now ≤ 16777216 }

@@ -1,6 +1,7 @@
-//! The search for a text in one pass, by the borders of its beginnings: what of it stands again
-//! where it doesn't go on. They lie over the cells of the text itself while the search runs.
-ghost use Rattle.std.specs.Prelude.{◌≡◌, ◌≤◌, ◌<◌, ◌-◌, length, slice_range, MatchOption};
+//! Searches for a text in one pass, by the method of Knuth, Morris and Pratt. A border of a beginning of
+//! the text is a shorter beginning that also ends it; where the text doesn't go on, the search goes on
+//! from the border. The lengths of the borders lie over the cells of the text while the search runs.
+ghost use Rattle.std.specs.Prelude.{◌≡◌, ◌≤◌, ◌<◌, ◌-◌, length, MatchOption};
 ghost use Rattle.trac_store.specs.Borders.{laid_text, HaveBorders, AreLaid, IsNextBorder};
 ghost use Rattle.trac_store.specs.Gaps.{text_cells_at};
 ghost use Rattle.trac_store.specs.Parts.{IsTextPart};
@@ -9,7 +10,8 @@ ghost use Rattle.trac_store.specs.Search.{NonePasses, IsFirst};
 use crate::gap_making::is_same_byte;
 use trac_space::{Cell, Part, Space, cell_under, laid, number_over};
 
-// How many characters of the text stand up to the cell, where so many of them stand before it.
+// The length of the longest beginning of the text that ends with `cell`, if the longest one that ends
+// just before it has `before` characters.
 #[inline]
 fn next_border(text: &[Cell], before: u32, cell: Cell) -> u32
     requires within { before < length text.now }
@@ -27,8 +29,8 @@ fn next_border(text: &[Cell], before: u32, cell: Cell) -> u32
     border + 1
 }
 
-// The first place at `from` or after from which the cells begin with the text, over which its
-// borders lie. None where there is none.
+// The first place at `from` or after where the text stands among the cells. None if there is none. The
+// borders of the text lie over it.
 pub(crate) fn first_place(cells: &[Cell], from: u32, text: &[Cell]) -> Option<u32>
     requires within { from ≤ length cells.now }
     requires bounded { length cells.now ≤ 16777216 }
@@ -50,8 +52,8 @@ pub(crate) fn first_place(cells: &[Cell], from: u32, text: &[Cell]) -> Option<u3
     None
 }
 
-// Lays the longest border of each beginning of a text, a part of neutral, over the cell at which
-// the beginning ends.
+// Lays the length of the longest border of each beginning of a text, a part of neutral, over the last
+// cell of that beginning.
 pub(crate) fn lay_borders(space: &mut Space, part: Part)
     requires text_part { IsTextPart space.old.neutral part.from part.to }
     requires bounded { part.to ≤ 16777216 }

@@ -1,7 +1,7 @@
-//! Forms in the cells of a store: where they stand, and how they are found and read.
+//! Finds and reads forms in the cells of a store.
 //!
-//! A search is told the form that was used last and where it begins. Reading that form costs no walk
-//! over the others, and reading the forms in turn costs one walk in all.
+//! A search takes the form that was used last. To read that form again costs no walk over the others,
+//! and to read all forms in order costs one walk.
 ghost use Rattle.std.specs.Prelude.{◌≡◌, ◌+◌, ◌-◌, ◌≤◌, ◌<◌, [], length, map, slice_range};
 ghost use Rattle.std.specs.Prelude.{slice_index_or, All, Some, MatchOption, Decides, IsTrue};
 ghost use Rattle.trac_language.specs.Store.{NoneNamed};
@@ -19,7 +19,7 @@ use crate::located::{FIRST_FORM, Located};
 use trac_language::Item;
 use trac_space::{Cell, Part, Space, byte_in};
 
-/// The number in the head cell at place `i` of the store, 0 where no head cell stands there.
+/// The number in the head cell at place `i` of the store, 0 if no head cell stands there.
 #[inline]
 pub fn head(space: &Space, i: u32) -> u32
     ensures { result ≡ head_at space.now.store i }
@@ -30,7 +30,8 @@ pub fn head(space: &Space, i: u32) -> u32
     }
 }
 
-/// The numbers in the head cells of a form: the lengths of its name and of its body, and its pointer.
+/// The numbers in the three head cells of a form: the lengths of its name and of its body, in cells, and
+/// its pointer, a place in the body.
 #[derive(Clone, Copy)]
 pub struct Heads {
     pub name: u32,
@@ -38,7 +39,8 @@ pub struct Heads {
     pub pointer: u32,
 }
 
-/// The heads of the form that begins at a place of the store.
+/// The numbers in the three cells from place `start` of the store on, where a form begins. A cell that is
+/// no head gives 0.
 #[inline]
 pub fn heads_at(space: &Space, start: u32) -> Heads
     requires within { start + 3 ≤ length space.now.store }
@@ -55,7 +57,7 @@ pub fn heads_at(space: &Space, start: u32) -> Heads
     }
 }
 
-/// The heads of a form whose place is known: they need no test.
+/// The three head numbers of a form whose place is known. The cells are read without a test.
 #[inline]
 pub fn heads_of(space: &Space, form: Located) -> Heads
     requires forms { AreForms space.now.store }
@@ -73,7 +75,7 @@ pub fn heads_of(space: &Space, form: Located) -> Heads
     }
 }
 
-/// The item in the cell at place `i` of the store, a gap of ordinal 0 where none stands there.
+/// The item in the cell at place `i` of the store. A gap of ordinal 0 if no item stands there.
 pub fn item_in(space: &Space, i: u32) -> Item
     ensures { result ≡ stored_item space.now.store i }
 {
@@ -83,7 +85,7 @@ pub fn item_in(space: &Space, i: u32) -> Item
     }
 }
 
-/// The item of a cell, a gap of ordinal 0 of one that is none.
+/// The item in a cell. A gap of ordinal 0 if the cell holds no item.
 pub fn item_of(cell: &Cell) -> Item
     ensures { result ≡ item_of cell.now }
 {
@@ -94,7 +96,7 @@ pub fn item_of(cell: &Cell) -> Item
     }
 }
 
-// Where form `k` begins in the store, which stands at the place of another or behind it.
+// Where form `k` begins in the store. Walks there from a form that doesn't stand behind it.
 fn walk(space: &Space, from: Located, k: u32) -> u32
     requires forms { AreForms space.now.store }
     requires begins { from.start ≡ start_of (forms_in space.now.store) from.number }
@@ -109,8 +111,8 @@ fn walk(space: &Space, from: Located, k: u32) -> u32
     start
 }
 
-/// Where form `k` begins in the store. Costs a walk from the form used last, or from the first one
-/// where that stands behind form `k`.
+/// Where form `k` begins in the store. Walks there from the form used last, or from the first form if the
+/// one used last stands behind form `k`.
 #[inline]
 pub fn place_of(space: &Space, last: Located, k: u32) -> u32
     requires forms { AreForms space.now.store }
@@ -127,7 +129,7 @@ pub fn place_of(space: &Space, last: Located, k: u32) -> u32
     }
 }
 
-// The number in a head cell.
+// The number in a head cell, 0 for any other cell.
 #[inline]
 pub(crate) fn number(cell: Cell) -> u32
     ensures { result ≡ head_number (Some cell) }
@@ -138,15 +140,16 @@ pub(crate) fn number(cell: Cell) -> u32
     }
 }
 
-// What an arm reads that is never reached: nothing, so that the compiler makes no test for it.
-const NO_NUMBER: [u32; 0] = [];
+// A match arm that is never reached reads from this array without elements, so the compiler leaves out
+// the test for that arm.
+const UNREACHED_NUMBER: [u32; 0] = [];
 
-/// How many forms are too few for a search to start at the form used last.
+/// A search starts at the form used last only if there are at least this many forms.
 pub const FEW_FORMS: u32 = 8;
-// From how many forms on an index of them is made and used.
+// An index is made and used only if there are at least this many forms.
 pub(crate) const FORMS_FOR_INDEX: u32 = 12;
 
-/// The number in a cell that is a head.
+/// The number in a head cell, read without a test.
 #[inline]
 pub fn number_in_head(cell: Cell) -> u32
     requires { cell ≡ Head (head_number (Some cell)) }
@@ -154,11 +157,11 @@ pub fn number_in_head(cell: Cell) -> u32
 {
     match cell {
         Cell::Head(number) => number,
-        _ => NO_NUMBER[0],
+        _ => UNREACHED_NUMBER[0],
     }
 }
 
-// Whether the characters are those of a text that is as long.
+// Whether two texts of the same length have the same characters.
 #[inline]
 pub(crate) fn is_text(cells: &[Cell], text: &[Cell]) -> bool
     requires cell_bytes { All IsByte cells.now }
@@ -174,7 +177,8 @@ pub(crate) fn is_text(cells: &[Cell], text: &[Cell]) -> bool
     true
 }
 
-// The same, from the last character on, where most texts differ.
+// Whether two texts of the same length have the same characters. Compares the last ones first: most names
+// differ there.
 #[inline(always)]
 fn is_text_back(cells: &[Cell], text: &[Cell]) -> bool
     requires cell_bytes { All IsByte cells.now }
@@ -192,8 +196,8 @@ fn is_text_back(cells: &[Cell], text: &[Cell]) -> bool
     true
 }
 
-// Whether the `len` cells from place `from` on are the text, of which `last` is the last
-// character: most names differ there.
+// Whether the `len` cells from place `from` on are the text, whose last character is `last`. Compares the
+// last characters first: most names differ there.
 #[inline]
 fn is_text_at(cells: &[Cell], from: usize, len: usize, text: &[Cell], last: u8) -> bool
     requires within { from + len ≤ length cells.now }
@@ -227,7 +231,7 @@ fn is_named(store: &[Cell], form: Located, name: &[Cell]) -> bool
     len == name.len() && is_text_back(&store[start + 3..start + 3 + len], name)
 }
 
-/// Whether the first form has the name that is the part of neutral.
+/// Whether the first form has the name that stands in a part of neutral. There must be a form.
 #[inline(always)]
 pub fn is_first_named(space: &Space, count: u32, part: Part) -> bool
     requires forms { AreForms space.now.store }
@@ -241,7 +245,7 @@ pub fn is_first_named(space: &Space, count: u32, part: Part) -> bool
     is_named(store, FIRST_FORM, space.neutral_part(part.from, part.to))
 }
 
-// The form of the null name among the cells of the store.
+// The form with the null name. None if no form has it.
 fn find_null(store: &[Cell], count: u32) -> Option<Located>
     requires whole { flat_forms (forms_in (map seen store.now)) ≡ map seen store.now }
     requires bounded { length store.now ≤ 16777216 }
@@ -264,9 +268,10 @@ fn find_null(store: &[Cell], count: u32) -> Option<Located>
     None
 }
 
-// The form of a name that is not null among those from one on, up to place `end` of the list.
+// The form with this name, which isn't null, among those from `from` up to number `end`. None if none of
+// these has it.
 #[inline(always)]
-fn search_some(store: &[Cell], from: Located, end: u32, name: &[Cell]) -> Option<Located>
+fn find_between(store: &[Cell], from: Located, end: u32, name: &[Cell]) -> Option<Located>
     requires whole { flat_forms (forms_in (map seen store.now)) ≡ map seen store.now }
     requires bounded { length store.now ≤ 16777216 }
     requires begins { IsPlace (forms_in (map seen store.now)) from.number from.start }
@@ -297,9 +302,9 @@ fn search_some(store: &[Cell], from: Located, end: u32, name: &[Cell]) -> Option
     None
 }
 
-// The same, as a function of its own, so that its loop has the registers.
+// `find_between` as a function of its own, whose loop has all registers.
 #[inline(never)]
-fn find_some(store: &[Cell], from: Located, end: u32, name: &[Cell]) -> Option<Located>
+fn find_between_by_call(store: &[Cell], from: Located, end: u32, name: &[Cell]) -> Option<Located>
     requires whole { flat_forms (forms_in (map seen store.now)) ≡ map seen store.now }
     requires bounded { length store.now ≤ 16777216 }
     requires begins { IsPlace (forms_in (map seen store.now)) from.number from.start }
@@ -313,13 +318,13 @@ fn find_some(store: &[Cell], from: Located, end: u32, name: &[Cell]) -> Option<L
         (NoneNamed text (slice_range forms from.number end))
         (λ found. IsFoundAt forms text found.number found.start) }
 {
-    search_some(store, from, end, name)
+    find_between(store, from, end, name)
 }
 
-// The form of a name that is not null: first among those from the one used last on, then among
-// those before it.
+// The form with this name, which isn't null. None if no form has it. Looks at the forms from the one used
+// last on, and then at those before it.
 #[inline(never)]
-fn find_round(store: &[Cell], last: Located, count: u32, name: &[Cell]) -> Option<Located>
+fn find_from_last(store: &[Cell], last: Located, count: u32, name: &[Cell]) -> Option<Located>
     requires whole { flat_forms (forms_in (map seen store.now)) ≡ map seen store.now }
     requires bounded { length store.now ≤ 16777216 }
     requires count_is { count ≡ length (forms_in (map seen store.now)) }
@@ -332,16 +337,16 @@ fn find_round(store: &[Cell], last: Located, count: u32, name: &[Cell]) -> Optio
         (NoneNamed text forms)
         (λ found. IsFoundAt forms text found.number found.start) }
 {
-    match search_some(store, last, count, name) {
-        None => search_some(store, FIRST_FORM, last.number, name),
+    match find_between(store, last, count, name) {
+        None => find_between(store, FIRST_FORM, last.number, name),
         found => found,
     }
 }
 
-/// The form whose name is the part of neutral. Among many forms the search starts at the one that was
-/// used last, since the next is often that one or near behind it. None where no form has that name.
+/// The form whose name stands in a part of neutral. None if no form has that name. Among many forms the
+/// search starts at the one used last, since the form sought is often that one or close behind it.
 ///
-/// To `search_cost` is added what the search has cost: forms and slots looked at beyond a few.
+/// Adds to `search_cost` how many forms and slots the search looked at beyond a few.
 #[inline(always)]
 pub fn find_named(
     space: &Space,
@@ -364,7 +369,8 @@ pub fn find_named(
     find_by_name(space, count, last, name, search_cost)
 }
 
-/// The same, of a name that need not stand in the block.
+/// The form with this name, which needn't stand in the block. None if no form has it. Searches, and adds to
+/// `search_cost`, as `find_named` does.
 #[inline(always)]
 pub fn find_by_name(
     space: &Space,
@@ -391,14 +397,15 @@ pub fn find_by_name(
         return find_null(store, count);
     }
     if count < FEW_FORMS {
-        return search_some(store, FIRST_FORM, count, name);
+        return find_between(store, FIRST_FORM, count, name);
     }
-    find_round(store, last, count, name)
+    find_from_last(store, last, count, name)
 }
 
-/// The same, where there are so few forms that the search starts at the first.
+/// The form whose name stands in a part of neutral. None if no form has that name. The search starts at
+/// the first form, and is meant for a few forms.
 #[inline(always)]
-pub fn find_few(space: &Space, count: u32, part: Part) -> Option<Located>
+pub fn find_from_first(space: &Space, count: u32, part: Part) -> Option<Located>
     requires forms { AreForms space.now.store }
     requires count_is { count ≡ length (forms_in space.now.store) }
     requires name_part { IsTextPart space.now.neutral part.from part.to }
@@ -412,11 +419,11 @@ pub fn find_few(space: &Space, count: u32, part: Part) -> Option<Located>
     if name.is_empty() {
         return find_null(store, count);
     }
-    search_some(store, FIRST_FORM, count, name)
+    find_between(store, FIRST_FORM, count, name)
 }
 
-// As `find_named`, by the index if there is one. Else looks at forms beyond a few are added to
-// `search_cost`.
+// The form with this name, found by the index if there is one. None if no form has it. Adds to
+// `search_cost` how many forms and slots the search looked at beyond a few.
 #[inline(always)]
 fn find_among_many(
     space: &Space,
@@ -447,11 +454,11 @@ fn find_among_many(
         add_search_cost(search_cost, looked_at(found, count));
         return found;
     }
-    if let Some(form) = find_some(store, last, count, name) {
+    if let Some(form) = find_between_by_call(store, last, count, name) {
         add_search_cost(search_cost, form.number.wrapping_sub(last.number));
         return Some(form);
     }
-    let found = find_some(store, FIRST_FORM, last.number, name);
+    let found = find_between_by_call(store, FIRST_FORM, last.number, name);
     add_search_cost(
         search_cost,
         count
@@ -461,7 +468,8 @@ fn find_among_many(
     found
 }
 
-// How many forms a search from the first up to one has looked at.
+// How many forms a search from the first form on looked at: those before the one that it found, or before
+// number `end`.
 #[inline]
 fn looked_at(found: Option<Located>, end: u32) -> u32 {
     match found {
@@ -470,7 +478,7 @@ fn looked_at(found: Option<Located>, end: u32) -> u32 {
     }
 }
 
-// Adds what a search has cost that looked at so many forms, beyond what one by an index would.
+// Adds the forms that a search looked at to its cost, but for a few: a search by an index costs these too.
 #[inline]
 fn add_search_cost(search_cost: &mut u32, looks: u32) {
     if looks > FEW_FORMS {

@@ -1,6 +1,6 @@
-//! The cells of forms, put into the store and taken out of it.
+//! Writes the cells of forms into the store, and removes them from there.
 ghost use Rattle.std.specs.Prelude.{◌≡◌, ◌+◌, ◌-◌, ◌≤◌, ◌<◌, ◌++◌, length};
-ghost use Rattle.std.specs.Prelude.{take, drop, slice_range};
+ghost use Rattle.std.specs.Prelude.{take, drop};
 ghost use Rattle.trac_space.specs.Lists as lists;
 ghost use Rattle.trac_store.specs.FlatForms.{flat_form};
 ghost use Rattle.trac_store.specs.Parts.{IsTextPart, new_form};
@@ -10,7 +10,7 @@ ghost use Rattle.trac_store.specs.Stored.{head_at};
 use crate::form_cells::head;
 use trac_space::{Cell, Part, Space};
 
-/// Takes the form that begins at `start` out of the store.
+/// Removes the cells of the form that begins at place `start` from the store.
 pub fn remove_form(space: &mut Space, start: u32)
     requires bounded { length space.old.store ≤ 16777216 }
     requires within { let store = space.old.store in
@@ -26,7 +26,9 @@ pub fn remove_form(space: &mut Space, start: u32)
     space.remove_store(start, start + cells);
 }
 
-/// Puts the cells of a new form, of which there are `need`, at the end of the store.
+/// Appends the cells of a new form to the store: three head cells, its name and its text, both copied from
+/// neutral, and pointer 0. These are `need` cells, which must fit; the spare list is dropped if they fit
+/// only without it.
 pub fn store_form(space: &mut Space, need: u32, name: Part, text: Part)
     requires name_part { IsTextPart space.old.neutral name.from name.to }
     requires text_part { IsTextPart space.old.neutral text.from text.to }
@@ -46,7 +48,7 @@ pub fn store_form(space: &mut Space, need: u32, name: Part, text: Part)
     write_form(space, start, name, text);
 }
 
-// Writes the cells of a new form over the last ones of the store, from a place on.
+// Writes the cells of a new form over the last cells of the store, from place `start` on.
 fn write_form(space: &mut Space, start: u32, name: Part, text: Part)
     requires name_part { IsTextPart space.old.neutral name.from name.to }
     requires text_part { IsTextPart space.old.neutral text.from text.to }

@@ -10,7 +10,7 @@ ghost use Rattle.trac_store.specs.Search.{NonePasses, IsFirst};
 use crate::borders::{first_place, lay_borders};
 use trac_space::{Cell, Part, Space};
 
-// Whether both cells are the same byte.
+// Whether `cell` is a character, the one that `byte` holds.
 #[inline]
 pub(crate) fn is_same_byte(cell: Cell, byte: Cell) -> bool
     ensures { result ≡ is_byte (character_of byte) cell }
@@ -22,8 +22,8 @@ pub(crate) fn is_same_byte(cell: Cell, byte: Cell) -> bool
     }
 }
 
-// The first place of a part of the store at which the text stands, over which its borders lie. None
-// where there is none.
+// The first place in a part of the store where the text stands. None if there is none. The borders of the
+// text lie over it.
 fn next_place(space: &Space, body: Part, text: Part) -> Option<u32>
     requires order { body.from ≤ body.to }
     requires within { body.to ≤ length space.now.store }
@@ -47,8 +47,8 @@ fn next_place(space: &Space, body: Part, text: Part) -> Option<u32>
     }
 }
 
-// Makes each occurrence of a text, over which its borders lie, a gap in a part of the store, and
-// gives the new end.
+// Replaces each occurrence of the text in a part of the store by a gap, and gives the new end of the
+// part. The borders of the text lie over it.
 fn make_gaps(space: &mut Space, body: Part, text: Part, ordinal: u32) -> u32
     requires order { body.from ≤ body.to }
     requires within { body.to ≤ length space.old.store }
@@ -84,9 +84,9 @@ fn make_gaps(space: &mut Space, body: Part, text: Part, ordinal: u32) -> u32
     write
 }
 
-/// Makes each occurrence of a text, a part of neutral, from the left a gap of that ordinal in a part
-/// of the store, and gives the new end. No occurrence reaches across a gap,
-/// and a null text makes none. The cells that this frees are free at once.
+/// Replaces each occurrence of a text, a part of neutral, in a part of the store by a gap of this ordinal,
+/// from the left, and gives the new end of the part (Mooers 1966). No occurrence reaches across a gap, and
+/// a null text makes none. The cells that become free can be used at once.
 pub fn segment_store(space: &mut Space, body: Part, text: Part, ordinal: u32) -> u32
     requires order { body.from ≤ body.to }
     requires within { body.to ≤ length space.old.store }

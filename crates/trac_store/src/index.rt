@@ -1,7 +1,8 @@
-//! A table of forms in the spare list, by which a form is found from its name.
+//! The index: a table in the spare list by which a form is found from its name.
 //!
-//! Half of it are slots, in which a form's number stands where its name sends the search, or behind
-//! that. The third quarter says where each form begins, the last one which slot it has.
+//! The first half of the table is slots: a form's number stands in the slot that the hash of its name
+//! gives, or in the next open one behind it. The third quarter says where each form begins in the store,
+//! the last quarter which slot it has.
 ghost use Rattle.std.specs.Prelude.{◌≡◌, ◌≢◌, [], ◌<◌, ◌≤◌, ◌^◌, ◌+◌, ◌-◌, ◌*◌};
 ghost use Rattle.std.specs.Prelude.{ℕ, length, map, not, take, slice_range, remove, All};
 ghost use Rattle.std.specs.Prelude.{MatchOption, IfSome, IsTrue, Decides};
@@ -25,7 +26,7 @@ use trac_space::{Cell, Space, byte_in};
 // An odd number near 2^64 divided by the golden ratio.
 const MIXER: u64 = 11_400_714_819_323_198_485;
 
-// The number from which the slots of a name are counted.
+// The hash of a name: its first slot is the remainder by the number of slots.
 #[inline]
 fn hash(name: &[Cell]) -> usize
     requires { All IsByte name.now }
@@ -58,7 +59,7 @@ fn is_name(cells: &[Cell], from: usize, len: usize, text: &[Cell]) -> bool
     is_text(&cells[from..from + len], text)
 }
 
-// Where form `k` begins if it has the name, by the table.
+// Where form `k` begins, by the table, if it has this name. None if it has another.
 #[inline]
 fn start_if_named(store: &[Cell], table: &[Cell], k: u32, name: &[Cell]) -> Option<u32>
     requires whole { flat_forms (forms_in (map seen store.now)) ≡ map seen store.now }
@@ -84,8 +85,8 @@ fn start_if_named(store: &[Cell], table: &[Cell], k: u32, name: &[Cell]) -> Opti
     }
 }
 
-// The form of a name, found by the table. The slots that were looked at beyond a few are added to
-// `search_cost`.
+// Finds the form with this name by the table. None if no form has it. Adds to `search_cost` how many slots
+// the search looked at beyond a few.
 #[inline(always)]
 pub(crate) fn look_up(
     store: &[Cell],
@@ -123,14 +124,14 @@ pub(crate) fn look_up(
     None
 }
 
-// How many slots a search may look at before that counts as its cost.
+// A search looks at this many slots without cost.
 const SLOTS_AT_NO_COST: usize = 6;
 
-// How many slots are looked at for a new form before the table is given up: names that are mixed to
-// one number would make it long to fill, and no shorter to search than the forms.
+// If none of this many slots is open for a new form, the table is dropped. With many names of one hash it
+// would take long to fill, and be no faster to search than the forms.
 const MOST_SLOTS: usize = 128;
 
-// The open slot that comes first for a name of this number. None where it doesn't come soon.
+// The first open slot for a name with the hash `first`. None if `MOST_SLOTS` slots are taken.
 fn open_slot(table: &[Cell], first: usize) -> Option<u32>
     requires few { length table.now ≤ 16777216 }
     requires bounded { first < 2 ^ 32 }
@@ -158,7 +159,7 @@ fn is_taken(cell: Cell) -> bool
     }
 }
 
-// Puts a form into a slot of the table.
+// Enters a form into the table, in this slot.
 #[inline]
 fn put_entry(space: &mut Space, slot: u32, form: Located)
     requires slot { slot < slots space.old.spare }
@@ -173,7 +174,8 @@ fn put_entry(space: &mut Space, slot: u32, form: Located)
     space.set_spare_at(3 * quarter + form.number, Cell::Head(slot));
 }
 
-// Puts a form whose name has the number `first` into the table. False where no open slot comes soon.
+// Enters a form into the table, whose name has the hash `first`. False, with nothing changed, if no slot
+// near is open.
 fn add(space: &mut Space, first: usize, form: Located) -> bool
     requires bounded { first < 2 ^ 32 }
     requires place { form.number < quarter space.old.spare }
@@ -192,8 +194,8 @@ fn add(space: &mut Space, first: usize, form: Located) -> bool
     }
 }
 
-// Puts a form into the table of those before it, if there is a table. Where it has no place for the
-// form it is let go.
+// Enters a form into the table of the forms before it, if there is a table. Drops the table if it has no
+// place for the form.
 #[inline(always)]
 pub(crate) fn index_form(space: &mut Space, form: Located)
     requires forms { AreForms space.old.store }
@@ -215,8 +217,8 @@ pub(crate) fn index_form(space: &mut Space, form: Located)
     }
 }
 
-/// Puts the last form into the table of those before it, if there is a table. Where that is full a
-/// greater one is made, or it is let go.
+/// Enters the last form into the index of the forms before it, if there is an index. A full index is
+/// replaced by a larger one, or dropped if there is no room.
 #[inline(always)]
 pub fn index_last(space: &mut Space, form: Located)
     requires forms { AreForms space.old.store }
@@ -233,8 +235,7 @@ pub fn index_last(space: &mut Space, form: Located)
     }
 }
 
-// Makes a greater table of all forms in place of the one that there is, or lets that go where it doesn't
-// fit.
+// Replaces the table by a larger one of all forms, or drops it if there is no room.
 #[inline(never)]
 fn grow_index(space: &mut Space, count: u32)
     requires forms { AreForms space.old.store }
@@ -247,7 +248,7 @@ fn grow_index(space: &mut Space, count: u32)
     }
 }
 
-// Leaves the slot of form `k` to no form.
+// Frees the slot of form `k`: a search goes on past it, and a new form may take it.
 #[inline]
 fn bury(space: &mut Space, k: u32)
     requires place { k < quarter space.old.spare }
@@ -259,7 +260,7 @@ fn bury(space: &mut Space, k: u32)
     space.set_spare_at(home, Cell::Comma);
 }
 
-// Form `k` comes one place forward, and begins `cells` cells earlier.
+// Renumbers form `k` in the table as form `k - 1`, which begins `cells` cells lower.
 #[inline]
 fn bring_forward(space: &mut Space, k: u32, cells: u32)
     requires some { 0 < k }
@@ -278,7 +279,7 @@ fn bring_forward(space: &mut Space, k: u32, cells: u32)
     put_entry(space, home, form);
 }
 
-// Form `k` begins `cells` cells earlier.
+// Notes in the table that form `k` begins `cells` cells lower.
 #[inline]
 fn start_earlier(space: &mut Space, k: u32, cells: u32)
     requires place { k < quarter space.old.spare }
@@ -290,8 +291,7 @@ fn start_earlier(space: &mut Space, k: u32, cells: u32)
     space.set_spare_at(place, Cell::Head(start - cells));
 }
 
-/// Takes a form out of the table of `count` forms, if there is one: those behind it come one place
-/// forward.
+/// Removes a form from the index of `count` forms, if there is one, and renumbers those behind it.
 #[inline(always)]
 pub fn unindex(space: &mut Space, form: Located, count: u32)
     requires forms { AreForms space.old.store }
@@ -312,8 +312,8 @@ pub fn unindex(space: &mut Space, form: Located, count: u32)
     }
 }
 
-/// The forms behind form `k` begin `cells` cells earlier in the table of `count` forms, if there is
-/// one.
+/// Notes in the index of `count` forms, if there is one, that the forms behind form `k` begin `cells` cells
+/// lower.
 pub fn shift_starts(space: &mut Space, k: u32, count: u32, cells: u32)
     requires { 0 < length space.old.spare → HasStartsFrom space.old.spare k count cells }
     ensures same { space.new ≡ record space.old { spare = space.new.spare } }
@@ -333,7 +333,7 @@ pub fn shift_starts(space: &mut Space, k: u32, count: u32, cells: u32)
     }
 }
 
-/// Lets the table of `count` forms have none, or lets it go where it is much greater than they were.
+/// Empties the index of `count` forms, or drops it if it is far too large for them.
 pub fn clear_index(space: &mut Space, count: u32)
     ensures same { space.new ≡ record space.old { spare = space.new.spare } }
     ensures index { IsIndexed space.new.spare [] }
@@ -345,7 +345,7 @@ pub fn clear_index(space: &mut Space, count: u32)
     }
 }
 
-// Makes the table of all forms anew, of so many cells, which fit.
+// Makes a new table of all forms, with `cells` cells, which must fit.
 fn index_all(space: &mut Space, count: u32, cells: u32)
     requires forms { AreForms space.old.store }
     requires count_is { count ≡ length (forms_in space.old.store) }
@@ -357,7 +357,7 @@ fn index_all(space: &mut Space, count: u32, cells: u32)
     index_from(space, FIRST_FORM, count);
 }
 
-// Puts the forms from one on into the table of those before it, if there is a table.
+// Enters the forms from `first` on into the table of the forms before it, if there is a table.
 pub(crate) fn index_from(space: &mut Space, first: Located, count: u32)
     requires forms { AreForms space.old.store }
     requires count_is { count ≡ length (forms_in space.old.store) }
@@ -376,7 +376,7 @@ pub(crate) fn index_from(space: &mut Space, first: Located, count: u32)
     }
 }
 
-// Takes the forms from form `k` on out of the table of `count` forms, if there is one.
+// Removes the forms from number `k` on from the table of `count` forms, if there is one.
 pub(crate) fn unindex_from(space: &mut Space, k: u32, count: u32)
     requires order { k ≤ count }
     requires count_is { count ≡ length (forms_in space.old.store) }
@@ -394,29 +394,29 @@ pub(crate) fn unindex_from(space: &mut Space, k: u32, count: u32)
     }
 }
 
-// How many places a table has for so many forms and at least one more.
-fn places_for(count: u32) -> u32
+// How many forms a table has places for that is made for `count` forms: one more at least.
+fn index_places(count: u32) -> u32
     requires { count ≤ 67108864 }
     ensures { result ≤ 2 * count + 16 }
 {
     (count + 1).next_power_of_two().max(16)
 }
 
-// How many cells a table of so many forms has: it has places for four times as many, where so many
-// cells are enough for it, so that it isn't soon made anew.
-fn cells_for(count: u32, most: u32) -> u32
+// How many cells a table for `count` forms has. It gets places for four times as many forms if `most` cells
+// are enough for that, so that it lasts for a while.
+fn index_cells(count: u32, most: u32) -> u32
     requires { count ≤ 16777216 }
 {
-    let many = 4 * places_for(4 * count);
+    let many = 4 * index_places(4 * count);
     if many <= most {
         many
     } else {
-        4 * places_for(count)
+        4 * index_places(count)
     }
 }
 
-// Makes the table of all forms anew, where at most half of the free cells are enough for it. Gives
-// whether they are.
+// Makes a new table of all forms if half of the free cells are enough for it. False, with nothing changed,
+// if they aren't.
 pub(crate) fn index_fitting(space: &mut Space, count: u32) -> bool
     requires forms { AreForms space.old.store }
     requires count_is { count ≡ length (forms_in space.old.store) }
@@ -425,7 +425,7 @@ pub(crate) fn index_fitting(space: &mut Space, count: u32) -> bool
     ensures left { OnFalse result (space.new ≡ space.old) }
 {
     let most = space.free() / 2;
-    let cells = cells_for(count, most);
+    let cells = index_cells(count, most);
     if cells > most {
         return false;
     }
@@ -433,12 +433,11 @@ pub(crate) fn index_fitting(space: &mut Space, count: u32) -> bool
     true
 }
 
-// How many looks at a form, or at a slot, making a table costs for each form.
+// To make a table costs, for each form, as much as to look at this many forms or slots.
 const INDEX_COST: u32 = 8;
 
-/// Makes a table of the forms in free cells, by which they are found, where searches have cost more
-/// since the last one than that does: so much is `search_cost`, which begins anew then. Nothing else
-/// changes, and each call that needs its cells takes them back.
+/// Builds the index once searches have cost as much, by `search_cost`, and resets their cost. The index
+/// takes free cells, which still count as free; nothing else changes. This processor's own choice.
 #[inline]
 pub fn keep_index(space: &mut Space, count: u32, search_cost: &mut u32)
     requires forms { AreForms space.old.store }
@@ -452,7 +451,7 @@ pub fn keep_index(space: &mut Space, count: u32, search_cost: &mut u32)
     }
 }
 
-// The same, where they have cost more but for the move of active that it takes.
+// Builds the index, and resets the cost of searches, if that also pays for the move of active.
 #[inline(never)]
 fn index_worthwhile(space: &mut Space, count: u32, search_cost: &mut u32)
     requires forms { AreForms space.old.store }

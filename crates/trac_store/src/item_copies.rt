@@ -1,25 +1,20 @@
-//! Bodies of forms, their gaps filled, put at the end of neutral, and such without gaps, put before
-//! active.
+//! Copies bodies of forms: to the end of neutral with their gaps filled, and to the front of active if
+//! they have no gap.
 ghost use Rattle.std.specs.Prelude.{◌≡◌, ◌+◌, ◌≤◌, ◌<◌, ◌↔◌, ◌++◌};
 ghost use Rattle.std.specs.Prelude.{length, map, slice_range, All, IsTrue, MatchOption};
 ghost use Rattle.std.specs.Bool.{OnTrue, OnFalse};
-ghost use Rattle.trac_language.specs.Store.{IsStore};
-ghost use Rattle.trac_language.specs.Form.{text_of};
 ghost use Rattle.trac_space.specs.Cells.{NoCall};
 ghost use Rattle.trac_space.specs.Filled.{HaveCommas, filled};
 ghost use Rattle.trac_space.specs.Lists.{used as cells_used, claimed};
 ghost use Rattle.trac_space.specs.Overlay.{under};
 ghost use Rattle.trac_space.specs.Texts.{flat_text, IsByte};
-ghost use Rattle.trac_store.specs.Loading.{called_part, AreCharacters};
 ghost use Rattle.trac_store.specs.Arguments.{AreParted, filled_cells};
-ghost use Rattle.trac_store.specs.FlatForms.{flat_forms};
 ghost use Rattle.trac_store.specs.Index.{IsKept};
-ghost use Rattle.trac_store.specs.Stored.{forms_in, start_of};
 
 use trac_space::{Part, Space};
 
-/// Puts items of the store before active, where they are all characters and fit, and gives how many
-/// they are. None where it does not put them.
+/// Copies items of the store to the front of active if all of them are characters and fit, and gives how
+/// many they are. None, with nothing changed, if it didn't copy them.
 #[inline(always)]
 pub fn load_items(space: &mut Space, items: Part) -> Option<u32>
     requires order { items.from ≤ items.to }
@@ -45,7 +40,7 @@ pub fn load_items(space: &mut Space, items: Part) -> Option<u32>
     }
 }
 
-// The same where the spare list may be in the way.
+// Does what `load_items` does where the items don't fit beside the spare list.
 #[inline(never)]
 fn load_items_over_spare(space: &mut Space, items: Part) -> Option<u32>
     requires order { items.from ≤ items.to }
@@ -64,9 +59,9 @@ fn load_items_over_spare(space: &mut Space, items: Part) -> Option<u32>
     Some(size)
 }
 
-/// Puts items of the store at the end of neutral, each gap of ordinal k replaced by the k-th, from 1,
-/// of the texts between the comma marks of a part of neutral, and by nothing where there is none.
-/// False where they don't fit.
+/// Copies items of the store to the end of neutral, each gap k replaced by argument k: the k-th, from 1,
+/// of the texts between the comma marks of a part of neutral, or nothing if there is no such text (Mooers
+/// 1966). False if the copy doesn't fit; then at most the spare list has been dropped.
 #[inline(always)]
 pub fn fill_items(space: &mut Space, items: Part, texts: Part) -> bool
     requires order { items.from ≤ items.to }
@@ -90,13 +85,13 @@ pub fn fill_items(space: &mut Space, items: Part, texts: Part) -> bool
     }
     let gap = items.from + space.characters_from(items.from, items.to);
     if gap == items.to {
-        return space.copy_short(items.from, items.to);
+        return space.copy_store_inline(items.from, items.to);
     }
     fill_gaps(space, items, texts)
 }
 
-// The same, where there may be gaps among them: the places of the comma marks lie meanwhile over
-// the texts.
+// Does what `fill_items` does where gaps may be among the items. Meanwhile the places of the comma marks
+// lie over the texts.
 #[inline(always)]
 fn fill_gaps(space: &mut Space, items: Part, texts: Part) -> bool
     requires order { items.from ≤ items.to }
@@ -124,9 +119,9 @@ fn fill_gaps(space: &mut Space, items: Part, texts: Part) -> bool
     filled
 }
 
-// Puts items of the store at the end of neutral, each gap replaced
-// by the part of its ordinal of those between so many comma marks, whose places lie over the given
-// cells of neutral. False where they don't fit. The spare list is let go where it is in their way.
+// Copies items of the store to the end of neutral, each gap k replaced by argument k: the k-th part, from
+// 1, of the given cells of neutral, over which the places of their `commas` comma marks lie. False if the
+// copy doesn't fit. Drops the spare list if the copy fits only without it.
 #[inline(always)]
 fn put_filled(space: &mut Space, items: Part, given: Part, commas: u32) -> bool
     requires order { items.from ≤ items.to }

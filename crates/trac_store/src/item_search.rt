@@ -1,4 +1,4 @@
-//! Places among the cells of a body.
+//! Finds gaps, characters and texts among the cells of a body.
 ghost use Rattle.std.specs.Prelude.{◌≡◌, ◌-◌, ◌≤◌, ◌<◌, length, MatchOption};
 ghost use Rattle.std.specs.Prelude.{slice_range};
 ghost use Rattle.trac_space.specs.Texts.{byte_cell_at};
@@ -18,7 +18,7 @@ fn is_gap(cell: &Cell) -> bool
     matches!(cell, Cell::Gap(_))
 }
 
-/// The place of the first gap at `from` or after. None where there is none.
+/// The place of the first gap at `from` or after. None if there is none.
 #[inline]
 pub fn first_gap(cells: &[Cell], from: u32) -> Option<u32>
     requires within { from ≤ length cells.now }
@@ -35,7 +35,7 @@ pub fn first_gap(cells: &[Cell], from: u32) -> Option<u32>
     None
 }
 
-/// The place of the first character at `from` or after. None where there is none.
+/// The place of the first character at `from` or after. None if there is none.
 pub fn first_character(cells: &[Cell], from: u32) -> Option<u32>
     requires within { from ≤ length cells.now }
     requires bounded { length cells.now ≤ 16777216 }
@@ -51,7 +51,7 @@ pub fn first_character(cells: &[Cell], from: u32) -> Option<u32>
     None
 }
 
-/// The place of the last character before `from`. None where there is none.
+/// The place of the last character before `from`. None if there is none.
 pub fn last_character(cells: &[Cell], from: u32) -> Option<u32>
     requires within { from ≤ length cells.now }
     ensures { MatchOption result
@@ -68,11 +68,11 @@ pub fn last_character(cells: &[Cell], from: u32) -> Option<u32>
     None
 }
 
-/// The first place at `from` or after at which the part of neutral stands in a part of the store.
-/// None where there is none.
+/// The first place at `from` or after where a text, a part of neutral, stands in a part of the store. None
+/// if there is none.
 ///
-/// Places count from the first of the cells of the store. One pass over the cells of the store, and two over the
-/// part; afterwards nothing has changed.
+/// Places count from the beginning of the part of the store. The search takes one pass over that part and
+/// two over the text. Afterwards nothing has changed.
 pub fn find_text(space: &mut Space, body: Part, from: u32, part: Part) -> Option<u32>
     requires order { body.from ≤ body.to }
     requires within { body.to ≤ length space.old.store }

@@ -1,7 +1,7 @@
-//! Forms as cells in the lists of a `Space`. The store has the forms, one behind the other, and
-//! nothing else; the spare list has an index of them, or nothing.
+//! Forms as cells in the lists of a `Space`. The store holds the forms, one behind the other, and
+//! nothing else. The spare list holds an index of them, or nothing.
 //!
-//! A form is named by its place in the list of forms and by the place of the store where it begins.
+//! Calls name a form by its number in the list of forms and by the place in the store where it begins.
 //! Places and lengths count cells.
 //!
 //! Forms, their gaps with ordinals, segmenting and the form pointer are those of Mooers, "TRAC, A
@@ -22,8 +22,8 @@ mod marked_forms;
 
 pub use arguments::before_comma;
 pub use form_cells::{
-    FEW_FORMS, Heads, find_by_name, find_few, find_named, head, heads_at, heads_of, is_first_named,
-    item_in, item_of, number_in_head, place_of,
+    FEW_FORMS, Heads, find_by_name, find_from_first, find_named, head, heads_at, heads_of,
+    is_first_named, item_in, item_of, number_in_head, place_of,
 };
 pub use form_writing::{remove_form, store_form};
 pub use gap_making::segment_store;

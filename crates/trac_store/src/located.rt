@@ -1,8 +1,8 @@
 //! Forms whose place in the store is known.
 
-/// A form, by its place in the list of forms and the place of the store where it begins.
+/// A form: its number in the list, from 0, and the place in the store where it begins.
 ///
-/// Behind the last form it is the number of forms, and the length of the store.
+/// Past the last form, these are the number of forms and the length of the store.
 #[derive(Clone, Copy, Debug)]
 pub struct Located {
     pub number: u32,

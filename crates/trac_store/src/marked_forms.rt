@@ -1,7 +1,7 @@
-//! Forms of several names, taken out of the store in one pass.
+//! Removes the forms of several names from the store in one pass.
 //!
-//! A form that is to go gets a pointer that no form has, and is still found by its name. Then what
-//! stays moves over what goes.
+//! Each of them is marked first, by a pointer that no form can have; searches still find it by its name.
+//! Then the forms that stay move over the marked ones.
 ghost use Rattle.std.specs.Prelude.{◌≡◌, ◌∷◌, [], ◌++◌, ◌+◌, ◌-◌, ◌≤◌};
 ghost use Rattle.std.specs.Prelude.{length, take, drop};
 ghost use Rattle.std.specs.Prelude.{slice_range, ◌⊎◌};
@@ -18,11 +18,11 @@ use crate::index::{index_from, keep_index, unindex_from};
 use crate::located::Located;
 use trac_space::{Cell, Part, Space};
 
-// The pointer of a form that is to go.
+// The pointer of a marked form.
 const MARK: u32 = u32::MAX;
 
-/// Marks each form whose name stands between two comma marks of a part of neutral. Gives a form
-/// before which none has a mark. `last` and `search_cost` are those of `find_named`.
+/// Marks each form whose name stands between the comma marks of a part of neutral. Gives a form before
+/// which no form is marked. `last` and `search_cost` are those of `find_named`.
 pub fn mark_all(
     space: &mut Space,
     count: u32,
@@ -55,14 +55,14 @@ pub fn mark_all(
     places.first
 }
 
-// The form used last, and one before which no form has a mark.
+// `last` is the form used last; no form before `first` is marked.
 #[derive(Clone, Copy)]
 struct Marking {
     last: Located,
     first: Located,
 }
 
-// Marks the form whose name is the part of neutral, if there is one.
+// Marks the named form, if there is one. `last` is the form used last; no form before `first` is marked.
 fn mark_named(
     space: &mut Space,
     count: u32,
@@ -100,8 +100,8 @@ fn earlier(a: Located, b: Located) -> Located
     if b.number < a.number { b } else { a }
 }
 
-/// Takes the marked forms out of the store and of the index, none of which stands before `first`.
-/// Gives how many there are then.
+/// Removes the marked forms from the store and from the index, and gives how many forms are left. No form
+/// before `first` is marked.
 pub fn take_out_marked(space: &mut Space, first: Located, count: u32) -> u32
     requires forms { AreForms space.old.store }
     requires count_is { count ≡ length (forms_in space.old.store) }
@@ -118,8 +118,8 @@ pub fn take_out_marked(space: &mut Space, first: Located, count: u32) -> u32
     count
 }
 
-// Takes the marked forms out of the store, none of which stands before `first`, and gives how many
-// there are then.
+// Removes the marked forms from the store, and gives how many forms are left. No form before `first` is
+// marked.
 fn remove_marked(space: &mut Space, first: Located, count: u32) -> u32
     requires forms { AreForms space.old.store }
     requires count_is { count ≡ length (forms_in space.old.store) }
@@ -148,8 +148,8 @@ fn remove_marked(space: &mut Space, first: Located, count: u32) -> u32
     kept
 }
 
-// Moves what stands behind the gap up to place `from` to where the gap begins. Gives the gap then,
-// which has the cells up to `end`.
+// Moves the cells between the gap and place `from` to the beginning of the gap. Gives the new gap, which
+// ends at `end`. Here a gap is cells of the store that are to be removed.
 fn move_gap(space: &mut Space, gap: Part, from: u32, end: u32) -> Part
     requires gap { gap.from ≤ gap.to }
     requires order { gap.to ≤ from }

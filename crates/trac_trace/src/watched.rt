@@ -45,16 +45,11 @@ pub fn watched<I: Source>(
     let mut findings = of_script(alloc, input)?;
     loop {
         let before = watch.look(&machine, input)?;
-        let fate = machine.step(source, &mut printed);
+        machine.step(source, &mut printed);
         printed.clear();
         watch.tell(&before, &machine, input)?;
         keep_warnings(&mut watch, &mut findings)?;
-        if let Some(fate) = fate {
-            let report = Report {
-                fate,
-                steps: machine.steps(),
-                peak: machine.peak(),
-            };
+        if let Some(report) = machine.report() {
             return Ok(WatchedRun {
                 watch,
                 findings,

@@ -16,7 +16,7 @@ EachIs p text = EachIndex text (λ k. p (slice_index text k) ≡ true)
 abbrev pub IsDecimal : List Cell → Type 0
 IsDecimal cells = EachIs is_ascii_digit (text_of_cells cells)
 
--- the number that cells which are decimal digits are
+-- the number of cells that are decimal digits
 abbrev pub decimal_value : List Cell → ℕ
 decimal_value cells = digits_value 10 (text_of_cells cells)
 
@@ -36,7 +36,7 @@ signed negative size = if negative then neg_ℤ (pos size) else pos size
 abbrev pub padded_text : ℕ → Text → Text
 padded_text long text = replicate (long - length text) 48 ++ text
 
--- the value of the digits before a place, counted in a
--- number of so many digits that these are the last of
+-- the value of the digits before a place of a number that is filled with zeros at the left up to `long`
+-- digits
 abbrev pub value_upto : Text → ℕ → ℕ → ℕ
 value_upto digits long place = digits_value 10 (take (place + length digits - long) digits)

@@ -39,10 +39,9 @@ pub fn octal_digits(cells: &[Cell]) -> &[Cell]
     cells.split_at(octal_digits_start(cells)).1
 }
 
-/// Where the bit string at the end of a text begins, in cells: the length of its
-/// prefix. The bit string is the longest suffix of the digits 0 to 7, of three
-/// bits each, the most significant first. That bits are written as octal digits at
-/// the right end is Mooers' rule of 1966, the rest this processor's own choice.
+/// Where the bit string at the end of a text begins, in cells: the length of its prefix. The bit string is
+/// the longest suffix of the digits 0 to 7, of three bits each, the most significant first. That bits are
+/// written as octal digits at the right end is Mooers' rule of 1966, the rest this processor's own choice.
 pub fn octal_start(cells: &[Cell]) -> u32
     requires { IsText cells.now }
     ensures { result ≡ length (octal_prefix (text_of_cells cells.now)) }
@@ -50,8 +49,7 @@ pub fn octal_start(cells: &[Cell]) -> u32
     octal_digits_start(cells) as u32
 }
 
-/// The digit at a place, counted in a string of so many digits
-/// that these are the last of; the digit 0 before the first.
+/// The digit at a place of a string that is filled with zeros at the left up to `long` digits.
 fn aligned_digit(digits: &[Cell], long: usize, place: usize) -> u8
     requires octal { IsOctal digits.now }
     requires long { (length digits.now ≤ long) × (long < 2 ^ 62) }
@@ -66,8 +64,8 @@ fn aligned_digit(digits: &[Cell], long: usize, place: usize) -> u8
     }
 }
 
-/// The digit at a place of the union of the bits of digits.
-/// The characters of digits differ in their last three bits.
+/// The octal digit at place `k` of the union of two bit strings, None past its end. Computes with the
+/// characters of the digits, since these differ only in their last three bits.
 pub fn union_digit(a: &[Cell], b: &[Cell], k: u32) -> Option<u8>
     requires left { IsOctal a.now }
     requires right { IsOctal b.now }
@@ -82,7 +80,7 @@ pub fn union_digit(a: &[Cell], b: &[Cell], k: u32) -> Option<u8>
     Some(aligned_digit(a, long, place) | aligned_digit(b, long, place))
 }
 
-/// The digit at a place of the intersection of the bits of digits.
+/// The octal digit at place `k` of the intersection of two bit strings, None past its end.
 pub fn intersection_digit(a: &[Cell], b: &[Cell], k: u32) -> Option<u8>
     requires left { IsOctal a.now }
     requires right { IsOctal b.now }
@@ -98,7 +96,7 @@ pub fn intersection_digit(a: &[Cell], b: &[Cell], k: u32) -> Option<u8>
     Some(character_of(&a[place + a.len() - short]) & character_of(&b[place + b.len() - short]))
 }
 
-/// The digit at a place of the complement of the bits of digits.
+/// The octal digit at place `k` of the complement of a bit string, None past its end.
 pub fn complement_digit(digits: &[Cell], k: u32) -> Option<u8>
     requires { IsOctal digits.now }
     ensures { result ≡ slice_get (octal (complement (bits_of_cells digits.now))) k }
@@ -125,7 +123,7 @@ fn octal_digit(a: bool, b: bool, c: bool) -> u8
     b'0' + 4 * u8::from(a) + 2 * u8::from(b) + u8::from(c)
 }
 
-/// The bit at a place of a shift, 0 where there is none.
+/// The bit at a place of a shifted bit string: 0 if no bit moves there.
 fn shifted_bit(digits: &[Cell], by: Count, place: usize) -> bool
     requires octal { IsOctal digits.now }
     requires place { place < 2 ^ 62 }
@@ -139,8 +137,8 @@ fn shifted_bit(digits: &[Cell], by: Count, place: usize) -> bool
     }
 }
 
-/// The digit at a place of a shift of the bits of digits. Called, so that what it asks of the place is
-/// not worked out before the digits of other functions.
+/// The octal digit at place `k` of a shifted bit string, None past its end. It is never inlined: else the
+/// compiler computes its places first when another function's digit is asked for.
 #[inline(never)]
 pub fn shifted_digit(digits: &[Cell], by: Count, k: u32) -> Option<u8>
     requires { IsOctal digits.now }
@@ -157,7 +155,7 @@ pub fn shifted_digit(digits: &[Cell], by: Count, k: u32) -> Option<u8>
     Some(octal_digit(first, second, third))
 }
 
-/// The bit at a place of a rotation.
+/// The bit at a place of a rotated bit string.
 fn rotated_bit(digits: &[Cell], by: u32, place: usize) -> bool
     requires octal { IsOctal digits.now }
     requires by { by < 3 * length digits.now }
@@ -173,8 +171,8 @@ fn rotated_bit(digits: &[Cell], by: u32, place: usize) -> bool
     }
 }
 
-/// The digit at a place of a rotation of the bits of digits,
-/// of which there are more than by how many they move.
+/// The octal digit at place `k` of a bit string rotated to the left by `by` bits, None past its end. The
+/// string has more than `by` bits.
 #[inline(never)]
 pub fn rotated_digit(digits: &[Cell], by: u32, k: u32) -> Option<u8>
     requires octal { IsOctal digits.now }

@@ -1,10 +1,8 @@
-//! What the functions of the language make of texts,
-//! numbers and bit strings, read from slices of cells.
+//! Compares texts, and computes with the numbers and bit strings at their ends. Texts are slices of cells.
 //!
-//! Each slice is a text: all of its cells are characters, and it is no longer than a
-//! block can be, 16,777,216 cells. A number or a bit string stands at the right end
-//! of its text, behind a prefix. That they do is Mooers' rule of 1966; what exactly
-//! counts as one, and the range of arithmetic, is this processor's own choice.
+//! Each cell of such a slice is a character, and the slice is no longer than a block can be: 16,777,216
+//! cells. A number or a bit string stands at the right end of its text, behind a prefix. That is Mooers'
+//! rule of 1966; what exactly counts as one, and the range of arithmetic, is this processor's own choice.
 #![tactic(auto)]
 
 mod bit_string;

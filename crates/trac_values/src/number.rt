@@ -1,12 +1,11 @@
 //! Numbers at the end of texts.
 ghost use Rattle.std.specs.Prelude.{◌≡◌, ◌↔◌, ◌+◌, ◌*◌, ◌%◌, ◌<◌, ◌≤◌, ◌^◌};
-ghost use Rattle.std.specs.Prelude.{All, false, take, ℕ};
+ghost use Rattle.std.specs.Prelude.{All, false, ℕ};
 ghost use Rattle.std.specs.Prelude.{ℤ, min, IfSome, IsSome, IsTrue, length, int_lt, neg_ℤ, pos};
 ghost use Rattle.std.specs.Prelude.{unsigned_abs, ◌<ℤ◌};
 ghost use Rattle.std.specs.Int.{int_rem_euclid};
 ghost use Rattle.std.specs.Ordering.{nat_cmp};
-ghost use Rattle.trac_language.specs.declared.arith.Arith.TheVariants.{Divide};
-ghost use Rattle.trac_language.specs.Number.{arith, before_digits, digits, ends_with, exactly};
+ghost use Rattle.trac_language.specs.Number.{arith, before_digits, digits, ends_with};
 ghost use Rattle.trac_language.specs.Number.{if_in_range, in_range, prefix};
 ghost use Rattle.std.specs.Str.Parse.{digits_value};
 ghost use Rattle.trac_space.specs.Texts.{text_of_cells, IsByte};
@@ -23,8 +22,7 @@ use trac_space::{Cell, byte_in, character_of};
 pub struct TailNumber {
     /// The length of the prefix, the text before the number and its sign, in cells.
     pub start: u32,
-    /// The number, or None where it is outside the range of
-    /// arithmetic, from -(2^127 - 1) up to 2^127 - 1.
+    /// The number. None if it is outside the range of arithmetic, from -(2^127 - 1) up to 2^127 - 1.
     pub value: Option<i128>,
 }
 
@@ -39,8 +37,8 @@ fn digits_start(cells: &[Cell]) -> usize
     start
 }
 
-/// A number with further digits behind its own: these are a part, and a power of ten to their number.
-/// None where that, or the number, is outside the range of arithmetic.
+/// The number whose digits are those of `value` and then those of a part: the part's own number, and ten
+/// to the power of how many digits it has. None if it, or `value`, is outside the range of arithmetic.
 fn with_part(value: Option<i128>, part: (u64, u64)) -> Option<i128>
     requires { part.0 < part.1 }
     ensures { (n : ℕ) → value ≡ if_in_range (Some (pos n)) →
@@ -51,7 +49,7 @@ fn with_part(value: Option<i128>, part: (u64, u64)) -> Option<i128>
         .checked_add(i128::from(part.0))
 }
 
-/// A text before its longest suffix of decimal digits, and these.
+/// The text before its longest suffix of decimal digits, and these digits.
 fn split_digits(cells: &[Cell]) -> (&[Cell], &[Cell])
     ensures front { text_of_cells result.0.now ≡ before_digits (text_of_cells cells.now) }
     ensures digits { text_of_cells result.1.now ≡ digits (text_of_cells cells.now) }
@@ -61,8 +59,8 @@ fn split_digits(cells: &[Cell]) -> (&[Cell], &[Cell])
     cells.split_at(digits_start(cells))
 }
 
-/// Where the longest suffix of decimal digits begins, and the number that it is. None where it may
-/// have more than 19 digits, which 64 bits don't always hold.
+/// Where the longest suffix of decimal digits begins, and its number. None if it may have more than 19
+/// digits, which can be too many for 64 bits.
 #[inline(always)]
 fn short_number(cells: &[Cell]) -> Option<(usize, u64)>
     requires bytes { All IsByte cells.now }
@@ -86,10 +84,10 @@ fn short_number(cells: &[Cell]) -> Option<(usize, u64)>
     if least == 0 { Some((0, value)) } else { None }
 }
 
-/// How many digits 64 bits hold, whatever these are.
-const SHORT: usize = 19;
+/// Each number of this many decimal digits fits in 64 bits.
+const DIGITS_IN_64_BITS: usize = 19;
 
-/// The number that digits are, of which 64 bits hold any, and ten to the power of how many they are.
+/// The number of at most 19 digits, and ten to the power of how many they are.
 fn part_value(digits: &[Cell]) -> (u64, u64)
     requires decimal { IsDecimal digits.now }
     requires few { length digits.now ≤ 19 }
@@ -106,8 +104,8 @@ fn part_value(digits: &[Cell]) -> (u64, u64)
     (value, power)
 }
 
-/// The number that digits are, of any length, None where it is outside the range of arithmetic. They
-/// are read by parts that 64 bits hold.
+/// The number of digits, however many they are, read in parts that fit in 64 bits. None if it is outside
+/// the range of arithmetic.
 fn long_value(digits: &[Cell]) -> Option<i128>
     requires { IsDecimal digits.now }
     ensures { result ≡ if_in_range (Some (pos (decimal_value digits.now))) }
@@ -115,14 +113,14 @@ fn long_value(digits: &[Cell]) -> Option<i128>
     let mut value = Some(0);
     let mut done = 0;
     while done < digits.len() {
-        let end = done + (digits.len() - done).min(SHORT);
+        let end = done + (digits.len() - done).min(DIGITS_IN_64_BITS);
         value = with_part(value, part_value(&digits[done..end]));
         done = end;
     }
     value
 }
 
-/// The number turned to the other sign.
+/// The number with the other sign.
 fn negated(value: Option<i128>) -> Option<i128>
     ensures { (n : ℕ) → value ≡ if_in_range (Some (pos n)) →
         result ≡ if_in_range (Some (neg_ℤ (pos n))) }
@@ -148,8 +146,8 @@ fn may_be_long(cells: &[Cell]) -> bool
     cells.len() > 19 && byte_in(&cells[cells.len() - 20]).is_ascii_digit()
 }
 
-/// The number at the end of a text with its sign, and the length of the prefix. None where it may
-/// have more than 19 digits.
+/// The length of the prefix of a text, in cells, and the number at its end. None if the number may have
+/// more than 19 digits.
 #[inline(always)]
 fn short_tail(cells: &[Cell]) -> Option<(usize, i128)>
     requires { IsText cells.now }
@@ -172,7 +170,7 @@ fn short_tail(cells: &[Cell]) -> Option<(usize, i128)>
     }
 }
 
-/// The number at the end of a text, of any length.
+/// The number at the end of a text, of any length, and where it begins.
 #[inline(never)]
 fn long_tail(cells: &[Cell]) -> TailNumber
     requires { IsText cells.now }
@@ -203,10 +201,9 @@ fn long_tail(cells: &[Cell]) -> TailNumber
     }
 }
 
-/// The number at the end of a text, for arithmetic: the longest suffix of decimal
-/// digits, with one `+` or `-` just before it. Without digits the number is 0 and
-/// the whole text is the prefix. That a number stands at the right end behind a
-/// prefix is Mooers' rule of 1966, the rest this processor's own choice.
+/// The number at the end of a text, for arithmetic: the longest suffix of decimal digits, with one `+` or
+/// `-` just before it. Without digits the number is 0 and the whole text is the prefix. That a number
+/// stands at the right end behind a prefix is Mooers' rule of 1966, the rest this processor's own choice.
 #[inline(always)]
 pub fn tail_number(cells: &[Cell]) -> TailNumber
     requires { IsText cells.now }
@@ -227,8 +224,8 @@ pub fn tail_number(cells: &[Cell]) -> TailNumber
     }
 }
 
-/// What an operation makes of two numbers. None where one of them or the result is outside the
-/// range of arithmetic, and for a divisor of 0.
+/// The result of an operation on two numbers (Mooers 1966). None if one of them or the result is outside
+/// the range of arithmetic, or if the divisor is 0; that is this processor's own choice.
 pub fn result_of(operation: Arith, a: Option<i128>, b: Option<i128>) -> Option<i128>
     requires left { IfSome a (λ m. IsTrue (in_range m)) }
     requires right { IfSome b (λ n. IsTrue (in_range n)) }
@@ -238,8 +235,7 @@ pub fn result_of(operation: Arith, a: Option<i128>, b: Option<i128>) -> Option<i
     operation.apply(a?, b?)
 }
 
-/// The digit at a place, counted in a number of so many
-/// digits that these are the last of; 0 before the first.
+/// The digit at a place of a number that is filled with zeros at the left up to `long` digits.
 fn digit_at(digits: &[Cell], long: usize, place: usize) -> u8
     requires digits { IsDecimal digits.now }
     requires long { (length digits.now ≤ long) × (long < 2 ^ 62) }
@@ -255,7 +251,7 @@ fn digit_at(digits: &[Cell], long: usize, place: usize) -> u8
     }
 }
 
-/// How the numbers that digits are compare, of any length.
+/// Compares the numbers of digits, however many they are.
 fn compare_digits(a: &[Cell], b: &[Cell]) -> Ordering
     requires left { IsDecimal a.now }
     requires right { IsDecimal b.now }
@@ -270,7 +266,7 @@ fn compare_digits(a: &[Cell], b: &[Cell]) -> Ordering
     order
 }
 
-/// Whether the number at the end of a text is greater than that at the end of another: the test of
+/// Whether the number at the end of text `a` is greater than the one at the end of text `b`: the test of
 /// `gr` (Mooers 1966). That the numbers may have any length is this processor's own choice.
 #[inline(always)]
 pub fn greater(a: &[Cell], b: &[Cell]) -> bool
@@ -289,7 +285,8 @@ pub fn greater(a: &[Cell], b: &[Cell]) -> bool
     long_greater(a, b)
 }
 
-/// The same, told by the digits.
+/// Whether the number at the end of text `a` is greater than the one at the end of text `b`, found by
+/// comparing their digits.
 #[inline(never)]
 fn long_greater(a: &[Cell], b: &[Cell]) -> bool
     requires left { IsText a.now }
@@ -318,7 +315,7 @@ pub struct Count {
     pub size: u32,
 }
 
-/// The number that digits are, or the limit where that is less.
+/// The number of digits, or the limit if that is less.
 fn value_up_to(digits: &[Cell], limit: u32) -> u32
     requires digits { IsDecimal digits.now }
     requires limit { limit ≤ 50331648 }
@@ -345,7 +342,8 @@ fn count_up_to(cells: &[Cell], limit: u32) -> Count
     }
 }
 
-/// How many characters the number of a text counts, up to as many as a block can hold.
+/// The number at the end of a text, for `cn` (Mooers 1966): how many characters, up to 16,777,216, as many
+/// as a block can hold. The limit is this processor's own choice.
 pub fn count_of(cells: &[Cell]) -> Count
     ensures negative { result.negative ≡ int_lt (number_in cells.now) (pos 0) }
     ensures size { result.size ≡ min (unsigned_abs (number_in cells.now)) 16777216 }
@@ -353,7 +351,8 @@ pub fn count_of(cells: &[Cell]) -> Count
     count_up_to(cells, 16_777_216)
 }
 
-/// How far the number of a text shifts bits, up to as many as a block can hold.
+/// The number at the end of a text, for `bs` (Mooers 1966): by how many bits to shift, up to 50,331,648, as
+/// many as the digits in a block can have. The limit is this processor's own choice.
 pub fn shift_of(cells: &[Cell]) -> Count
     ensures negative { result.negative ≡ int_lt (number_in cells.now) (pos 0) }
     ensures size { result.size ≡ min (unsigned_abs (number_in cells.now)) 50331648 }
@@ -361,7 +360,7 @@ pub fn shift_of(cells: &[Cell]) -> Count
     count_up_to(cells, 50_331_648)
 }
 
-/// What is left of the number that digits are, divided by another.
+/// The remainder of the number of digits by a divisor.
 fn remainder_of(digits: &[Cell], divisor: u32) -> u32
     requires digits { IsDecimal digits.now }
     requires divisor { (0 < divisor) × (divisor ≤ 50331648) }
@@ -374,7 +373,8 @@ fn remainder_of(digits: &[Cell], divisor: u32) -> u32
     rest
 }
 
-/// How far to the left the number of a text rotates a string of so many bits.
+/// By how many bits, fewer than `bits`, the number at the end of a text rotates a string of `bits` bits to
+/// the left, for `br` (Mooers 1966).
 pub fn rotation_of(cells: &[Cell], bits: u32) -> u32
     requires { (0 < bits) × (bits ≤ 50331648) }
     ensures { int_rem_euclid (number_in cells.now) (pos bits) ≡ pos result }

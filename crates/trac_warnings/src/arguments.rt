@@ -4,7 +4,7 @@ ghost use Rattle.trac_warnings.specs.Arguments.{default_place, most_arguments, t
 
 use trac_language::Function;
 
-/// How many arguments behind its name a function takes notice of. None where it does of all.
+/// How many arguments behind its name a function uses. None if it uses all of them.
 pub fn most_arguments(function: Function) -> Option<u32>
     ensures { result ≡ most_arguments function }
 {
@@ -31,7 +31,7 @@ pub fn most_arguments(function: Function) -> Option<u32>
     }
 }
 
-/// Which argument behind its name is the default value of a function. None where it has none.
+/// Which argument behind its name is the default value of a function. None if it has no default value.
 pub fn default_place(function: Function) -> Option<u32>
     ensures { result ≡ default_place function }
 {

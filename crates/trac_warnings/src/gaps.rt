@@ -8,8 +8,8 @@ use std::alloc::{AllocError, Global};
 use trac_core::{Item, StoredForm};
 use trac_space::{Cell, character_of};
 
-/// Whether a text begins in the name of a call of these items: in what stands behind a number sign
-/// and a left parenthesis, before a comma, a parenthesis, a number sign or a gap.
+/// Whether a text begins in the name of a call among these items. The name stands behind a number sign and a
+/// left parenthesis, up to a comma, a parenthesis, a number sign or a gap.
 pub fn stands_in_name(text: &[Cell], items: &[Item]) -> bool
     ensures { result ≡ stands_in_name (text_of_cells text.now) items.now }
 {
@@ -21,7 +21,7 @@ pub fn stands_in_name(text: &[Cell], items: &[Item]) -> bool
     false
 }
 
-// The items behind a number sign and a left parenthesis, or none.
+// The items behind a number sign and a left parenthesis, which are the first two. None if they aren't.
 fn behind_opening(items: &[Item]) -> &[Item]
     ensures { result.now ≡ behind_opening items.now }
 {

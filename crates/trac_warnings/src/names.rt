@@ -9,8 +9,7 @@ use trac_functions::function::function_named;
 use trac_language::Function;
 use trac_space::{Cell, character_of};
 
-/// What is suspicious in the name of a call. None in that of a function, nor in the null name, which
-/// is that of a remark.
+/// What is suspicious in the name of a call. None if it names a function, or is the null name of a remark.
 pub fn suspicion_of_name(name: &[Cell]) -> Option<Suspicion>
     ensures { result ≡ suspicion_of_name (text_of_cells name.now) }
 {
@@ -23,8 +22,8 @@ pub fn suspicion_of_name(name: &[Cell]) -> Option<Suspicion>
     Some(Suspicion::NoFunction)
 }
 
-/// Whether a name is that of a function of the language that this processor leaves out, in letters
-/// of either case: one of external blocks, of the trace or of modes.
+/// Whether a name, in letters of either case, is that of a function of the language that this processor
+/// leaves out: one for external blocks, for the trace or for modes.
 pub fn is_left_out(name: &[Cell]) -> bool
     ensures { result ≡ is_left_out (text_of_cells name.now) }
 {
@@ -40,7 +39,7 @@ pub fn is_left_out(name: &[Cell]) -> bool
     )
 }
 
-/// Whether a call of a function does nothing where no form has the name behind the function's.
+/// Whether a call of this function does nothing if no form has the name behind the function's.
 pub fn needs_form(function: Function) -> bool
     ensures { result ≡ needs_form function }
 {

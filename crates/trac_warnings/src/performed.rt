@@ -15,7 +15,7 @@ use trac_functions::function::function_named;
 use trac_language::Function;
 use trac_space::{Cell, character_of};
 
-/// A call before it is performed, with where it was written.
+/// A call before it is performed, and where it was written.
 #[derive(Clone, Copy)]
 pub struct Ending<'a> {
     /// The arguments, with a comma mark between two.
@@ -23,7 +23,7 @@ pub struct Ending<'a> {
     /// Where the call was written, and each argument behind its name.
     pub begin: Origin,
     pub places: &'a [Origin],
-    /// The arguments so far of the call around it, null where none is.
+    /// The arguments so far of the call around it; null if there is none.
     pub around: &'a [Cell],
     /// Whether that call was written in the same text.
     pub is_inside: bool,
@@ -31,7 +31,7 @@ pub struct Ending<'a> {
     pub input: &'a [u8],
 }
 
-/// Adds what is suspicious in a call that a machine is about to perform. An error is want of memory.
+/// Adds what is suspicious in a call that a machine is about to perform. An error means that memory ran out.
 #[tactic(auto, using(crate::proofs::Keeping::keeping))]
 pub fn look_at_call(
     warnings: &mut Vec<Warning>,
@@ -53,7 +53,7 @@ pub fn look_at_call(
     look_at_form(warnings, alloc, machine, function, ending)
 }
 
-// What is suspicious in a name that is no function's: one that a form has is said to be that.
+// What is suspicious in a name that is no function's; if a form has the name, the warning says so.
 fn suspicion_of_call(machine: &Machine, name: &[Cell]) -> Option<Suspicion> {
     match suspicion_of_name(name) {
         Some(Suspicion::NoFunction) if find_form(machine, name).is_some() => {
@@ -63,8 +63,8 @@ fn suspicion_of_call(machine: &Machine, name: &[Cell]) -> Option<Suspicion> {
     }
 }
 
-// Looks at the first argument of which a function takes no notice: one that isn't null and that was
-// written in the same text as the call.
+// Looks at the first argument that a function ignores, if it isn't null and was written in the same text as
+// the call.
 #[tactic(auto, using(crate::proofs::Keeping::keeping))]
 fn look_at_ignored(
     warnings: &mut Vec<Warning>,
@@ -121,7 +121,7 @@ fn is_in_default(arguments: &[Cell]) -> bool {
     }
 }
 
-// How many comma marks there are.
+// How many of the cells are comma marks.
 fn commas_in(cells: &[Cell]) -> u32 {
     let mut count: u32 = 0;
     for cell in cells {
@@ -156,15 +156,15 @@ fn look_at_form(
     }
 }
 
-// Whether it is suspicious that no form has a name: not where a default value is given, nor where the
-// call stands in one that compares, nor for a name that a script makes as it runs.
+// Whether it is suspicious that no form has a name. It isn't if the call gives a default value, if it stands
+// in a call that compares, or if the script makes the name as it runs.
 fn is_missing(function: Function, name: &[Cell], ending: &Ending) -> bool {
     !has_default(function, ending.arguments)
         && !is_compared(ending.around)
         && is_written(name, ending.input)
 }
 
-// Whether a call of a function gives a default value that isn't null.
+// Whether a call of this function gives a default value that isn't null.
 fn has_default(function: Function, arguments: &[Cell]) -> bool {
     match default_place(function) {
         Some(place) => !argument(arguments, place).is_empty(),
@@ -248,7 +248,7 @@ fn look_at_texts(
     Ok(())
 }
 
-/// Adds a warning. An error is want of memory.
+/// Adds a warning. An error means that memory ran out.
 #[tactic(auto, using(crate::proofs::Keeping::saying))]
 pub fn warn(
     warnings: &mut Vec<Warning>,
@@ -275,7 +275,7 @@ pub fn warn(
     Ok(())
 }
 
-/// The characters of cells. An error is want of memory.
+/// The characters of cells. An error means that memory ran out.
 pub fn characters_of(alloc: Global, cells: &[Cell]) -> Result<Vec<u8>, AllocError>
     ensures { IfOk result (λ text. text.items ≡ text_of_cells cells.now) }
 {

@@ -5,7 +5,7 @@ ghost use Rattle.trac_warnings.specs.Origins.{first_origin, pushed, shortened, t
 use crate::origin::Origin;
 use std::alloc::AllocError;
 
-/// Characters that stand beside one another and were written so.
+/// Characters that stand side by side in the active string and were written side by side.
 #[derive(Clone, Copy, Debug, PartialEq, Eq)]
 pub struct Run {
     /// The origin of the first one.
@@ -15,7 +15,7 @@ pub struct Run {
 }
 
 impl Run {
-    // Without its first characters, fewer than it has.
+    // The run without some of its first characters, fewer than it has.
     fn shortened(self, count: usize) -> Run
         ensures { result ≡ shortened count self }
     {
@@ -26,7 +26,7 @@ impl Run {
     }
 }
 
-/// The origin of the first character of runs, whose first one stands last. None where there is none.
+/// The origin of the first character of the runs, of which the first stands last. None if there are none.
 pub fn first_origin(runs: &[Run]) -> Option<Origin>
     ensures { result ≡ first_origin (reverse runs.now) }
 {
@@ -36,7 +36,7 @@ pub fn first_origin(runs: &[Run]) -> Option<Origin>
     }
 }
 
-/// Puts characters in front. An error is want of memory, and nothing is changed then.
+/// Puts characters in front. An error means that memory ran out; then nothing has changed.
 pub fn push_run(runs: &mut Vec<Run>, origin: Origin, len: usize) -> Result<(), AllocError>
     ensures ok { OnOk result (reverse runs.new.items ≡ pushed origin len (reverse runs.old.items)) }
     ensures err { OnErr result (runs.new.items ≡ runs.old.items) }
@@ -48,7 +48,7 @@ pub fn push_run(runs: &mut Vec<Run>, origin: Origin, len: usize) -> Result<(), A
     Ok(())
 }
 
-/// Takes the first characters away, or all where there are fewer. An error is want of memory.
+/// Removes the first characters, or all if there are fewer. An error means that memory ran out.
 pub fn take_run(runs: &mut Vec<Run>, count: usize) -> Result<(), AllocError>
     ensures { OnOk result (reverse runs.new.items ≡ taken count (reverse runs.old.items)) }
 {

@@ -1,4 +1,4 @@
-//! Warnings, each with where what it is of was written.
+//! Warnings, and where what they warn of was written.
 ghost use Rattle.std.specs.Prelude.{◌≡◌};
 ghost use Rattle.trac_warnings.specs.Suspicions.{sentence_of};
 
@@ -29,7 +29,7 @@ pub enum Suspicion {
     LeftOut,
     /// A call that needs a form, of a name that no form has.
     NoForm,
-    /// An argument that stands in the call and that its function takes no notice of.
+    /// An argument of the call that its function ignores.
     Ignored,
     /// A call of arithmetic that has no result, and no default value.
     NoResult,
@@ -59,17 +59,17 @@ pub enum Suspicion {
 /// A warning. Warnings are in the order of their places.
 #[derive(Debug, Drop, PartialEq, Eq, PartialOrd, Ord)]
 pub struct Warning {
-    /// Where what it is of was written.
+    /// Where what it warns of was written.
     pub origin: Origin,
     pub suspicion: Suspicion,
-    /// How many characters it is of, 0 where it is of none.
+    /// How many characters it warns of, 0 if none.
     pub count: usize,
-    /// The name or the text that it is of, null where it is of none.
+    /// The name or the text that it warns of, null if there is none.
     pub text: Vec<u8>,
 }
 
 impl Suspicion {
-    /// What is said of it, before the name, the text or the number.
+    /// The words of the warning, before the name, the text or the number.
     pub fn sentence(self) -> &'static [u8]
         ensures { result.now ≡ sentence_of self }
     {

@@ -19,8 +19,7 @@ pub struct Settings {
 }
 
 impl Settings {
-    /// Settings of so many cells and steps, or `None` exactly where the cells or the steps are
-    /// out of range.
+    /// Settings with these cells and steps. None if the cells or the steps are out of range.
     pub fn new(cells: u32, steps: u64, report: bool) -> Option<Settings>
         ensures none { IsNone result ↔ ¬ AreInRange cells steps }
         ensures some { IfSome result (λ s.

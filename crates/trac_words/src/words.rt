@@ -13,9 +13,9 @@ use clap::{Arg, ArgAction, ArgMatches, Command, Error, value_parser};
 use std::alloc::{AllocError, Global};
 
 /// Reads the settings from the words of a program, its name first: `NAME [--cells N] [--steps N]`,
-/// and `[--report]` too where it reports. Where the words don't say, there are 65536 cells, the
-/// default of the steps and no report. The error is clap's, for words that it refuses, numbers out
-/// of range among them, for help, or for want of memory. The help and the errors show the usage.
+/// and `[--report]` too for a program that reports. The defaults are 65536 cells, the given number of
+/// steps and no report. The error is clap's: for words that it refuses, as numbers out of range, for help,
+/// or for want of memory. The help and the errors show the usage.
 pub fn settings_from(
     alloc: Global,
     name: &str,
@@ -48,7 +48,7 @@ pub fn settings_from(
     })
 }
 
-// Whether the matches give `--report`, of a command that has that flag or doesn't.
+// Whether the matches give `--report`. False for a command without that flag.
 fn has_report(reports: bool, matches: &ArgMatches) -> bool
     ensures off { reports ≡ false → result ≡ false }
     ensures none { one_text (found_of matches.now) (codes "report") ≡ None → result ≡ false }
@@ -60,7 +60,7 @@ fn has_report(reports: bool, matches: &ArgMatches) -> bool
     reports && matches.get_flag("report")
 }
 
-// The command `NAME [--cells N] [--steps N]`, with the flag `--report` where it reports.
+// The command `NAME [--cells N] [--steps N]`, with the flag `--report` for a program that reports.
 #[tactic(auto, unfolding(crate::specs::CommandLine::command_of))]
 fn command<'a>(
     alloc: Global,
@@ -109,7 +109,7 @@ pub fn numbers_command<'a>(
         .arg(steps.help("Steps that are allowed, 1 to 1000000000000"))
 }
 
-/// The option `--name N`, of the numbers that the parser takes, with a default.
+/// The option `--name N`, for the numbers that the parser takes, with a default.
 pub fn number<'a>(
     alloc: Global,
     name: &'a str,

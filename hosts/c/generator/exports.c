@@ -96,14 +96,34 @@ static size_t trac_engine_form_pointer(void *machine, size_t k) {
     return (size_t)engine_form_pointer(lend(&lent), address_of(machine), k);
 }
 
-static size_t trac_engine_neutral(void *machine, uint32_t *to, size_t room) {
+static size_t trac_engine_neutral_part(void *machine, size_t from, uint32_t *to, size_t room) {
     struct lent lent;
-    return in_order(to, room, engine_neutral(lend(&lent), address_of(machine), address_of(to), room));
+    return in_order(to, room, engine_neutral_part(lend(&lent), address_of(machine), from, address_of(to), room));
 }
 
-static size_t trac_engine_active(void *machine, uint32_t *to, size_t room) {
+static size_t trac_engine_active_part(void *machine, size_t from, uint32_t *to, size_t room) {
     struct lent lent;
-    return in_order(to, room, engine_active(lend(&lent), address_of(machine), address_of(to), room));
+    return in_order(to, room, engine_active_part(lend(&lent), address_of(machine), from, address_of(to), room));
+}
+
+static size_t trac_engine_calls(void *machine, uint32_t *to, size_t room) {
+    struct lent lent;
+    return in_order(to, room, engine_calls(lend(&lent), address_of(machine), address_of(to), room));
+}
+
+static size_t trac_engine_takes(void *machine) {
+    struct lent lent;
+    return (size_t)engine_takes(lend(&lent), address_of(machine));
+}
+
+static size_t trac_engine_drops(void *machine) {
+    struct lent lent;
+    return (size_t)engine_drops(lend(&lent), address_of(machine));
+}
+
+static uint64_t trac_engine_steps_to_call(void *machine, uint64_t most) {
+    struct lent lent;
+    return engine_steps_to_call(lend(&lent), address_of(machine), most);
 }
 
 static uint32_t trac_engine_rule(void *machine) {

@@ -445,6 +445,50 @@ static PyObject *machine_active(machine_object *self, PyObject *nothing) {
     return codes_of_string(self, trac_active);
 }
 
+/* Part of a string from a place on, at most so many codes. */
+static PyObject *codes_of_part(machine_object *self, PyObject *arguments,
+                               size_t (*fill)(const trac_machine *, size_t, uint32_t *, size_t)) {
+    Py_ssize_t start, most;
+    if (!PyArg_ParseTuple(arguments, "nn", &start, &most) || !is_usable(self))
+        return NULL;
+    const size_t left = fill(&self->machine, (size_t)start, NULL, 0);
+    const size_t count = left < (size_t)most ? left : (size_t)most;
+    PyObject *const bytes = room_for_codes(count);
+    if (bytes)
+        (void)fill(&self->machine, (size_t)start, codes_in(bytes), count);
+    return bytes;
+}
+
+static PyObject *machine_neutral_part(machine_object *self, PyObject *arguments) {
+    return codes_of_part(self, arguments, trac_neutral_part);
+}
+
+static PyObject *machine_active_part(machine_object *self, PyObject *arguments) {
+    return codes_of_part(self, arguments, trac_active_part);
+}
+
+static PyObject *machine_calls(machine_object *self, PyObject *nothing) {
+    (void)nothing;
+    return codes_of_string(self, trac_calls);
+}
+
+static PyObject *machine_takes(machine_object *self, PyObject *nothing) {
+    (void)nothing;
+    return is_usable(self) ? PyLong_FromSize_t(trac_takes(&self->machine)) : NULL;
+}
+
+static PyObject *machine_drops(machine_object *self, PyObject *nothing) {
+    (void)nothing;
+    return is_usable(self) ? PyLong_FromSize_t(trac_drops(&self->machine)) : NULL;
+}
+
+static PyObject *machine_steps_to_call(machine_object *self, PyObject *number) {
+    const uint64_t most = PyLong_AsUnsignedLongLong(number);
+    if ((most == UINT64_MAX && PyErr_Occurred()) || !is_usable(self))
+        return NULL;
+    return PyLong_FromUnsignedLongLong(trac_steps_to_call(&self->machine, most));
+}
+
 static PyObject *machine_rule(machine_object *self, PyObject *nothing) {
     (void)nothing;
     return is_usable(self) ? PyUnicode_FromString(trac_rule_name(trac_rule(&self->machine))) : NULL;
@@ -489,6 +533,12 @@ static PyMethodDef machine_methods[] = {
     METHOD(forms, METH_NOARGS, "The forms: name, display, items as numbers of 32 bits, and pointer."),
     METHOD(neutral, METH_NOARGS, "The neutral string as numbers of 32 bits."),
     METHOD(active, METH_NOARGS, "The active string as numbers of 32 bits."),
+    METHOD(neutral_part, METH_VARARGS, "The neutral string from a place on, at most so many codes."),
+    METHOD(active_part, METH_VARARGS, "The active string from a place on, at most so many codes."),
+    METHOD(calls, METH_NOARGS, "Where the marks of the open calls stand, the innermost first."),
+    METHOD(takes, METH_NOARGS, "How many characters the next step takes from the active string."),
+    METHOD(drops, METH_NOARGS, "How many characters the next step drops."),
+    METHOD(steps_to_call, METH_O, "How many steps come before the next right parenthesis, at most so many."),
     METHOD(rule, METH_NOARGS, "The rule of the next step, in words."),
     METHOD(awaits, METH_NOARGS, "What the next step reads: 0 nothing, 1 a string, 2 a byte."),
     METHOD(meta, METH_NOARGS, "The meta character."),

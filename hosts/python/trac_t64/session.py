@@ -306,6 +306,43 @@ class Session:
         """The active string, the next character first."""
         return bytes(_codes(self._machine.active()))
 
+    def neutral_part(self, start: SupportsIndex = 0, most: SupportsIndex = MOST_CELLS) -> tuple[int, ...]:
+        """At most so many codes of the neutral string, from a place on, which counts from 0; none behind its
+        end."""
+        first, count = _whole('start', start, 0, MOST_CELLS), _whole('most', most, 0, MOST_CELLS)
+        return _codes(self._machine.neutral_part(first, count))
+
+    def active_part(self, start: SupportsIndex = 0, most: SupportsIndex = MOST_CELLS) -> bytes:
+        """At most so many bytes of the active string, from a place on, which counts from 0; none behind its
+        end."""
+        first, count = _whole('start', start, 0, MOST_CELLS), _whole('most', most, 0, MOST_CELLS)
+        return bytes(_codes(self._machine.active_part(first, count)))
+
+    @property
+    def calls(self) -> tuple[int, ...]:
+        """The open calls, the innermost first: the place at which the mark of each stands in the neutral
+        string. Its arguments stand behind it, up to the mark of the next call or to the end."""
+        return _codes(self._machine.calls())
+
+    @property
+    def takes(self) -> int:
+        """How many characters the next step takes from the front of the active string: the 2 or 3 that open
+        a call; a text in parentheses with both of them; all, where a left parenthesis has no match; none of
+        an empty string; and else 1."""
+        return self._machine.takes()
+
+    @property
+    def drops(self) -> int:
+        """How many characters the next step drops: all of an active string that begins with a left
+        parenthesis that has no match, and else none."""
+        return self._machine.drops()
+
+    def steps_to_call(self, most: SupportsIndex = MOST_STEPS) -> int:
+        """How many steps come before the next one at a right parenthesis, which performs a call where one is
+        open, or at an empty active string; at most so many. None of them performs a call, reads or prints.
+        They are counted as if the allowance had no end."""
+        return self._machine.steps_to_call(_whole('most', most, 0, MOST_STEPS))
+
     @property
     def rule(self) -> str:
         """The rule that the next step follows, by its name in the manual: idling, layout, protection,

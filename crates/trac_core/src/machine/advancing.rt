@@ -3,20 +3,32 @@ ghost use Rattle.std.specs.Prelude.{◌≡◌, ◌+◌, ◌<◌, ◌≤◌, ◌^
 ghost use Rattle.trac_forms.specs.Contents.{IsSound};
 ghost use Rattle.trac_functions.specs.Calls.{KeepsRoom};
 ghost use Rattle.trac_core.specs.Machine.{KeepsLimits};
-ghost use Rattle.trac_core.specs.StepsInRow.{running};
+ghost use Rattle.trac_core.specs.StepsInRow.{running, IsPlainFrom};
 ghost use Rattle.trac_core.specs.Advancing.{Advanced, advanced_to};
+ghost use Rattle.trac_core.specs.Session.{next_function};
 
 use super::{Counters, Machine, ended};
-use crate::call::carry_alone;
-use crate::scan::pass;
+use crate::call::perform_pending_alone;
+use crate::scan::scan_steps;
 use trac_forms::Work;
-use trac_language::Fate;
+use trac_language::{Fate, Function};
+
+/// What `advance` did.
+#[derive(Clone, Copy)]
+pub struct Progress {
+    /// The steps that were done and after which the run went on.
+    pub done: u64,
+    /// The function of the call that it stopped before, which reads or prints. `None` where it
+    /// stopped for another reason.
+    pub next: Option<Function>,
+}
 
 /// How far a machine went.
-#[derive(Clone, Copy, Debug, PartialEq, Eq)]
+#[derive(Clone, Copy)]
 pub(super) struct Advance {
-    /// The steps that were done and after which the run went on.
-    done: u64,
+    progress: Progress,
+    /// A place of the neutral string from which on no comma mark stands.
+    plain: u32,
     /// The steps and the peak that are counted then, and how the run ended, if it did.
     steps: u64,
     peak: u32,
@@ -24,25 +36,30 @@ pub(super) struct Advance {
 }
 
 impl<'a> Machine<'a> {
-    /// Makes steps, at most so many, as `step` does, but none that reads or prints, so that it
-    /// needs no device: it stops before a call of `rs`, `rc`, `ps` or `pf`. Gives how many steps
-    /// were done after which the run went on. They are fewer than so many only if it stopped there,
-    /// the allowance is used up, or the next step ended the run, by `hl` or since it needs more than
-    /// the room; with the allowance used up the run isn't over before the next call of `step`. Where
-    /// the run is over before, nothing is done. This processor's own choice.
-    pub fn advance(&mut self, most: u64) -> u64
-        // so many steps of the definition, whatever the devices hold, and why they are no more
-        ensures advanced { self.old.fate ≡ None → Advanced most result self.old self.new }
-        ensures few { result ≤ most }
+    /// Makes at most `most` steps, as `step` does, but none that reads or prints, so that it needs
+    /// no device: it stops before a call of `rs`, `rc`, `ps` or `pf`. Gives how many steps were done
+    /// after which the run went on. They are fewer than `most` only if it stopped there, the allowance
+    /// is used up, or the next step ended the run, by `hl` or since it needs more than the room. With
+    /// the allowance used up, the next call of `step` ends the run. Where the run is over before,
+    /// nothing is done. This processor's own choice.
+    pub fn advance(&mut self, most: u64) -> Progress
+        // these are steps of the definition, whatever the devices hold, and this is why no more are done
+        ensures advanced { self.old.fate ≡ None → Advanced most result.done self.old self.new }
+        ensures few { result.done ≤ most }
+        // where they are fewer, what the next step performs
+        ensures next { result.done < most → result.next ≡ next_function self.new }
         // a run that is over stays so
-        ensures over { IsSome self.old.fate → (result ≡ 0) × (self.new ≡ self.old) }
+        ensures over { IsSome self.old.fate → (result.done ≡ 0) × (self.new ≡ self.old) }
         // the limits stay, and are kept
         ensures room { self.new.room ≡ self.old.room }
         ensures allowance { self.new.allowance ≡ self.old.allowance }
         ensures limits { KeepsLimits self.new }
     {
         if self.fate.is_some() {
-            return 0;
+            return Progress {
+                done: 0,
+                next: None,
+            };
         }
         let at = Counters {
             allowance: self.allowance,
@@ -53,20 +70,24 @@ impl<'a> Machine<'a> {
         self.steps = to.steps;
         self.peak = to.peak;
         self.fate = to.fate;
-        to.done
+        self.plain = to.plain;
+        to.progress
     }
 }
 
-/// Makes steps that touch no device, at most so many, of a run that isn't over and has these
-/// counters, which are single values here, as in `run_to_end`.
+/// Makes at most `most` steps that touch no device, of a run that isn't over and has these counters.
+/// They are single values here, so that they need not stand in memory.
 #[inline(never)]
 fn go_alone(work: &mut Work, meta: &mut u8, at: Counters, most: u64) -> Advance
     requires sound { IsSound work.old }
     requires steps { at.steps ≤ at.allowance }
     requires peak { at.peak ≤ work.old.room }
     ensures advanced { let old = running work.old meta.old at in
-        Advanced most result.done old (advanced_to work.new meta.new at result) }
-    ensures few { result.done ≤ most }
+        Advanced most result.progress.done old (advanced_to work.new meta.new at result) }
+    ensures few { result.progress.done ≤ most }
+    ensures next { result.progress.done < most →
+        result.progress.next ≡ next_function (advanced_to work.new meta.new at result) }
+    ensures plain { IsPlainFrom result.plain work.new.neutral }
     ensures steps { result.steps ≤ at.allowance }
     ensures peak { result.peak ≤ work.old.room }
     ensures keeps { KeepsRoom work.old work.new }
@@ -78,19 +99,24 @@ fn go_alone(work: &mut Work, meta: &mut u8, at: Counters, most: u64) -> Advance
     let mut plain = work.neutral_len();
     let mut long = 0;
     while left > 0 {
-        match pass(work, left, &mut plain, &mut long) {
+        match scan_steps(work, left, &mut plain, &mut long) {
             Ok(done) => {
                 left -= done;
                 peak = peak.max(need);
             }
-            Err(front) => {
-                let Some(last) = carry_alone(work, front, meta) else {
-                    return going(reach - left, at.steps, peak);
+            Err(pending) => {
+                let last = match perform_pending_alone(work, pending, meta) {
+                    Ok(last) => last,
+                    Err(function) => return going(reach - left, function, plain, at.steps, peak),
                 };
                 if let Some(fate) = last.fate {
                     let report = ended(fate, last.need, at.steps + (reach - left), peak);
                     return Advance {
-                        done: reach - left,
+                        progress: Progress {
+                            done: reach - left,
+                            next: None,
+                        },
+                        plain: work.neutral_len(),
                         steps: report.steps,
                         peak: report.peak,
                         fate: Some(report.fate),
@@ -104,21 +130,24 @@ fn go_alone(work: &mut Work, meta: &mut u8, at: Counters, most: u64) -> Advance
             }
         }
     }
-    going(reach, at.steps, peak)
+    going(reach, None, plain, at.steps, peak)
 }
 
-/// So many steps after others, with this peak; the run goes on.
-fn going(done: u64, steps: u64, peak: u32) -> Advance
+/// `done` steps after `steps` others, with this peak, and what the next one performs; the run goes
+/// on.
+fn going(done: u64, next: Option<Function>, plain: u32, steps: u64, peak: u32) -> Advance
     requires { steps + done < 2 ^ 64 }
     ensures { result ≡ record {
-      done = done;
+      progress = record { done = done; next = next };
+      plain = plain;
       steps = steps + done;
       peak = peak;
       fate = None;
     } }
 {
     Advance {
-        done,
+        progress: Progress { done, next },
+        plain,
         steps: steps + done,
         peak,
         fate: None,

@@ -7,6 +7,7 @@ ghost use Rattle.trac_functions.specs.Flat.{memory_of, arguments_at};
 ghost use Rattle.trac_functions.specs.Calls.{AreArguments, texts};
 ghost use Rattle.trac_core.specs.Attempts.{function_at};
 ghost use Rattle.trac_core.specs.Performed.{performs};
+ghost use Rattle.trac_core.specs.StepsInRow.{IsPlainFrom};
 
 use crate::scan::is_at;
 use trac_forms::Work;
@@ -16,7 +17,8 @@ use trac_language::Function;
 
 /// Where the mark stands of the call that a step over these contents performs. None where it
 /// performs no call.
-pub(super) fn closed_call(work: &Work) -> Option<u32>
+#[inline]
+pub(crate) fn closed_call(work: &Work) -> Option<u32>
     ensures call { MatchOption result
         ((meta : ℕ) → performs (memory_of meta work.now) ≡ None)
         (λ place. (slice_get (text_of_cells work.now.active) 0 ≡ Some 41)
@@ -32,9 +34,10 @@ pub(super) fn closed_call(work: &Work) -> Option<u32>
 }
 
 /// The function that the innermost call names, whose mark stands at the place, and the arguments
-/// behind the name.
-pub(super) fn named_at(work: &Work, place: u32) -> (Option<Function>, Arguments)
-    requires { IsLastCall work.now.neutral place }
+/// behind the name. From the plain place on no comma mark stands in the neutral string.
+pub(super) fn named_at(work: &Work, place: u32, plain: u32) -> (Option<Function>, Arguments)
+    requires innermost { IsLastCall work.now.neutral place }
+    requires plain { IsPlainFrom plain work.now.neutral }
     ensures function { result.0 ≡ function_at work.now.neutral place }
     ensures arguments { AreArguments work.now result.1 }
     ensures behind { texts work.now result.1 ≡ drop 1 (arguments_at work.now.neutral place) }
@@ -43,7 +46,7 @@ pub(super) fn named_at(work: &Work, place: u32) -> (Option<Function>, Arguments)
     let mut arguments = Arguments {
         from: place + 1,
         end,
-        plain: end,
+        plain,
         scanned: false,
     };
     let name = arguments.next(work);

@@ -1,20 +1,20 @@
 //! How many bytes the next step of a machine prints.
-ghost use Rattle.std.specs.Prelude.{◌≡◌, ◌≢◌, ℕ, length, nat_le, false, Some};
+ghost use Rattle.std.specs.Prelude.{◌≡◌, ◌≢◌, ◌<◌, ◌≤◌, ℕ, length, false, Some, MatchOption};
 ghost use Rattle.trac_language.specs.declared.function.Function.TheVariants.{PrintForm};
 ghost use Rattle.trac_language.specs.State.{Input};
-ghost use Rattle.trac_language.specs.Meaning.{meaning};
 ghost use Rattle.trac_space.specs.Calls.{IsLastCall};
 ghost use Rattle.trac_forms.specs.Contents.{IsTextPart, IsSound};
-ghost use Rattle.trac_functions.specs.Flat.{memory_of, arguments_at};
-ghost use Rattle.trac_functions.specs.Calls.{world};
+ghost use Rattle.trac_functions.specs.Flat.{memory_of};
 ghost use Rattle.trac_core.specs.Attempts.{function_at};
 ghost use Rattle.trac_core.specs.Display.{display_named};
-ghost use Rattle.trac_core.specs.Performed.{performs};
-ghost use Rattle.trac_core.specs.Session.{next_function, next_printed, step_prints, printed_in};
+ghost use Rattle.trac_core.specs.Performed.{performs, prints_output};
+ghost use Rattle.trac_core.specs.Session.{next_function, next_printed, step_prints, call_prints};
+ghost use Rattle.trac_core.specs.StepsInRow.{IsPlainFrom};
 
 use super::Machine;
 use super::closing::{closed_call, named_at};
 use crate::display::display_len;
+use crate::scan::InnermostCall;
 use trac_forms::Work;
 use trac_language::Function;
 
@@ -31,60 +31,82 @@ impl<'a> Machine<'a> {
         if self.steps == self.allowance {
             return 0;
         }
-        printed_len(&mut self.work)
+        printed_len(&mut self.work, self.plain)
     }
 
-    /// Whether `free` bytes are room for what the next step prints, as `prints` counts it. The caller
-    /// says which function that step performs, as `next_function` does. A text isn't measured where
-    /// there is room for the whole neutral string. This processor's own choice.
-    pub fn prints_within(&mut self, function: Option<Function>, free: u64) -> bool
+    /// How many bytes the next step prints, as `prints` counts them, where they are more than `free`.
+    /// The caller says which function that step performs, as `next_function` does. A text isn't
+    /// measured where there is room for the whole neutral string. This processor's own choice.
+    pub fn prints_past(&mut self, function: Option<Function>, free: u64) -> Option<u32>
         requires asked { function ≡ next_function self.old }
-        ensures within { (input : Input) →
-            result ≡ nat_le (length (next_printed self.old input)) free }
+        ensures past { MatchOption result
+            ((input : Input) → length (next_printed self.old input) ≤ free)
+            (λ printed. (free < printed)
+            × ((input : Input) → printed ≡ length (next_printed self.old input))) }
         ensures same { self.new ≡ self.old }
     {
-        if self.fate.is_some() {
-            return true;
+        if prints(function) {
+            printed_past(&mut self.work, self.plain, function, free)
+        } else {
+            None
         }
-        if self.steps == self.allowance {
-            return true;
-        }
-        fits_within(&mut self.work, function, free)
     }
 }
 
-/// Whether `free` bytes are room for what a step over these contents prints, which performs this
-/// function.
-fn fits_within(work: &mut Work, function: Option<Function>, free: u64) -> bool
+/// Whether a call of the function prints.
+#[inline]
+fn prints(function: Option<Function>) -> bool
+    ensures { result ≡ prints_output function }
+{
+    matches!(function, Some(Function::PrintString | Function::PrintForm))
+}
+
+/// How many bytes a step over these contents prints, which performs this function, where they are
+/// more than `free`. From the plain place on no comma mark stands in the neutral string.
+fn printed_past(work: &mut Work, plain: u32, function: Option<Function>, free: u64) -> Option<u32>
+    requires plain { IsPlainFrom plain work.old.neutral }
     requires asked { (meta : ℕ) → function ≡ performs (memory_of meta work.old) }
-    ensures within { (meta : ℕ) (input : Input) →
-        result ≡ nat_le (length (step_prints (memory_of meta work.old) input)) free }
+    ensures past { (meta : ℕ) → MatchOption result
+        ((input : Input) → length (step_prints (memory_of meta work.old) input) ≤ free)
+        (λ printed. (free < printed)
+        × ((input : Input) → printed ≡ length (step_prints (memory_of meta work.old) input))) }
     ensures same { work.new ≡ work.old }
     ensures sound { IsSound work.new }
 {
     match closed_call(work) {
-        None => true,
-        Some(place) => call_fits(work, place, function, free),
+        None => None,
+        Some(place) => call_past(work, InnermostCall { place, plain }, function, free),
     }
 }
 
-/// Whether `free` bytes are room for what the innermost call prints, whose mark stands at the place and
-/// which names this function.
-fn call_fits(work: &mut Work, place: u32, function: Option<Function>, free: u64) -> bool
-    requires innermost { IsLastCall work.old.neutral place }
-    requires named { function ≡ function_at work.old.neutral place }
+/// How many bytes the innermost call prints, which names this function, where they are more than
+/// `free`.
+fn call_past(
+    work: &mut Work,
+    call: InnermostCall,
+    function: Option<Function>,
+    free: u64,
+) -> Option<u32>
+    requires innermost { IsLastCall work.old.neutral call.place }
+    requires plain { IsPlainFrom call.plain work.old.neutral }
+    requires named { function ≡ function_at work.old.neutral call.place }
     requires sound { IsSound work.old }
-    ensures within { (meta : ℕ) (input : Input) →
-        let args = arguments_at work.old.neutral place in
-        result ≡ nat_le (length (printed_in (meaning (function_at work.old.neutral place) args
-        (world work.old.forms meta input)))) free }
+    ensures past { (meta : ℕ) → let printed = call_prints work.old call.place meta in
+        MatchOption result
+        ((input : Input) → length (printed input) ≤ free)
+        (λ n. (free < n) × ((input : Input) → n ≡ length (printed input))) }
     ensures same { work.new ≡ work.old }
     ensures sound { IsSound work.new }
 {
     if u64::from(work.neutral_len()) <= free && !displays(function) {
-        return true;
+        return None;
     }
-    u64::from(call_len(work, place)) <= free
+    let printed = call_len(work, call);
+    if u64::from(printed) <= free {
+        None
+    } else {
+        Some(printed)
+    }
 }
 
 /// Whether a call of the function displays a form.
@@ -100,8 +122,10 @@ fn displays(function: Option<Function>) -> bool
     }
 }
 
-/// How many bytes a step over these contents prints.
-fn printed_len(work: &mut Work) -> u32
+/// How many bytes a step over these contents prints. From the plain place on no comma mark stands in
+/// the neutral string.
+fn printed_len(work: &mut Work, plain: u32) -> u32
+    requires { IsPlainFrom plain work.old.neutral }
     ensures length { (meta : ℕ) (input : Input) →
         result ≡ length (step_prints (memory_of meta work.old) input) }
     ensures same { work.new ≡ work.old }
@@ -109,20 +133,20 @@ fn printed_len(work: &mut Work) -> u32
 {
     match closed_call(work) {
         None => 0,
-        Some(place) => call_len(work, place),
+        Some(place) => call_len(work, InnermostCall { place, plain }),
     }
 }
 
-/// How many bytes the innermost call prints, whose mark stands at the place.
-fn call_len(work: &mut Work, place: u32) -> u32
-    requires { IsLastCall work.old.neutral place }
-    ensures length { (meta : ℕ) (input : Input) → let args = arguments_at work.old.neutral place in
-        result ≡ length (printed_in
-        (meaning (function_at work.old.neutral place) args (world work.old.forms meta input))) }
+/// How many bytes the innermost call prints.
+fn call_len(work: &mut Work, call: InnermostCall) -> u32
+    requires innermost { IsLastCall work.old.neutral call.place }
+    requires plain { IsPlainFrom call.plain work.old.neutral }
+    ensures length { (meta : ℕ) (input : Input) →
+        result ≡ length (call_prints work.old call.place meta input) }
     ensures same { work.new ≡ work.old }
     ensures sound { IsSound work.new }
 {
-    let (function, mut arguments) = named_at(work, place);
+    let (function, mut arguments) = named_at(work, call.place, call.plain);
     let part = arguments.next(work);
     match function {
         None => 0,

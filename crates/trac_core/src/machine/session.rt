@@ -8,7 +8,8 @@ ghost use Rattle.trac_functions.specs.Flat.{memory_of};
 ghost use Rattle.trac_core.specs.Performed.{performs};
 ghost use Rattle.trac_core.specs.Machine.{KeepsLimits, Resumes, course, input_failures};
 ghost use Rattle.trac_core.specs.Machine.{output_failures, LeavesMemory};
-ghost use Rattle.trac_core.specs.Session.{awaited, next_function};
+ghost use Rattle.trac_core.specs.Session.{awaited, next_function, report_of};
+ghost use Rattle.trac_core.specs.StepsInRow.{IsPlainFrom};
 
 use super::closing::{closed_call, named_at};
 use super::{Counters, Machine, run_to_end};
@@ -28,9 +29,9 @@ pub enum Awaits {
 }
 
 impl<'a> Machine<'a> {
-    /// Clears both strings, with the calls that are open, and begins a new run with an allowance of
-    /// so many steps. The run isn't over then; the steps and the peak count from 0. The forms with
-    /// their pointers, the meta character and the block stay. This processor's own choice.
+    /// Clears both strings, with the calls that are open, and begins a new run that may make `steps`
+    /// steps. The run isn't over then; the steps and the peak count from 0. The forms with their
+    /// pointers, the meta character and the block stay. This processor's own choice.
     pub fn again(&mut self, steps: u64)
         ensures after { self.new ≡ record self.old {
           memory = record self.old.memory { active = []; base = []; calls = [] };
@@ -43,6 +44,7 @@ impl<'a> Machine<'a> {
     {
         self.work.clear_active();
         self.work.clear_neutral();
+        self.plain = 0;
         self.allowance = steps;
         self.steps = 0;
         self.peak = 0;
@@ -79,7 +81,7 @@ impl<'a> Machine<'a> {
           peak = self.new.peak;
         } }
         ensures fate { self.new.fate ≡ Some result.fate }
-        // the failures of the devices are told, and no others
+        // each failure of a device is answered, and no other is
         ensures input_failed { I.failure_count source.new ≡
             I.failure_count source.old + input_failures self.old.fate (Some result.fate) }
         ensures output_failed { O.failure_count sink.new ≡
@@ -94,7 +96,7 @@ impl<'a> Machine<'a> {
         ensures limits { KeepsLimits self.new }
     {
         if let Some(fate) = self.fate {
-            return self.report(fate);
+            return self.report_with(fate);
         }
         let at = Counters {
             allowance: self.allowance,
@@ -105,11 +107,23 @@ impl<'a> Machine<'a> {
         self.steps = report.steps;
         self.peak = report.peak;
         self.fate = Some(report.fate);
+        self.plain = self.work.neutral_len();
         report
     }
 
-    /// The report of a run that ended so.
-    fn report(&self, fate: Fate) -> Report
+    /// How the run ended, with its steps and its peak. `None` while it goes on. This processor's own
+    /// choice.
+    pub fn report(&self) -> Option<Report>
+        ensures { result ≡ report_of self.now }
+    {
+        match self.fate {
+            None => None,
+            Some(fate) => Some(self.report_with(fate)),
+        }
+    }
+
+    /// The report of a run that ended with this fate.
+    fn report_with(&self, fate: Fate) -> Report
         ensures { result ≡ record {
           fate = fate;
           steps = self.now.steps;
@@ -181,19 +195,21 @@ impl<'a> Machine<'a> {
         ensures { result ≡ next_function self.now }
     {
         if self.fate.is_none() && self.steps < self.allowance {
-            performed(&self.work)
+            performed(&self.work, self.plain)
         } else {
             None
         }
     }
 }
 
-/// The function that a step over these contents performs.
-fn performed(work: &Work) -> Option<Function>
+/// The function that a step over these contents performs. From the plain place on no comma mark
+/// stands in the neutral string.
+fn performed(work: &Work, plain: u32) -> Option<Function>
+    requires { IsPlainFrom plain work.now.neutral }
     ensures { (meta : ℕ) → result ≡ performs (memory_of meta work.now) }
 {
     match closed_call(work) {
         None => None,
-        Some(place) => named_at(work, place).0,
+        Some(place) => named_at(work, place, plain).0,
     }
 }

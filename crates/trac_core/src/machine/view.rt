@@ -1,16 +1,18 @@
 //! What a caller who drives a machine step by step may look at.
-ghost use Rattle.std.specs.Prelude.{◌≡◌, length, slice_get, Some};
+ghost use Rattle.std.specs.Prelude.{◌≡◌, ◌≤◌, ◌↔◌, All, IsTrue, length, slice_get, Some};
 ghost use Rattle.trac_language.specs.State.{size};
 ghost use Rattle.trac_language.specs.Rule.{rule};
-ghost use Rattle.trac_space.specs.Texts.{text_of_cells};
+ghost use Rattle.trac_space.specs.Texts.{IsByte, text_of_cells};
 ghost use Rattle.trac_functions.specs.Flat.{neutral_of};
-ghost use Rattle.trac_core.specs.View.{dropped, neutral_in, row_of};
+ghost use Rattle.trac_core.specs.View.{dropped, neutral_in, row_of, stops_before, taken, taken_in_row};
+ghost use Rattle.trac_core.specs.View.{steps_before_call};
 ghost use Rattle.trac_forms.specs.Contents.{IsSound};
 
 use super::Machine;
 use crate::runs::matching;
-use crate::scan::{character, is_at};
+use crate::scan::is_at;
 use trac_forms::{Cell, Work};
+use trac_space::character_of;
 
 /// The rows of the table of scanning rules: what a step does is
 /// told by the beginning of the active string (Mooers 1966).
@@ -56,7 +58,7 @@ impl<'a> Machine<'a> {
     pub fn active(&self) -> &[Cell]
         ensures { text_of_cells result.now ≡ self.now.memory.active }
     {
-        self.work.active_part(0, self.work.active_len())
+        characters(&self.work)
     }
 
     /// The neutral string: the base text, and then for each open call its
@@ -72,7 +74,26 @@ impl<'a> Machine<'a> {
     pub fn next_rule(&self) -> ScanningRule
         ensures { result ≡ row_of (rule self.now.memory.active) }
     {
-        rule_of(&self.work)
+        rule_of(self.active())
+    }
+
+    /// How many characters the next step takes from the front of the active string: those that open a
+    /// call, a text in parentheses with both of them, and else one. All, where it begins with a left
+    /// parenthesis that has no match; none, where it is empty. The rules are Mooers' (1966).
+    pub fn takes(&self) -> u32
+        ensures { let active = self.now.memory.active in
+            result ≡ taken (rule active) (length active) }
+    {
+        taken_from(characters(&self.work)) as u32
+    }
+
+    /// How many steps come before the next one that follows the rule of a right parenthesis or that of
+    /// an empty active string, at most `most`: none of them performs a call. They are counted as if the
+    /// allowance had no end, and nothing is changed. This processor's own choice.
+    pub fn steps_to_call(&self, most: u64) -> u64
+        ensures { result ≡ steps_before_call most self.now.memory.active }
+    {
+        steps_before_call(characters(&self.work), most)
     }
 
     /// How many characters the next step drops: all of the active string, where it begins with a left
@@ -112,31 +133,117 @@ fn dropped_from(work: &Work) -> u32
     }
 }
 
-/// The rule that fits the beginning of the active string.
-fn rule_of(work: &Work) -> ScanningRule
-    ensures { result ≡ row_of (rule (text_of_cells work.now.active)) }
+/// The cells of the active string.
+fn characters<'w>(work: &'w Work) -> &'w [Cell]
+    requires sound { IsSound work.now }
+    ensures text { text_of_cells result.now ≡ text_of_cells work.now.active }
+    ensures few { length result.now ≤ 16777216 }
+    ensures bytes { All IsByte result.now }
 {
-    match character(work, 0) {
+    work.active_part(0, work.active_len())
+}
+
+/// Whether a character stands at a place of an active string.
+fn is_in(active: &[Cell], place: usize, byte: u8) -> bool
+    ensures { IsTrue result ↔ (slice_get (text_of_cells active.now) place ≡ Some byte) }
+{
+    match active.get(place) {
+        Some(cell) => character_of(cell) == byte,
+        None => false,
+    }
+}
+
+/// The rule that fits the beginning of an active string.
+fn rule_of(active: &[Cell]) -> ScanningRule
+    ensures { result ≡ row_of (rule (text_of_cells active.now)) }
+{
+    match active.first() {
         None => ScanningRule::Idling,
-        Some(b'\t' | b'\n' | b'\r') => ScanningRule::Layout,
-        Some(b'(') => ScanningRule::Protection,
-        Some(b')') => ScanningRule::EndOfCall,
-        Some(b',') => ScanningRule::Argument,
-        Some(b'#') => number_sign_rule(work),
-        Some(_) => ScanningRule::Character,
+        Some(first) => rule_at(active, character_of(first)),
+    }
+}
+
+/// The rule that fits an active string that begins with this character.
+fn rule_at(active: &[Cell], first: u8) -> ScanningRule
+    requires { slice_get (text_of_cells active.now) 0 ≡ Some first }
+    ensures { result ≡ row_of (rule (text_of_cells active.now)) }
+{
+    match first {
+        b'\t' | b'\n' | b'\r' => ScanningRule::Layout,
+        b'(' => ScanningRule::Protection,
+        b')' => ScanningRule::EndOfCall,
+        b',' => ScanningRule::Argument,
+        b'#' => number_sign_rule(active),
+        _ => ScanningRule::Character,
     }
 }
 
 /// The rule where a number sign stands first.
-fn number_sign_rule(work: &Work) -> ScanningRule
-    requires { slice_get (text_of_cells work.now.active) 0 ≡ Some 35 }
-    ensures { result ≡ row_of (rule (text_of_cells work.now.active)) }
+fn number_sign_rule(active: &[Cell]) -> ScanningRule
+    requires { slice_get (text_of_cells active.now) 0 ≡ Some 35 }
+    ensures { result ≡ row_of (rule (text_of_cells active.now)) }
 {
-    if is_at(work, 1, b'(') {
+    if is_in(active, 1, b'(') {
         ScanningRule::ActiveCall
-    } else if is_at(work, 1, b'#') && is_at(work, 2, b'(') {
+    } else if is_in(active, 1, b'#') && is_in(active, 2, b'(') {
         ScanningRule::NeutralCall
     } else {
         ScanningRule::NumberSign
     }
+}
+
+/// How many characters a step takes from the front of an active string.
+fn taken_from(active: &[Cell]) -> usize
+    requires few { length active.now ≤ 16777216 }
+    requires bytes { All IsByte active.now }
+    ensures taken { let text = text_of_cells active.now in
+        result ≡ taken (rule text) (length text) }
+    ensures within { result ≤ length active.now }
+{
+    if !is_in(active, 0, b'(') {
+        return taken_in_row(rule_of(active));
+    }
+    match matching(&active[1..]) {
+        Some(len) => len as usize + 2,
+        None => active.len(),
+    }
+}
+
+/// How many characters a step takes by a rule of a row, where that protects no text.
+fn taken_in_row(row: ScanningRule) -> usize
+    ensures { result ≡ taken_in_row row }
+{
+    match row {
+        ScanningRule::Idling => 0,
+        ScanningRule::ActiveCall => 2,
+        ScanningRule::NeutralCall => 3,
+        _ => 1,
+    }
+}
+
+/// How many steps over an active string come before one by the rule of a right parenthesis or of an
+/// empty string, at most `most`.
+fn steps_before_call(active: &[Cell], most: u64) -> u64
+    requires few { length active.now ≤ 16777216 }
+    requires bytes { All IsByte active.now }
+    ensures { result ≡ steps_before_call most (text_of_cells active.now) }
+{
+    let mut place = 0;
+    let mut steps = 0;
+    while steps < most {
+        let rest = &active[place..];
+        if stops_before(rule_of(rest)) {
+            return steps;
+        }
+        place += taken_from(rest);
+        steps += 1;
+    }
+    steps
+}
+
+/// Whether a step by a rule of a row may perform a call, or loads the idling procedure.
+fn stops_before(row: ScanningRule) -> bool
+    ensures { result ≡ stops_before row }
+{
+    matches!(row, ScanningRule::EndOfCall | ScanningRule::Idling)
 }

@@ -1,4 +1,4 @@
-//! The index of forms: made, kept by each change of the store, and given up for a list.
+//! The index of forms: it is made, follows each change of the forms, and gives way to strings.
 ghost use Rattle.std.specs.Prelude.{◌≤◌, length};
 
 use super::{define, find, push, segment};
@@ -22,7 +22,7 @@ fn wants_index(work: &mut Work) {
     work.search_cost = u32::MAX;
 }
 
-// Forms named by the first so many letters.
+// Defines forms named by the first letters, as many as are asked for.
 fn with_forms<'a>(block: &'a mut [Cell], count: u8) -> Work<'a>
     requires { length block.old ≤ 16777216 }
 {
@@ -91,7 +91,7 @@ fn index_is_made_by_searches(rt: HostRuntime) {
         assert!(rt; find(&mut work, part(letter)).is_some());
     }
     assert!(rt; work.space.spare_len() == 128);
-    // not at the first searches, and after about as many as making it costs
+    // the first searches don't make the index; about as many as it costs do
     assert!(rt; 8 < made && made < 100);
 }
 
@@ -109,7 +109,7 @@ fn index_grows(rt: HostRuntime) {
     assert!(rt; are_forms(&mut work, b"ABCDEFGHIJKLMNOPQ"));
 }
 
-// Where more than half of the free cells would be needed for a greater table.
+// A larger index would need more than half of the free cells.
 #[test]
 fn index_is_outgrown_and_cleared(rt: HostRuntime) {
     let mut block = [Cell::Gap(7); 400];
@@ -135,7 +135,7 @@ fn index_is_outgrown_and_cleared(rt: HostRuntime) {
     assert!(rt; are_forms(&mut work, b""));
     assert!(rt; define_letter(&mut work, b'Z'));
     assert!(rt; are_forms(&mut work, b"Z"));
-    // a table so much greater than the forms is let go
+    // a table far too large for the forms is dropped
     work.delete_all();
     assert!(rt; work.space.spare_len() == 0);
 }

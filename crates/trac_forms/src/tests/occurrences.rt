@@ -2,8 +2,8 @@
 use super::{define, find, occurrence, push, segment};
 use crate::{Cell, Work};
 
-// Where the text stands first in the body, each minus sign of which is a gap, from a place on. No
-// cell is free where the block is to be full.
+// Where the text first stands in the body from a place on. Each minus sign of the body is a gap. If the
+// block is to be full, no cell is free.
 fn first_place(work: &mut Work, body: &[u8], text: &[u8], from: u32, full: bool) -> Option<u32> {
     work.delete_all();
     work.clear_neutral();

@@ -9,7 +9,7 @@ use denote.Enum.Laws as LL
 use Rattle.std.proofs.VecSteps.Shapes.{after}
 use Rattle.std.proofs.ptr.Rows.{El, R, elτ, sz, el_in, empty, room_split, spare, snoc}
 use Rattle.trac_space.specs.contracts.cell.Cell as C
-use Rattle.trac_space.specs.declared.cell.Cell.TheVariants.{Comma}
+use Rattle.trac_space.specs.declared.cell.Cell.TheVariants.{Byte}
 use Rattle.trac_space.proofs.cell.Cell.TheLaws as C'
 use Rattle.trac_c.specs.contracts.run.fill as f
 use Rattle.trac_c.proofs.run.fill.Statement.{statement}
@@ -25,14 +25,14 @@ Done n = (i : ℕ) × (i ≤ n)
 abbrev Nearer : (n : ℕ) → Done n → Done n → Type 0
 Nearer n t u = n - t.0 < n - u.0
 
-comma_is : Is C.the_row Comma (LL.vals C.the_type C'.the_laws Comma)
-comma_is = LL.owes C.the_type C'.the_laws Comma tt
+blank_is : Is C.the_row (Byte 0) (LL.vals C.the_type C'.the_laws (Byte 0))
+blank_is = LL.owes C.the_type C'.the_laws (Byte 0) ((refl, lit< tt), tt)
 
-abbrev comma : Val
-comma = vstruct (vcons (vint w8 2) vnil)
+abbrev blank : Val
+blank = vstruct (vcons (vint w8 0) (vcons (vint w8 0) vnil))
 
-good : T (has_ty (elτ E) comma) × WT comma
-good = (tt, (record { fits = lit< tt }, tt))
+good : T (has_ty (elτ E) blank) × WT blank
+good = (tt, (record { fits = lit< tt }, (record { fits = lit< tt }, tt)))
 
 abbrev stayed : Stays f.ended.signature.params f.ended.kept
 stayed = (stay_dropped _ yes, (stay_dropped _ yes, tt))
@@ -67,17 +67,17 @@ fill_spec 𝓤 𝓛 𝓜 𝓡 wired =
     skips ! $ exec ! 𝓣.C 𝓣.Λ En (after 2 code.Mir.turn-1) (any_q (Turned t)) $
     sets ! (bin ! (get ! refl) (lit ! tt) (record { fits = fm })) refl (tt, record { fits = fm }) $
     sets ! (bin ! (get ! refl) (get ! refl) tt) refl (tt, tt) $
-    sets ! (agg ! (and_then ! (lit ! tt) (no_more !))) refl good $
+    sets ! (agg ! (and_then ! (lit ! tt) (and_then ! (lit ! tt) (no_more !)))) refl good $
     fpick ! (λ xs. move ! (1 ∷ []) $
     use1 𝓛 (‵ (froom τ b (i * s + o)) ⊛ ‵ (froom (ty_array τ (n - (i + 1))) b (o + (i + 1) * s))) (spare E 𝓛 b o i n h) $ split ! $
     assigns ! (of_opd ! (get ! refl)) (through ! refl (stop !)) (init ! 0 refl good) $
-    owned ! C.the_row (Is C.the_row) (LL.makes C.the_type C'.the_plain 𝓛) Comma _ comma_is $
+    owned ! C.the_row (Is C.the_row) (LL.makes C.the_type C'.the_plain 𝓛) (Byte 0) _ blank_is $
     move ! (1 ∷ 0 ∷ []) $
-    use2 𝓛 (‵ (part_at (R E) full_share Comma b (i * s + o))) (el_in E 𝓛 full_share Comma b (i * s + o) comma) $
+    use2 𝓛 (‵ (part_at (R E) full_share (Byte 0) b (i * s + o))) (el_in E 𝓛 full_share (Byte 0) b (i * s + o) blank) $
     -- [the cell; the rooms behind it; the cells before it]
     move ! (2 ∷ 0 ∷ []) $
-    use2 𝓛 (‵ (part_at (Array (R E) (i + 1)) full_share (xs ++ Comma ∷ []) b o)) (snoc E 𝓛 b o i xs Comma) $
-    fpack ! (List Cell) (λ zs. part_at (Array (R E) (i + 1)) full_share zs b o) (xs ++ Comma ∷ []) $
+    use2 𝓛 (‵ (part_at (Array (R E) (i + 1)) full_share (xs ++ Byte 0 ∷ []) b o)) (snoc E 𝓛 b o i xs (Byte 0)) $
+    fpack ! (List Cell) (λ zs. part_at (Array (R E) (i + 1)) full_share zs b o) (xs ++ Byte 0 ∷ []) $
     sets_last ! (bin ! (get ! refl) (lit ! tt) (record { fits = fj })) refl (tt, record { fits = fj }) $
     forget_but ! En (1 ∷ 2 ∷ 3 ∷ []) refl $
     again ! (Nearer n) Now t (i + 1, omega arith) (omega arith)))

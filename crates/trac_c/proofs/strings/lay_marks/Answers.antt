@@ -1,27 +1,54 @@
-use Rattle.trac_c.proofs.Words.{◌≡◌, ◌+◌, ◌∙◌, ◌++◌, [], ◌∷◌, take, get_or, sym, ap, arith, take_more, length-take-le, Byte, neutral_of, with_cell, laid, codes_of_neutral, cell_code, has_call, is_open_after}
-use Rattle.trac_functions.proofs.FlatLemmas.{neutral_of-push}
-use Rattle.trac_c.proofs.Laid.{laid-next}
-use Rattle.trac_c.proofs.Coding.{codes-cell, call-cell, codes-count}
+use Rattle.std.proofs.lemmas.List.{drop_all}
+use Rattle.trac_c.proofs.Words.{◌≡◌, ◌+◌, ◌∙◌, take, get_or, sym, ap, arith, length-drop, length-take-le, Byte, neutral_of, laid, codes_of_neutral, cell_code, has_call, is_open_after}
+use Rattle.trac_c.proofs.Coding.{codes-count, codes-end, codes-laid, next-call}
 use Rattle.trac_c.proofs.strings.lay_marks.Goals as goal
+
+pub returns-then-from-cells-clause-length : goal.returns-then-from-cells-clause-length
+returns-then-from-cells-clause-length c =
+    let cells = c.args.cells.now in
+    omega (arith, codes-count cells, length-drop c.args.from (codes_of_neutral (neutral_of cells)))
+
+pub returns-then-from-cells-clause-laid : goal.returns-then-from-cells-clause-laid
+returns-then-from-cells-clause-laid c =
+    let cells = c.args.cells.now in
+    sym (ap (λ l. laid l c.args.room.now) (drop_all c.args.from (codes_of_neutral (neutral_of cells)) (omega (arith, codes-count cells))))
+
+pub loop-i-init : goal.loop-i-init
+loop-i-init c =
+    let cells = c.args.cells.now in
+    let from = c.args.from in
+    let front = take (from + 0) cells in
+    let none = drop_all from (codes_of_neutral (neutral_of front)) (omega (arith, codes-count front, length-take-le (from + 0) cells (omega arith))) in
+    let same : from ≡ from + 0 = omega arith in
+    record {
+      laid = sym (ap (λ l. laid l c.args.room.now) none);
+      in_call = c.is_open_before-in_call.ensures ∙ ap (λ k. has_call (neutral_of (take k cells)).calls) same;
+      within = omega arith;
+    }
 
 pub loop-i-preserved : goal.loop-i-preserved
 loop-i-preserved c =
     let i = c.loop-i.invariant in
     let cells = c.args.cells.now in
-    let k = c.loop-i.i in
+    let from = c.args.from in
+    let k = from + c.loop-i.i in
     let cell = get_or cells k (Byte 0) in
-    let n = neutral_of (take k cells) in
-    let next : neutral_of (take (k + 1) cells) ≡ with_cell n cell =
-    ap neutral_of (take_more cells k (Byte 0) c.loop-i-test.true) ∙ neutral_of-push (take k cells) cell in
-    let code = c.code.ensures ∙ ap (λ b. cell_code b cell) i.in_call in
+    let place : from + (c.loop-i.i + 1) ≡ k + 1 = omega arith in
     record {
       laid =
-          laid-next k (codes_of_neutral n) (c.code.result ∷ []) c.args.room.now c.loop-i.room c.put.new.room
-          (sym (codes-count (take k cells) ∙ length-take-le k cells (omega arith))) i.laid c.put.ensures
-          ∙ ap (λ l. laid l c.args.room.now) (ap (λ x. codes_of_neutral n ++ x ∷ []) code ∙ sym (codes-cell n cell) ∙ sym (ap codes_of_neutral next));
-      in_call = c.is_in_call-in_call.ensures ∙ ap (is_open_after cell) i.in_call ∙ sym (ap (λ m. has_call m.calls) next ∙ call-cell n cell);
+          codes-laid cells from c.loop-i.i c.code.result c.args.room.now c.loop-i.room c.put.new.room (omega arith)
+          (c.code.ensures ∙ ap (λ b. cell_code b cell) i.in_call) i.laid c.put.ensures;
+      in_call =
+          c.is_in_call-in_call.ensures ∙ ap (is_open_after cell) i.in_call ∙ sym (next-call cells k (omega arith))
+          ∙ sym (ap (λ k. has_call (neutral_of (take k cells)).calls) place);
       within = omega arith;
     }
 
 pub returns-clause-length : goal.returns-clause-length
-returns-clause-length c = sym (codes-count c.args.cells.now)
+returns-clause-length c =
+    let cells = c.args.cells.now in
+    omega (arith, codes-count cells, length-drop c.args.from (codes_of_neutral (neutral_of cells)))
+
+pub returns-clause-laid : goal.returns-clause-laid
+returns-clause-laid c =
+    c.loop-i.invariant.laid ∙ codes-end c.args.cells.now c.args.from c.loop-i.i c.args.room.now c.loop-i.invariant.within (omega arith)

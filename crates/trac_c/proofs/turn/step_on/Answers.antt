@@ -27,7 +27,7 @@ returns-in-Some-clause-over c = λ fate over.
 
 pub returns-in-None-clause-fits : goal.returns-in-None-clause-fits
 returns-in-None-clause-fits c =
-    let m = c.prints_past.new.machine in
+    let m = c.prints_past.new.self in
     let source = stream_in c.args.source.now.slice in
     let sink = c.args.sink.now in
     let new = stands c.step.new.self c.step.new.source c.step.new.sink in
@@ -41,7 +41,7 @@ returns-in-None-clause-fits c =
 pub returns-in-Some-step-clause-turns : goal.returns-in-Some-step-clause-turns
 returns-in-Some-step-clause-turns c = λ going.
     let old = c.args.machine.now in
-    let m = c.prints_past.new.machine in
+    let m = c.prints_past.new.self in
     let same = c.prints_past.ensures.same in
     let here = ap (λ (m : MachineState). m.fate) same ∙ going in
     let source = stream_in c.args.source.now.slice in

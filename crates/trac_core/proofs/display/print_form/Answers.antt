@@ -1,4 +1,4 @@
-use Rattle.trac_core.proofs.Words.{sym, ap, ◌∙◌, subst, length, form_named, Contents, used, Defined, arguments_at, texts, Stands, display}
+use Rattle.trac_core.proofs.Words.{sym, ap, ◌∙◌, subst, length, form_named, Contents, used, Null, arguments_at, texts, Stands, display}
 use Rattle.trac_core.proofs.Performing.{stands-null}
 use Rattle.trac_core.proofs.PrintCalls.{argument-one}
 use Rattle.trac_core.proofs.FormDisplay.{answers-display, answers-display-broken}
@@ -14,7 +14,7 @@ returns-in-Ok-clause-answers g c = λ told place meta source has.
 pub returns-in-Ok-clause-stands : goal.returns-in-Ok-clause-stands
 returns-in-Ok-clause-stands g c =
     let w = c.args.work.now in
-    subst (λ (new : Contents). Stands (Defined 0) (used w) (length w.neutral) new) (sym c.in-Ok.ensures.same) (stands-null w c.requires.arguments.sound)
+    subst (λ (new : Contents). Stands (Null 0) (used w) (length w.neutral) new) (sym c.in-Ok.ensures.same) (stands-null w c.requires.arguments.sound)
 
 pub returns-in-Err-clause-answers : goal.returns-in-Err-clause-answers
 returns-in-Err-clause-answers g c = λ told place meta source has.

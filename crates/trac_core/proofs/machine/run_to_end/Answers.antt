@@ -37,7 +37,7 @@ loop-left-preserved-in-Ok g c =
     let within = some.few in
     let fits = i.sound.fits in
     let old = c.loop-left.work in
-    let new = c.pass.new.work in
+    let new = c.scan_steps.new.work in
     record {
       few = omega arith;
       sound = h.keeps.sound;
@@ -59,7 +59,7 @@ loop-left-preserved-in-Ok g c =
 pub returns-in-Some : goal.returns-in-Some
 returns-in-Some g c =
     let i = c.loop-left.invariant in
-    let h = c.carry_out-last.ensures in
+    let h = c.perform_pending-last.ensures in
     let ended = c.ended.ensures in
     let room = c.in-Err.ensures.keeps.room ∙ i.room in
     let fate = c.in-Some.is ∙ ap Some (sym ended.fate) in
@@ -70,15 +70,15 @@ returns-in-Some g c =
           let before = g.O.Sink.written c.args.sink.now in
           let source = g.I.Source.stream c.loop-left.source in
           let written = g.O.Sink.written c.loop-left.sink in
-          let later = g.I.Source.stream c.carry_out-last.new.source in
-          let printed = g.O.Sink.written c.carry_out-last.new.sink in
+          let later = g.I.Source.stream c.perform_pending-last.new.source in
+          let printed = g.O.Sink.written c.perform_pending-last.new.sink in
           let last = with_left c.args.at.allowance c.loop-left.left c.loop-left.peak in
           let course = subst (λ (w : Contents). OnCourse start bytes before (moment (running w c.loop-left.meta last) source written)) (sym c.in-Err.ensures.comes.0) (i.course told_source told_sink) in
-          let tried = subst (λ fate. Tried (scene c.pass.new.work c.loop-left.meta source written) fate c.carry_out-last.result.need (scene c.carry_out-last.new.work c.carry_out-last.new.meta later printed)) c.in-Some.is
+          let tried = subst (λ fate. Tried (scene c.scan_steps.new.work c.loop-left.meta source written) fate c.perform_pending-last.result.need (scene c.perform_pending-last.new.work c.perform_pending-last.new.meta later printed)) c.in-Some.is
           (h.tried (i.told_source told_source) (i.told_sink told_sink)) in
-          ends-step start bytes before c.pass.new.work c.carry_out-last.new.work c.loop-left.meta c.args.at.allowance c.loop-left.left c.loop-left.peak room (omega arith)
-          c.carry_out-last.new.meta c.carry_out-last.result.need source _ written _ c.in-Some.fate c.ended.result refl c.loop-left-test.true tried course
-          (ended.counts (running c.pass.new.work c.loop-left.meta last) (memory_of c.carry_out-last.new.meta c.carry_out-last.new.work) refl refl);
+          ends-step start bytes before c.scan_steps.new.work c.perform_pending-last.new.work c.loop-left.meta c.args.at.allowance c.loop-left.left c.loop-left.peak room (omega arith)
+          c.perform_pending-last.new.meta c.perform_pending-last.result.need source _ written _ c.in-Some.fate c.ended.result refl c.loop-left-test.true tried course
+          (ended.counts (running c.scan_steps.new.work c.loop-left.meta last) (memory_of c.perform_pending-last.new.meta c.perform_pending-last.new.work) refl refl);
       leaves = λ told_source told_sink.
           let start = running c.args.work.now c.args.meta.now c.args.at in
           let bytes = (g.I.Source.stream c.args.source.now).bytes in
@@ -87,15 +87,15 @@ returns-in-Some g c =
           let written = g.O.Sink.written c.loop-left.sink in
           let last = with_left c.args.at.allowance c.loop-left.left c.loop-left.peak in
           let course = subst (λ (w : Contents). OnCourse start bytes before (moment (running w c.loop-left.meta last) source written)) (sym c.in-Err.ensures.comes.0) (i.course told_source told_sink) in
-          let tried = subst (λ fate. Tried (scene c.pass.new.work c.loop-left.meta source written) fate c.carry_out-last.result.need (scene c.carry_out-last.new.work c.carry_out-last.new.meta (g.I.Source.stream c.carry_out-last.new.source) (g.O.Sink.written c.carry_out-last.new.sink))) c.in-Some.is
+          let tried = subst (λ fate. Tried (scene c.scan_steps.new.work c.loop-left.meta source written) fate c.perform_pending-last.result.need (scene c.perform_pending-last.new.work c.perform_pending-last.new.meta (g.I.Source.stream c.perform_pending-last.new.source) (g.O.Sink.written c.perform_pending-last.new.sink))) c.in-Some.is
           (h.tried (i.told_source told_source) (i.told_sink told_sink)) in
-          leaves-step start bytes before c.pass.new.work c.carry_out-last.new.work c.loop-left.meta c.args.at.allowance c.loop-left.left c.loop-left.peak room (omega arith)
-          c.carry_out-last.new.meta c.carry_out-last.result.need source _ written _ c.in-Some.fate c.ended.result c.loop-left-test.true (λ e. h.unspent (c.in-Some.is ∙ ap Some e)) tried course
-          (ended.counts (running c.pass.new.work c.loop-left.meta last) (memory_of c.carry_out-last.new.meta c.carry_out-last.new.work) refl refl)
+          leaves-step start bytes before c.scan_steps.new.work c.perform_pending-last.new.work c.loop-left.meta c.args.at.allowance c.loop-left.left c.loop-left.peak room (omega arith)
+          c.perform_pending-last.new.meta c.perform_pending-last.result.need source _ written _ c.in-Some.fate c.ended.result c.loop-left-test.true (λ e. h.unspent (c.in-Some.is ∙ ap Some e)) tried course
+          (ended.counts (running c.scan_steps.new.work c.loop-left.meta last) (memory_of c.perform_pending-last.new.meta c.perform_pending-last.new.work) refl refl)
           (h.stay (λ e. (let some = c.in-Some.is in cc)));
       input_failed = let fate = ap (input_failures None) fate in omega (arith, i.source_failures, h.source.1, fate);
       output_failed = let fate = ap (output_failures None) fate in omega (arith, i.sink_failures, h.sink.1, fate);
-      sent = λ other. let same = ended.fate in sent-more g.O.Sink.tells g.O.Sink.flushed g.O.Sink.written c.args.sink.now c.loop-left.sink c.carry_out-last.new.sink i.told_sink i.sent (h.sink.4 (λ e. other cc));
+      sent = λ other. let same = ended.fate in sent-more g.O.Sink.tells g.O.Sink.flushed g.O.Sink.written c.args.sink.now c.loop-left.sink c.perform_pending-last.new.sink i.told_sink i.sent (h.sink.4 (λ e. other cc));
       told_source = λ told. h.source.0 (i.told_source told);
       told_sink = λ told. h.sink.0 (i.told_sink told);
       kept = h.sink.3 ∙ i.kept;
@@ -108,8 +108,8 @@ pub loop-left-preserved : goal.loop-left-preserved
 loop-left-preserved g c =
     let i = c.loop-left.invariant in
     let same = c.in-Err.ensures.comes.0 in
-    let h = c.carry_out-last.ensures in
-    let none : c.carry_out-last.result.fate ≡ None = c.in_default.is in
+    let h = c.perform_pending-last.ensures in
+    let none : c.perform_pending-last.result.fate ≡ None = c.in_default.is in
     let len = c.neutral_len-plain-in-Err.ensures.value in
     let peak_is = c.max-peak-in-Err.ensures in
     let room = h.keeps.room ∙ c.in-Err.ensures.keeps.room in
@@ -119,7 +119,7 @@ loop-left-preserved g c =
       few = omega arith;
       sound = h.keeps.sound;
       room = room ∙ i.room;
-      plain = λ k d within. absurd (omega (arith, len, length-drop c.neutral_len-plain-in-Err.result c.carry_out-last.new.work.neutral));
+      plain = λ k d within. absurd (omega (arith, len, length-drop c.neutral_len-plain-in-Err.result c.perform_pending-last.new.work.neutral));
       peak = omega (arith, h.keeps.room, c.in-Err.ensures.keeps.room);
       need = inl c.used-need-in-Err.ensures.value;
       source_failures = omega (arith, i.source_failures, h.source.1, inputs);
@@ -127,21 +127,21 @@ loop-left-preserved g c =
       kept = h.sink.3 ∙ i.kept;
       told_source = λ told. h.source.0 (i.told_source told);
       told_sink = λ told. h.sink.0 (i.told_sink told);
-      sent = sent-more g.O.Sink.tells g.O.Sink.flushed g.O.Sink.written c.args.sink.now c.loop-left.sink c.carry_out-last.new.sink i.told_sink i.sent (h.sink.4 (λ e. absurd cc));
+      sent = sent-more g.O.Sink.tells g.O.Sink.flushed g.O.Sink.written c.args.sink.now c.loop-left.sink c.perform_pending-last.new.sink i.told_sink i.sent (h.sink.4 (λ e. absurd cc));
       course = λ told_source told_sink.
           let start = running c.args.work.now c.args.meta.now c.args.at in
           let source = g.I.Source.stream c.loop-left.source in
           let written = g.O.Sink.written c.loop-left.sink in
-          let later = g.I.Source.stream c.carry_out-last.new.source in
-          let printed = g.O.Sink.written c.carry_out-last.new.sink in
+          let later = g.I.Source.stream c.perform_pending-last.new.source in
+          let printed = g.O.Sink.written c.perform_pending-last.new.sink in
           let bytes = (g.I.Source.stream c.args.source.now).bytes in
           let before = g.O.Sink.written c.args.sink.now in
           let course = subst (λ (w : Contents). OnCourse start bytes before (moment (running w c.loop-left.meta (with_left c.args.at.allowance c.loop-left.left c.loop-left.peak)) source written)) (sym same) (i.course told_source told_sink) in
-          let tried = subst (λ fate. Tried (scene c.pass.new.work c.loop-left.meta source written) fate c.carry_out-last.result.need (scene c.carry_out-last.new.work c.carry_out-last.new.meta later printed)) none
+          let tried = subst (λ fate. Tried (scene c.scan_steps.new.work c.loop-left.meta source written) fate c.perform_pending-last.result.need (scene c.perform_pending-last.new.work c.perform_pending-last.new.meta later printed)) none
           (h.tried (i.told_source told_source) (i.told_sink told_sink)) in
           let took = h.takes (i.told_source told_source) in
-          course-step start bytes before c.pass.new.work c.carry_out-last.new.work c.loop-left.meta c.args.at.allowance c.loop-left.left c.loop-left.peak (c.in-Err.ensures.keeps.room ∙ i.room) (omega arith)
-          c.carry_out-last.new.meta c.carry_out-last.result.need c.max-peak-in-Err.result took.0 source later written printed h.keeps.room c.loop-left-test.true peak_is took.1.consumed tried course;
+          course-step start bytes before c.scan_steps.new.work c.perform_pending-last.new.work c.loop-left.meta c.args.at.allowance c.loop-left.left c.loop-left.peak (c.in-Err.ensures.keeps.room ∙ i.room) (omega arith)
+          c.perform_pending-last.new.meta c.perform_pending-last.result.need c.max-peak-in-Err.result took.0 source later written printed h.keeps.room c.loop-left-test.true peak_is took.1.consumed tried course;
     }
 
 pub returns-clause-reports : goal.returns-clause-reports

@@ -6,4 +6,4 @@ returns-in-Ok-clause-comes c = λ meta.
     let h = c.in-Ok.ensures.comes in
     let n = c.in-Ok.field-0 in
     let one : n ≡ 1 = omega (arith, h.some, h.few) in
-    subst (λ n. PassesTimes n (memory_of meta c.args.work.now) (memory_of meta c.pass.new.work)) one (h.passes meta)
+    subst (λ n. PassesTimes n (memory_of meta c.args.work.now) (memory_of meta c.scan_steps.new.work)) one (h.passes meta)

@@ -8,7 +8,7 @@ loop-left-preserved c =
     let start = c.args.start in
     let place : start + c.args.distance + (left - 8) ≡ start + (left - 8) + c.args.distance = omega arith in
     let end : start + (left - 8) + 8 ≡ start + left = omega arith in
-    let moved = c.copy_some_higher.ensures.after _ place ∙ ap (λ j. copy_within c.loop-left.cells (start + (left - 8)) j (start + c.args.distance + (left - 8))) end in
+    let moved = c.copy_at_once_higher.ensures.after _ place ∙ ap (λ j. copy_within c.loop-left.cells (start + (left - 8)) j (start + c.args.distance + (left - 8))) end in
     record {
       some = omega arith;
       within = omega arith;
@@ -17,4 +17,4 @@ loop-left-preserved c =
 
 pub returns-clause-after : goal.returns-clause-after
 returns-clause-after c = λ to is.
-    rw is (lifted-last c.args.cells.now c.loop-left.cells c.copy_some_higher-2.new.cells c.args.start (c.args.start + c.args.distance) c.loop-left.left 8 c.args.n (omega arith) (omega arith) (omega arith) (omega arith) c.loop-left.invariant.copied (c.copy_some_higher-2.ensures.after _ refl))
+    rw is (lifted-last c.args.cells.now c.loop-left.cells c.copy_at_once_higher-2.new.cells c.args.start (c.args.start + c.args.distance) c.loop-left.left 8 c.args.n (omega arith) (omega arith) (omega arith) (omega arith) c.loop-left.invariant.copied (c.copy_at_once_higher-2.ensures.after _ refl))

@@ -9,5 +9,5 @@ copied-down was now after start to k n before within is moved =
 pub loop-done-preserved : goal.loop-done-preserved
 loop-done-preserved c = record {
   within = omega arith;
-  copied = copied-down c.args.cells.now c.loop-done.cells _ c.args.start c.args.to c.loop-done.done _ (omega arith) (omega arith) c.loop-done.invariant.copied c.copy_apart.ensures.after;
+  copied = copied-down c.args.cells.now c.loop-done.cells _ c.args.start c.args.to c.loop-done.done _ (omega arith) (omega arith) c.loop-done.invariant.copied c.copy_disjoint.ensures.after;
 }

@@ -2,30 +2,30 @@ use Rattle.trac_space.proofs.Words.{◌≡◌, ◌+◌, ◌≤◌, ◌∙◌, ap
 use Rattle.trac_space.specs.Overlay.{under}
 use Rattle.trac_space.proofs.Filled.{along-start, along-front, along-end, commas-now, same-part, same-cell, cell-put, cell-full}
 use Rattle.trac_space.proofs.filling.fill_each.Goals as goal
-use Rattle.trac_space.proofs.filling.fill_each.Goals.{After-cells_for-start}
+use Rattle.trac_space.proofs.filling.fill_each.Goals.{After-filling_of-start}
 
-pub cells_for-start-requires-clause-commas : goal.cells_for-start-requires-clause-commas
-cells_for-start-requires-clause-commas c =
+pub filling_of-start-requires-clause-commas : goal.filling_of-start-requires-clause-commas
+filling_of-start-requires-clause-commas c =
     commas-now c.args.cells.now _ c.args.from c.args.stop c.args.to c.args.last (omega (arith, c.requires.before, c.requires.behind)) c.requires.inside c.loop-at.cells c.loop-at.at c.loop-at.to c.loop-at.invariant c.args.given.start (c.args.given.start + c.args.given.len) c.args.given.commas c.requires.behind c.requires.commas
 
 -- the cells that are to be put are those that fill the next one
-are : (c : After-cells_for-start) → map under (slice_range c.loop-at.cells c.cells_for-start.result.0 (c.cells_for-start.result.0 + c.cells_for-start.result.1)) ≡ filling (map under (slice_range c.args.cells.now c.args.given.start (c.args.given.start + c.args.given.len))) (slice_index_or c.args.cells.now c.loop-at.at Comma)
+are : (c : After-filling_of-start) → map under (slice_range c.loop-at.cells c.filling_of-start.result.0 (c.filling_of-start.result.0 + c.filling_of-start.result.1)) ≡ filling (map under (slice_range c.args.cells.now c.args.given.start (c.args.given.start + c.args.given.len))) (slice_index_or c.args.cells.now c.loop-at.at Comma)
 are c =
     let old = c.args.cells.now in
     let i = c.loop-at.invariant in
     let before : c.args.stop ≤ c.args.to = omega (arith, c.requires.before, c.requires.behind) in
     let part = same-part old _ c.args.from c.args.stop c.args.to c.args.last before c.requires.inside c.loop-at.cells c.loop-at.at c.loop-at.to i c.args.given.start (c.args.given.start + c.args.given.len) c.requires.behind in
     let cell = same-cell old _ c.args.from c.args.stop c.args.to c.args.last before c.requires.inside c.loop-at.cells c.loop-at.at c.loop-at.to i c.loop-at.at Comma (omega (arith, before, c.loop-at-test.true)) in
-    c.cells_for-start.ensures.cells
+    c.filling_of-start.ensures.cells
     ∙ ap (λ cells. filling (map under cells) (slice_index_or c.loop-at.cells c.loop-at.at Comma)) part
     ∙ ap (filling (map under (slice_range old c.args.given.start (c.args.given.start + c.args.given.len)))) cell
 
-long : (c : After-cells_for-start) → length (slice_range c.loop-at.cells c.cells_for-start.result.0 (c.cells_for-start.result.0 + c.cells_for-start.result.1)) ≡ c.cells_for-start.result.1
+long : (c : After-filling_of-start) → length (slice_range c.loop-at.cells c.filling_of-start.result.0 (c.filling_of-start.result.0 + c.filling_of-start.result.1)) ≡ c.filling_of-start.result.1
 long c =
     let i = c.loop-at.invariant in
-    let a = c.cells_for-start.result.0 in
-    let b = a + c.cells_for-start.result.1 in
-    omega (arith, length-between c.loop-at.cells a b (omega (arith, c.cells_for-start.ensures.within, c.requires.behind, c.requires.room, c.requires.inside, i.size)))
+    let a = c.filling_of-start.result.0 in
+    let b = a + c.filling_of-start.result.1 in
+    omega (arith, length-between c.loop-at.cells a b (omega (arith, c.filling_of-start.ensures.within, c.requires.behind, c.requires.room, c.requires.inside, i.size)))
 
 pub loop-at-init : goal.loop-at-init
 loop-at-init c =
@@ -33,15 +33,15 @@ loop-at-init c =
 
 pub loop-at-preserved : goal.loop-at-preserved
 loop-at-preserved c =
-    let k = (goal.at.loop-at-preserved c).After-cells_for-start in
+    let k = (goal.at.loop-at-preserved c).After-filling_of-start in
     let i = c.loop-at.invariant in
-    cell-put c.args.cells.now _ c.args.from c.args.stop c.args.to c.args.last (omega (arith, c.requires.before, c.requires.behind)) c.requires.inside c.loop-at.cells c.loop-at.at c.loop-at.to i c.put_part.new.cells _ c.cells_for-start.result.1 c.loop-at-test.true (long k) (are k) (omega (arith, c.if-n-last.false, i.within)) c.put_part.ensures.len c.put_part.ensures.front c.put_part.ensures.behind
+    cell-put c.args.cells.now _ c.args.from c.args.stop c.args.to c.args.last (omega (arith, c.requires.before, c.requires.behind)) c.requires.inside c.loop-at.cells c.loop-at.at c.loop-at.to i c.put_lifted.new.cells _ c.filling_of-start.result.1 c.loop-at-test.true (long k) (are k) (omega (arith, c.if-n-last.false, i.within)) c.put_lifted.ensures.len c.put_lifted.ensures.front c.put_lifted.ensures.behind
 
 pub returns-then-n-last-clause-put : goal.returns-then-n-last-clause-put
 returns-then-n-last-clause-put c =
-    let k = (goal.at.returns-then-n-last-clause-put c).After-cells_for-start in
+    let k = (goal.at.returns-then-n-last-clause-put c).After-filling_of-start in
     let i = c.loop-at.invariant in
-    cell-full c.args.cells.now _ c.args.from c.args.stop c.args.to c.args.last (omega (arith, c.requires.before, c.requires.behind)) c.requires.inside c.loop-at.cells c.loop-at.at c.loop-at.to i _ c.cells_for-start.result.1 c.loop-at-test.true (long k) (are k) (omega (arith, c.if-n-last.true, i.within))
+    cell-full c.args.cells.now _ c.args.from c.args.stop c.args.to c.args.last (omega (arith, c.requires.before, c.requires.behind)) c.requires.inside c.loop-at.cells c.loop-at.at c.loop-at.to i _ c.filling_of-start.result.1 c.loop-at-test.true (long k) (are k) (omega (arith, c.if-n-last.true, i.within))
 
 pub returns-then-n-last-clause-front : goal.returns-then-n-last-clause-front
 returns-then-n-last-clause-front c =

@@ -11,10 +11,10 @@ pub returns-then-gap-items-clause-put : goal.returns-then-gap-items-clause-put
 returns-then-gap-items-clause-put c =
     let k = (goal.at.returns-then-gap-items-clause-put c).Then-gap-items in
     let size = plain-length (texts_between c.args.space.now.neutral c.args.texts.from c.args.texts.to) c.args.space.now.store c.args.items.from c.args.items.to c.requires.within (plain k) in
-    rw size c.copy_short.ensures.copied
+    rw size c.copy_store_inline.ensures.copied
 
 pub returns-then-gap-items-clause-last : goal.returns-then-gap-items-clause-last
 returns-then-gap-items-clause-last c =
     let k = (goal.at.returns-then-gap-items-clause-last c).Then-gap-items in
     let flat = plain-flat (texts_between c.args.space.now.neutral c.args.texts.from c.args.texts.to) (slice_range c.args.space.now.store c.args.items.from c.args.items.to) (plain k) in
-    rw flat (search (rules, c.copy_short.ensures.last))
+    rw flat (search (rules, c.copy_store_inline.ensures.last))

@@ -1,4 +1,4 @@
-use Rattle.trac_core.proofs.Words.{◌≡◌, ◌⊎◌, ◌-◌, refl, sym, ap, ◌∙◌, subst, arith, inl, inr, Some, length-drop, Contents, memory_of, TriedAlone, NeedsMore, GoesAlone, running}
+use Rattle.trac_core.proofs.Words.{◌≡◌, ◌⊎◌, ◌-◌, refl, sym, ap, ◌∙◌, subst, arith, inl, inr, None, Some, length-drop, Contents, memory_of, TriedAlone, NeedsMore, GoesAlone, running}
 use Rattle.trac_core.proofs.RunningOn.{need-fits, need-counted}
 use Rattle.trac_core.proofs.Advancing.{counters_after, alone-run, alone-step, alone-stays, alone-ends, least-of}
 use Rattle.trac_core.proofs.machine.advancing.go_alone.Goals as goal
@@ -11,7 +11,7 @@ loop-left-preserved-in-Ok c =
     let within = some.few in
     let fits = i.sound.fits in
     let old = c.loop-left.work in
-    let new = c.pass.new.work in
+    let new = c.scan_steps.new.work in
     record {
       few = omega arith;
       allowed = i.allowed;
@@ -25,46 +25,46 @@ loop-left-preserved-in-Ok c =
           c.in-Ok.done c.loop-left.need c.max-peak.result (c.min-reach.result - (c.loop-left.left - c.in-Ok.done)) h.keeps.room i.sound (omega (arith, i.allowed, i.few)) some.some some.passes i.need c.max-peak.ensures (omega (arith, i.few)) i.goes;
     }
 
-pub returns-in-Some-fate-clause-advanced : goal.returns-in-Some-fate-clause-advanced
-returns-in-Some-fate-clause-advanced c =
+pub returns-in-Some-clause-advanced : goal.returns-in-Some-clause-advanced
+returns-in-Some-clause-advanced c =
     let i = c.loop-left.invariant in
     let same = c.in-Err.ensures.comes.0 in
     let start = running c.args.work.now c.args.meta.now c.args.at in
     let done = c.min-reach.result - c.loop-left.left in
     let at = counters_after c.args.at done c.loop-left.peak in
-    let w = c.pass.new.work in
+    let w = c.scan_steps.new.work in
     let goes = subst (λ (w : Contents). GoesAlone done start (running w c.loop-left.meta at)) (sym same) i.goes in
-    let h = c.in-Some.ensures in
-    let tried = subst (λ fate. TriedAlone w c.loop-left.meta fate c.in-Some.last.need c.carry_alone.new.work c.carry_alone.new.meta) c.in-Some-fate.is h.tried in
-    let counts = c.ended-report.ensures.counts (running w c.loop-left.meta at) (memory_of c.carry_alone.new.meta c.carry_alone.new.work) refl refl in
-    alone-ends start w c.carry_alone.new.work c.loop-left.meta c.args.at done c.loop-left.peak
-    c.args.most c.carry_alone.new.meta c.in-Some.last.need c.in-Some-fate.fate _ h.keeps.room (omega (arith, i.allowed, i.few, c.loop-left-test.true)) (omega (arith, i.wanted, i.few, c.loop-left-test.true)) tried
-    (ap (λ report. record { done = done; steps = report.steps; peak = report.peak; fate = Some report.fate }) counts) goes
+    let h = c.in-Ok-perform_pending_alone.ensures in
+    let tried = subst (λ fate. TriedAlone w c.loop-left.meta fate c.in-Ok-perform_pending_alone.last.need c.perform_pending_alone.new.work c.perform_pending_alone.new.meta) c.in-Some.is h.tried in
+    let counts = c.ended-report.ensures.counts (running w c.loop-left.meta at) (memory_of c.perform_pending_alone.new.meta c.perform_pending_alone.new.work) refl refl in
+    alone-ends start w c.perform_pending_alone.new.work c.loop-left.meta c.args.at done c.loop-left.peak
+    c.args.most c.perform_pending_alone.new.meta c.in-Ok-perform_pending_alone.last.need c.neutral_len.result c.in-Some.fate _ h.keeps.room (omega (arith, i.allowed, i.few, c.loop-left-test.true)) (omega (arith, i.wanted, i.few, c.loop-left-test.true)) tried
+    (ap (λ report. record { progress = record { done = done; next = None }; plain = c.neutral_len.result; steps = report.steps; peak = report.peak; fate = Some report.fate }) counts) goes
 
 pub loop-left-preserved : goal.loop-left-preserved
 loop-left-preserved c =
     let i = c.loop-left.invariant in
     let same = c.in-Err.ensures.comes.0 in
-    let h = c.in-Some.ensures in
-    let none = c.in_default-fate.is in
+    let h = c.in-Ok-perform_pending_alone.ensures in
+    let none = c.in_default.is in
     let len = c.neutral_len-plain-in-Err.ensures.value in
     let peak_is = c.max-peak-in-Err.ensures in
     let start = running c.args.work.now c.args.meta.now c.args.at in
     let done = c.min-reach.result - c.loop-left.left in
-    let w = c.pass.new.work in
+    let w = c.scan_steps.new.work in
     let goes = subst (λ (w : Contents). GoesAlone done start (running w c.loop-left.meta (counters_after c.args.at done c.loop-left.peak))) (sym same) i.goes in
-    let tried = subst (λ fate. TriedAlone w c.loop-left.meta fate c.in-Some.last.need c.carry_alone.new.work c.carry_alone.new.meta) none h.tried in
+    let tried = subst (λ fate. TriedAlone w c.loop-left.meta fate c.in-Ok-perform_pending_alone.last.need c.perform_pending_alone.new.work c.perform_pending_alone.new.meta) none h.tried in
     record {
       few = omega arith;
       allowed = i.allowed;
       wanted = i.wanted;
       sound = h.keeps.sound;
       room = h.keeps.room ∙ c.in-Err.ensures.keeps.room ∙ i.room;
-      plain = λ k d within. absurd (omega (arith, len, length-drop c.neutral_len-plain-in-Err.result c.carry_alone.new.work.neutral));
+      plain = λ k d within. absurd (omega (arith, len, length-drop c.neutral_len-plain-in-Err.result c.perform_pending_alone.new.work.neutral));
       peak = omega (arith, h.keeps.room, c.in-Err.ensures.keeps.room, h.fits, i.peak, peak_is);
       need = inl c.used-need-in-Err.ensures.value;
-      goes = alone-step start w c.carry_alone.new.work c.loop-left.meta c.args.at done c.loop-left.peak
-          c.carry_alone.new.meta c.in-Some.last.need c.max-peak-in-Err.result (c.min-reach.result - (c.loop-left.left - 1)) h.keeps.room (omega (arith, i.allowed, i.few, c.loop-left-test.true)) tried peak_is (omega (arith, i.few, c.loop-left-test.true)) goes;
+      goes = alone-step start w c.perform_pending_alone.new.work c.loop-left.meta c.args.at done c.loop-left.peak
+          c.perform_pending_alone.new.meta c.in-Ok-perform_pending_alone.last.need c.max-peak-in-Err.result (c.min-reach.result - (c.loop-left.left - 1)) h.keeps.room (omega (arith, i.allowed, i.few, c.loop-left-test.true)) tried peak_is (omega (arith, i.few, c.loop-left-test.true)) goes;
     }
 
 pub returns-clause-advanced : goal.returns-clause-advanced
@@ -75,7 +75,7 @@ returns-clause-advanced c =
     let all : c.min-reach.result ≡ done = omega (arith, c.loop-left-test.false) in
     let why = least-of c.args.most (c.args.at.allowance - c.args.at.steps) c.min-reach.result c.min-reach.ensures in
     alone-stays start c.loop-left.work c.loop-left.work c.loop-left.meta c.args.at done c.loop-left.peak
-    c.args.most c.min-reach.result c.going-2.result refl c.going-2.ensures all (go why all) i.goes
+    c.args.most c.min-reach.result c.loop-left.plain None c.going-2.result refl c.going-2.ensures all (go why all) i.goes
   where
     go : (c.min-reach.result ≡ c.args.most) ⊎ (c.min-reach.result ≡ c.args.at.allowance - c.args.at.steps) → c.min-reach.result ≡ c.min-reach.result - c.loop-left.left → (c.min-reach.result - c.loop-left.left ≡ c.args.most) ⊎ NeedsMore (running c.loop-left.work c.loop-left.meta (counters_after c.args.at (c.min-reach.result - c.loop-left.left) c.loop-left.peak))
     go (inl wanted) all = inl (sym all ∙ wanted)

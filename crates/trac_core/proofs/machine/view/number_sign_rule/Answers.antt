@@ -1,23 +1,23 @@
 use Rattle.trac_core.proofs.Words.{◌≡◌, ◌≢◌, Some, slice_get, text_of_cells}
 use Rattle.trac_core.proofs.RuleRows.{row-active, row-neutral, row-sign}
 use Rattle.trac_core.proofs.machine.view.number_sign_rule.Goals as goal
-use Rattle.trac_core.proofs.machine.view.number_sign_rule.Goals.{else-is_at-2-via-then-is_at-2+else-is_at-3, else-is_at-2-via-else-is_at-2}
+use Rattle.trac_core.proofs.machine.view.number_sign_rule.Goals.{else-is_in-2-via-then-is_in-2+else-is_in-3, else-is_in-2-via-else-is_in-2}
 
-pub returns-then-is_at : goal.returns-then-is_at
-returns-then-is_at c = row-active (text_of_cells c.args.work.now.active) c.requires (c.is_at.ensures.0 c.if-is_at.true)
+pub returns-then-is_in : goal.returns-then-is_in
+returns-then-is_in c = row-active (text_of_cells c.args.active.now) c.requires (c.is_in.ensures.0 c.if-is_in.true)
 
-pub returns-then-is_at-3 : goal.returns-then-is_at-3
-returns-then-is_at-3 c =
-    row-neutral (text_of_cells c.args.work.now.active) c.requires (c.is_at-else-is_at.ensures.0 c.if-is_at-2.true)
-    (c.is_at-then-is_at-2.ensures.0 c.if-is_at-3.true)
+pub returns-then-is_in-3 : goal.returns-then-is_in-3
+returns-then-is_in-3 c =
+    row-neutral (text_of_cells c.args.active.now) c.requires (c.is_in-else-is_in.ensures.0 c.if-is_in-2.true)
+    (c.is_in-then-is_in-2.ensures.0 c.if-is_in-3.true)
 
-pub returns-else-is_at-2 : goal.returns-else-is_at-2
-returns-else-is_at-2 c =
-    let text = text_of_cells c.args.work.now.active in
-    let second : slice_get text 1 ≢ Some 40 = λ e. (let t = c.is_at.ensures.1 e in let f = c.if-is_at.false in cc) in
+pub returns-else-is_in-2 : goal.returns-else-is_in-2
+returns-else-is_in-2 c =
+    let text = text_of_cells c.args.active.now in
+    let second : slice_get text 1 ≢ Some 40 = λ e. (let t = c.is_in.ensures.1 e in let f = c.if-is_in.false in cc) in
     let third : slice_get text 1 ≡ Some 35 → slice_get text 2 ≢ Some 40 = λ e g.
-    elim c.else-is_at-2.branch [
-      | else-is_at-2-via-then-is_at-2+else-is_at-3 w ↦ (let t = w.is_at-then-is_at-2.ensures.1 g in let f = w.if-is_at-3.false in cc)
-      | else-is_at-2-via-else-is_at-2 w ↦ (let t = c.is_at-else-is_at.ensures.1 e in let f = w.if-is_at-2.false in cc)
+    elim c.else-is_in-2.branch [
+      | else-is_in-2-via-then-is_in-2+else-is_in-3 w ↦ (let t = w.is_in-then-is_in-2.ensures.1 g in let f = w.if-is_in-3.false in cc)
+      | else-is_in-2-via-else-is_in-2 w ↦ (let t = c.is_in-else-is_in.ensures.1 e in let f = w.if-is_in-2.false in cc)
     ] in
     row-sign text c.requires second third

@@ -1,0 +1,17 @@
+use Rattle.trac_forms.proofs.Words.{take, true, arith, length-take-le, claimed-kept}
+use Rattle.trac_forms.proofs.Strings.{used-stored, text-appended}
+use Rattle.trac_forms.proofs.work.WorkNeutral.push_before.Goals as goal
+
+pub invariant_of-self : goal.invariant_of-self
+invariant_of-self c =
+    let s = c.self.inside in
+    let n = c.push_before.result in
+    let size = length-take-le n c.args.text.now c.push_before.ensures.within in
+    text-appended _ s.space c.push_before.new.self s.count s.last.number s.last.start (take n c.args.text.now) true (claimed-kept n s.space) c.self.invariant (λ e. omega (arith, size, c.push_before.ensures.fits)) c.push_before.ensures.last tt
+
+pub returns-clause-stops : goal.returns-clause-stops
+returns-clause-stops c =
+    rw (← used-stored c.push_before.new.self (invariant_of-self c).forms.whole) c.push_before.ensures.stops
+
+pub returns-clause-sound : goal.returns-clause-sound
+returns-clause-sound c = (invariant_of-self c).sound

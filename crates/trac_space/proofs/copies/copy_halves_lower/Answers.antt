@@ -1,8 +1,0 @@
-use Rattle.trac_space.proofs.Words.{arith}
-use Rattle.trac_space.proofs.Blocks.{copied-first, carried-last}
-use Rattle.trac_space.proofs.copies.copy_halves_lower.Goals as goal
-
-pub returns-clause-after : goal.returns-clause-after
-returns-clause-after c =
-    let first = copied-first c.args.cells.now c.copy_some_lower.new.cells c.args.start c.args.to c.args.half (omega arith) (omega arith) c.copy_some_lower.ensures.after in
-    carried-last c.args.cells.now c.copy_some_lower.new.cells c.copy_some_lower-2.new.cells c.args.start c.args.to c.args.half c.args.half c.args.n (omega arith) (omega arith) (omega arith) (omega arith) (omega arith) first c.copy_some_lower-2.ensures.after

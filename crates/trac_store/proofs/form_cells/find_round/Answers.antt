@@ -1,7 +1,0 @@
-use Rattle.trac_store.proofs.Words.{map, seen, text_of_cells, forms_in}
-use Rattle.trac_store.proofs.DistinctForms.{found-round}
-use Rattle.trac_store.proofs.form_cells.find_round.Goals as goal
-
-pub returns-in-None : goal.returns-in-None
-returns-in-None c =
-    found-round (text_of_cells (map seen c.args.name.now)) (forms_in (map seen c.args.store.now)) c.args.last.number c.args.count c.search_some-in-None.result c.requires.count_is c.in-None.ensures c.search_some-in-None.ensures
