@@ -1,6 +1,7 @@
 -- Warnings that stay in front of others.
-use Rattle.std.proofs.Common.{◌≡◌, ◌∙◌, ◌++◌, ◌∷◌, List, [], ap, sym, append-nil, append_assoc}
-use Rattle.trac_warnings.specs.Watched.{Kept}
+use Rattle.std.proofs.Common.{◌≡◌, ◌∙◌, ◌++◌, ◌∷◌, List, [], ap, map, sym, append-nil, append_assoc}
+use Rattle.std.proofs.lemmas.List.{map-append}
+use Rattle.trac_warnings.specs.Watched.{Adds, Kept, said}
 use Rattle.trac_warnings.specs.declared.warning.Warning.{Warning}
 
 pub kept_same : (a b : List Warning) → b ≡ a → Kept a b
@@ -15,5 +16,11 @@ pub kept_pushed : (a b : List Warning) (x : Warning) → b ≡ a ++ x ∷ [] →
 unfolding Kept
 kept_pushed a b x is = (x ∷ [], is)
 
+pub said_pushed : (a b : List Warning) (x : Warning) → b ≡ a ++ x ∷ [] → Adds a b (said x)
+said_pushed a b x is = ap (map said) is ∙ map-append said a (x ∷ [])
+
 -- What the functions that note warnings go by.
 pub ruleset keeping = (kept_same, kept_more, kept_pushed)
+
+-- The same of those that say what a warning is.
+pub ruleset saying = (kept_same, kept_more, kept_pushed, said_pushed)

@@ -1,5 +1,5 @@
 -- What a run that is watched keeps.
-use Rattle.std.specs.Prelude.{◌≡◌, ◌++◌, ℕ, Bool, true, false, List, [], length, min, reverse}
+use Rattle.std.specs.Prelude.{◌≡◌, ◌++◌, ◌∷◌, ℕ, Bool, true, false, List, [], length, map, min, reverse}
 use Rattle.std.specs.Prelude.{Some, slice_get}
 use Rattle.trac_space.specs.declared.cell.Cell.{Cell}
 use Rattle.trac_core.specs.Machine.{MachineState}
@@ -11,6 +11,8 @@ use Rattle.trac_events.specs.Calls.{SeesValue, reads}
 use Rattle.trac_events.specs.declared.before.Before.{Before}
 use Rattle.trac_warnings.specs.Origins.{in_input, moved, more}
 use Rattle.trac_warnings.specs.declared.origin.Origin.{Origin}
+use Rattle.trac_language.specs.Text.{Text}
+use Rattle.trac_warnings.specs.declared.warning.Suspicion.{Suspicion}
 use Rattle.trac_warnings.specs.declared.warning.Warning.{Warning}
 use Rattle.trac_warnings.specs.declared.watch.Watch.{Watch}
 
@@ -18,6 +20,20 @@ use Rattle.trac_warnings.specs.declared.watch.Watch.{Watch}
 abbrev pub IsFresh : Watch → Type 0
 IsFresh watch = (watch.warnings.items ≡ []) × (watch.read ≡ 0) × (watch.runs.items ≡ [])
     × (watch.strings.items ≡ []) × (watch.calls.items ≡ []) × (watch.commas.items ≡ [])
+
+-- what a warning says
+pub record Said : Type 0 where
+  pub origin : Origin
+  pub suspicion : Suspicion
+  pub count : ℕ
+  pub text : Text
+
+abbrev pub said : Warning → Said
+said w = record { origin = w.origin; suspicion = w.suspicion; count = w.count; text = w.text.items }
+
+-- another warning is added, which says this
+abbrev pub Adds : List Warning → List Warning → Said → Type 0
+Adds old new more = map said new ≡ map said old ++ more ∷ []
 
 -- the earlier warnings stay, in front of others
 unfoldable pub Kept : List Warning → List Warning → Type 0

@@ -1,7 +1,7 @@
 //! What is suspicious in a call that is about to be performed.
 ghost use Rattle.std.specs.Prelude.{◌≡◌, ◌&&◌, ◌++◌, ◌∷◌, [], IfOk, OnOk, is_some};
 ghost use Rattle.trac_space.specs.Texts.{text_of_cells};
-ghost use Rattle.trac_warnings.specs.Watched.{Kept};
+ghost use Rattle.trac_warnings.specs.Watched.{Adds, Kept};
 
 use crate::arguments::{default_place, most_arguments, takes_branches};
 use crate::gaps::{body_of, stands_in_name};
@@ -249,7 +249,7 @@ fn look_at_texts(
 }
 
 /// Adds a warning. An error means that memory ran out.
-#[tactic(auto, using(crate::proofs::Keeping::keeping))]
+#[tactic(auto, using(crate::proofs::Keeping::saying))]
 pub fn warn(
     warnings: &mut Vec<Warning>,
     alloc: Global,
@@ -258,6 +258,12 @@ pub fn warn(
     cells: &[Cell],
 ) -> Result<(), AllocError>
     ensures kept { Kept warnings.old.items warnings.new.items }
+    ensures said { OnOk result (Adds warnings.old.items warnings.new.items (record {
+      origin = origin;
+      suspicion = suspicion;
+      count = 0;
+      text = text_of_cells cells.now;
+    })) }
 {
     let text = characters_of(alloc, cells)?;
     warnings.push(Warning {

@@ -1,5 +1,7 @@
 //! What is suspicious in how a script is written, before it is run.
-ghost use Rattle.trac_warnings.specs.Watched.{Kept};
+ghost use Rattle.std.specs.Prelude.{OnOk};
+ghost use Rattle.trac_warnings.specs.Origins.{in_input};
+ghost use Rattle.trac_warnings.specs.Watched.{Adds, Kept};
 
 use crate::origin::Origin;
 use crate::spelling::{names_function, spelling_of};
@@ -115,7 +117,7 @@ fn look_at_spelling(
 }
 
 // Adds a warning of a place of the input.
-#[tactic(auto, using(crate::proofs::Keeping::keeping))]
+#[tactic(auto, using(crate::proofs::Keeping::saying))]
 fn warn_at(
     warnings: &mut Vec<Warning>,
     alloc: Global,
@@ -123,7 +125,13 @@ fn warn_at(
     place: usize,
     bytes: &[u8],
 ) -> Result<(), AllocError>
-    ensures { Kept warnings.old.items warnings.new.items }
+    ensures kept { Kept warnings.old.items warnings.new.items }
+    ensures said { OnOk result (Adds warnings.old.items warnings.new.items (record {
+      origin = in_input place;
+      suspicion = suspicion;
+      count = 0;
+      text = bytes.now;
+    })) }
 {
     let mut text = Vec::new(alloc);
     text.extend_from_slice(bytes)?;
