@@ -8,11 +8,8 @@ const char *const FUNCTIONS[] = {"rs", "rc", "cm", "ps", "hl", "ds", "ss", "dd",
 /* Those of them that do nothing where the form that they name isn't there. */
 static const char *const OF_FORMS[] = {"ss", "dd", "pf", "cl", "cs", "cc", "cn", "in", "cr", NULL};
 
-/* What the mark of an open call says: that its function is known and needs no form, or that it must be looked at. */
-enum { KNOWN, UNKNOWN };
-
-/* The characters that are looked at in advance, and the lines that are said of a string. */
-enum { AHEAD = 64, MOST_LINES = 8 };
+/* The steps that are made at once, between two looks at ^C, and the lines that are said of a string. */
+enum { AT_ONCE = 4096, MOST_LINES = 8 };
 
 static uint8_t small(uint8_t letter) { return letter >= 'A' && letter <= 'Z' ? (uint8_t)(letter + 32) : letter; }
 
@@ -28,7 +25,7 @@ int is_function(const uint8_t *name, size_t length, int *needs_form) {
     return length == 2 && is_listed(FUNCTIONS, name);
 }
 
-void begin_watch(watch *of) { of->open.length = of->lines.length = of->count = 0; }
+void begin_watch(watch *of) { of->lines.length = of->count = 0; }
 
 /* Whether the last line stands in front of it already. */
 static int is_said(const text *lines, size_t last) {
@@ -54,18 +51,16 @@ static void note(watch *of, const char *what, const text *name) {
         of->count++;
 }
 
-/* The codes of the neutral string, and where its innermost open call begins, behind its mark; the end where there is
- * none. */
-static size_t innermost(watch *of, const trac_machine *machine, size_t *end) {
-    const size_t length = trac_neutral(machine, NULL, 0);
+/* Takes the codes of the innermost call behind its mark, and gives how many they are; 0 where no call is open. */
+static size_t take_arguments(watch *of, const trac_machine *machine) {
+    uint32_t mark;
+    if (!trac_calls(machine, &mark, 1))
+        return 0;
+    const size_t length = trac_neutral_part(machine, (size_t)mark + 1, NULL, 0);
     of->codes.length = 0;
     if (!reserve(&of->codes, (length + 1) * sizeof(uint32_t)))
-        return *end = 0;
-    uint32_t *const codes = (uint32_t *)(void *)of->codes.bytes;
-    size_t at = *end = trac_neutral(machine, codes, length);
-    while (at && codes[at - 1] != TRAC_ACTIVE_CALL && codes[at - 1] != TRAC_NEUTRAL_CALL)
-        at--;
-    return at ? at : *end;
+        return 0;
+    return trac_neutral_part(machine, (size_t)mark + 1, (uint32_t *)(void *)of->codes.bytes, length);
 }
 
 /* The argument that begins there, as bytes; and where the next one begins. */
@@ -81,9 +76,8 @@ static size_t argument(const watch *of, size_t at, size_t end, text *to) {
 
 /* Looks at the call that the next step performs. */
 static void look_at_call(watch *of, const trac_machine *machine) {
-    size_t end;
     int needs_form;
-    const size_t begin = innermost(of, machine, &end), next = argument(of, begin, end, &of->function);
+    const size_t end = take_arguments(of, machine), next = argument(of, 0, end, &of->function);
     (void)argument(of, next, end, &of->form);
     if (!is_function(of->function.bytes, of->function.length, &needs_form)) {
         if (of->function.length)
@@ -93,35 +87,9 @@ static void look_at_call(watch *of, const trac_machine *machine) {
     }
 }
 
-/* Notes a call that the next step opens: where its name stands there already, whether that is known. */
-static void open_call(watch *of, const uint32_t *ahead, size_t left) {
-    const uint8_t name[2] = {(uint8_t)(left > 0 ? ahead[0] : 0), (uint8_t)(left > 1 ? ahead[1] : 0)};
-    int needs_form;
-    const int ends = left > 2 && (ahead[2] == ',' || ahead[2] == ')');
-    const uint8_t mark = ends && is_function(name, 2, &needs_form) && !needs_form ? KNOWN : UNKNOWN;
-    add_bytes(&of->open, &mark, 1);
-}
-
-/* Notes what the next step does to the open calls. A call whose mark there was no memory for is looked at. */
-static void note_step(watch *of, const trac_machine *machine, const uint32_t *ahead, size_t left) {
-    const int is_neutral = left > 2 && ahead[0] == '#' && ahead[1] == '#' && ahead[2] == '(';
-    if (is_neutral || (left > 1 && ahead[0] == '#' && ahead[1] == '(')) {
-        open_call(of, ahead + 2 + is_neutral, left - 2 - (size_t)is_neutral);
-    } else if (left && ahead[0] == ')') {
-        const int is_unknown = !of->open.length || of->open.bytes[of->open.length - 1] != KNOWN;
-        of->open.length -= of->open.length > 0;
-        if (is_unknown || of->open.is_short)
-            look_at_call(of, machine);
-    }
-}
-
 uint64_t look_ahead(watch *of, const trac_machine *machine) {
-    uint32_t ahead[AHEAD];
-    const size_t length = trac_active(machine, ahead, AHEAD), left = length < AHEAD ? length : AHEAD;
-    size_t count = 0;
-    while (count < left && ahead[count] != '#' && ahead[count] != '(' && ahead[count] != ')')
-        count++;
-    if (!count && of)
-        note_step(of, machine, ahead, left);
-    return count ? count : 1;
+    const uint64_t steps = trac_steps_to_call(machine, AT_ONCE);
+    if (of && trac_rule(machine) == TRAC_RULE_END_OF_CALL)
+        look_at_call(of, machine);
+    return steps ? steps : 1;
 }

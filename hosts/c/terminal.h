@@ -51,10 +51,10 @@ extern const char *const FUNCTIONS[];
  * `*needs_form` becomes 1. */
 int is_function(const uint8_t *name, size_t length, int *needs_form);
 
-/* The open calls of a string's run, a byte for each, and the lines, each ended by a null byte, that are to be said of
- * those that did nothing. The other texts are of the call that is looked at. */
+/* The lines, each ended by a null byte, that are to be said of the calls of a string's run that did nothing. The other
+ * texts are of the call that is looked at. */
 typedef struct {
-    text open, lines;
+    text lines;
     unsigned count;
     text codes, function, form, found;
 } watch;
