@@ -45,11 +45,16 @@ pub fn watched<I: Source>(
     let mut findings = of_script(alloc, input)?;
     loop {
         let before = watch.look(&machine, input)?;
-        machine.step(source, &mut printed);
+        let fate = machine.step(source, &mut printed);
         printed.clear();
         watch.tell(&before, &machine, input)?;
         keep_warnings(&mut watch, &mut findings)?;
-        if let Some(report) = machine.report() {
+        if let Some(fate) = fate {
+            let report = Report {
+                fate,
+                steps: machine.steps(),
+                peak: machine.peak(),
+            };
             return Ok(WatchedRun {
                 watch,
                 findings,
