@@ -10,7 +10,7 @@ use std::alloc::{AllocError, Global};
 use trac_core::Cell;
 use trac_space::Mode;
 
-// How many calls around one indent it.
+// At most this many open calls indent the line of a call.
 const MOST_INDENT: usize = 20;
 
 /// What is odd about a call.
@@ -37,16 +37,16 @@ pub struct Called<'a> {
     pub value: &'a [Cell],
     /// The bytes that it printed.
     pub printed: &'a [u8],
-    /// The form that it made or changed, as `push_form` shows it; empty where there is none.
+    /// The form that it made or changed, as `push_form` shows it. It is empty if there is none.
     pub form: &'a [u8],
-    /// The forms that it deleted, as `push_deleted` tells them.
+    /// The forms that it deleted, as `push_deleted` shows them.
     pub deleted: &'a [u8],
     pub oddity: Option<Oddity>,
 }
 
 /// Adds the line of a call: its step, the call, indented by the calls that are open around it, its
-/// value, what it printed, the forms that it changed, and what is odd about it. An error is want of
-/// memory.
+/// value, what it printed, the forms that it changed, and what is odd about it. Fails only if
+/// memory runs out.
 pub fn push_call(
     line: &mut Vec<u8>,
     alloc: Global,
@@ -69,7 +69,8 @@ pub fn push_call(
     push(line, b"\n")
 }
 
-// Adds two blanks, and two more for each call that is open around one; of many calls their number.
+// Adds two blanks, and two more for each call that is open around this one. If they are many, adds
+// their number instead.
 fn push_indent(line: &mut Vec<u8>, depth: usize) -> Result<(), AllocError>
     ensures { OnOk result (line.new.items ≡ line.old.items ++ indent_text depth) }
 {
@@ -81,7 +82,7 @@ fn push_indent(line: &mut Vec<u8>, depth: usize) -> Result<(), AllocError>
     push(line, b" ")
 }
 
-// Adds two blanks, and two more for each of so many calls.
+// Adds two blanks, and two more for each of `depth` calls.
 fn push_blanks(line: &mut Vec<u8>, depth: usize) -> Result<(), AllocError>
     ensures { OnOk result (line.new.items ≡ line.old.items ++ blanks_text depth) }
 {
@@ -91,7 +92,7 @@ fn push_blanks(line: &mut Vec<u8>, depth: usize) -> Result<(), AllocError>
     push(line, b"  ")
 }
 
-// Adds the value, what was printed, and the form that was made or changed, where there are such.
+// Adds the value, what was printed, and the form that was made or changed, as far as there are any.
 fn push_results(
     line: &mut Vec<u8>,
     alloc: Global,
@@ -109,14 +110,14 @@ fn push_results(
     push(line, called.form)
 }
 
-/// A text, or nothing where what is to stand behind it is empty.
+/// The text, or nothing if what would follow it is empty.
 pub fn unless_empty(text: &[u8], is_empty: bool) -> &[u8]
     ensures { result.now ≡ unless_empty text.now is_empty }
 {
     if is_empty { &[] } else { text }
 }
 
-// What is odd about a call, in brackets, and nothing where nothing is.
+// What is odd about a call, in brackets; nothing if it isn't odd.
 fn oddity_text(oddity: Option<Oddity>) -> &'static [u8]
     ensures { result.now ≡ oddity_text oddity }
 {

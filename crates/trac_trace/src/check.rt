@@ -11,8 +11,8 @@ use trac_words::Settings;
 // The status where a file can't be read, as for a run whose input failed.
 const NOT_READ: u8 = 4;
 
-/// Runs each file as a script of its own, writes its warnings behind its name and a line that sums
-/// them up, and gives the worst status.
+/// Runs each file as a script of its own, and writes its warnings, each behind the file's name, and
+/// a line that sums them up. Gives the worst status.
 pub fn check_files(rt: &HostRuntime, settings: &Settings, files: &[String]) -> u8 {
     let mut output = RetryingWriter::new(rt.stdout());
     let mut status = 0;

@@ -11,9 +11,9 @@ use std::alloc::{AllocError, Global};
 use trac_core::{Cell, Forms, Machine};
 use trac_events::{Touched, argument, find_form, is_same};
 
-/// Adds the names of those forms that a call with these arguments deletes, which can delete so many: of
-/// the arguments that name a form in their order, or of all forms in the order of their definition. An
-/// error is want of memory.
+/// Adds the names of the forms that a call with these arguments deletes: those of the arguments, in
+/// their order, or all forms, in the order of their definition. `touched` says which. Fails only if
+/// memory runs out.
 pub fn push_deleted(
     line: &mut Vec<u8>,
     alloc: Global,
@@ -43,7 +43,7 @@ fn push_all(line: &mut Vec<u8>, alloc: Global, forms: Forms, width: u32) -> Resu
     Ok(())
 }
 
-// Adds those of the arguments behind the function's name that name a form, each once.
+// Adds each argument behind the function's name that names a form, once.
 fn push_named(
     line: &mut Vec<u8>,
     alloc: Global,
@@ -64,7 +64,7 @@ fn push_named(
     Ok(())
 }
 
-// Adds the first of these arguments where it names a form, unless a later one is the same.
+// Adds the first of these arguments if it names a form and no later argument is the same.
 fn push_first(
     line: &mut Vec<u8>,
     alloc: Global,

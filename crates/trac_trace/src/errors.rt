@@ -5,7 +5,7 @@ use std::io;
 use std::io::Write;
 use trac_core::RetryingWriter;
 
-/// Standard error. A text goes out by one call of the system as long as there is memory for it, else in
+/// Standard error. A text goes out by one call of the system; if there is no memory for that, in
 /// parts.
 #[derive(Drop)]
 pub struct Errors<'r> {

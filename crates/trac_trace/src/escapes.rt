@@ -1,5 +1,5 @@
-//! Texts as the views show them: UTF-8 as such where it is whole, everything else escaped, and long
-//! ones cut in the middle. All of it is this processor's own choice.
+//! Texts as the views show them: whole characters of UTF-8 as they are, everything else escaped,
+//! and long texts cut in the middle. All of it is this processor's own choice.
 ghost use Rattle.std.specs.Prelude.{◌≡◌, ◌++◌, ◌≤◌, OnOk, length};
 ghost use Rattle.std.specs.List.{flat_map};
 ghost use Rattle.trac_space.specs.Texts.{text_of_cells};
@@ -14,9 +14,9 @@ use std::str;
 use trac_core::Cell;
 use trac_space::{Mode, character_of};
 
-/// Adds a text of at most so many bytes; of a longer one the first and the last half of them, but
-/// for bytes of a character that would be cut, with two full stops between. 0 is no bound. An error
-/// is want of memory.
+/// Adds a text. Of one that is longer than `width` bytes, adds the first and the last half of that
+/// many, with two full stops between, and leaves out a character that would be cut. A width of 0
+/// sets no bound. Fails only if memory runs out.
 pub fn push_cut(line: &mut Vec<u8>, bytes: &[u8], width: u32) -> Result<(), AllocError>
     ensures { OnOk result (line.new.items ≡ line.old.items ++ cut_text width bytes.now) }
 {
@@ -32,8 +32,8 @@ pub fn push_cut(line: &mut Vec<u8>, bytes: &[u8], width: u32) -> Result<(), Allo
     push_text(line, &bytes[tail..])
 }
 
-// Where a head ends that ends at a place or up to three bytes before it, where a character stands
-// across that place.
+// Where the first half of a text ends: at this place, or up to three bytes before it if a character
+// stands across it.
 #[tactic(auto, unfolding(crate::specs::Shown::end_of_head))]
 fn end_of_head(bytes: &[u8], place: usize) -> usize
     ensures value { result ≡ end_of_head bytes.now place }
@@ -42,7 +42,7 @@ fn end_of_head(bytes: &[u8], place: usize) -> usize
     step_back(bytes, step_back(bytes, step_back(bytes, place)))
 }
 
-// Where a tail begins that begins at a place or up to three bytes behind it.
+// Where the last half of a text begins: at this place, or up to three bytes behind it.
 #[tactic(auto, unfolding(crate::specs::Shown::begin_of_tail))]
 fn begin_of_tail(bytes: &[u8], place: usize) -> usize
     requires { place ≤ length bytes.now }
@@ -52,7 +52,7 @@ fn begin_of_tail(bytes: &[u8], place: usize) -> usize
     step_on(bytes, step_on(bytes, step_on(bytes, place)))
 }
 
-// The place before, where the byte at a place goes on a character.
+// The place before this one if the byte here continues a character, else this place.
 fn step_back(bytes: &[u8], place: usize) -> usize
     ensures value { result ≡ step_back bytes.now place }
     ensures order { result ≤ place }
@@ -64,7 +64,7 @@ fn step_back(bytes: &[u8], place: usize) -> usize
     }
 }
 
-// The place behind, where the byte at a place goes on a character.
+// The place behind this one if the byte here continues a character, else this place.
 fn step_on(bytes: &[u8], place: usize) -> usize
     requires { place ≤ length bytes.now }
     ensures value { result ≡ step_on bytes.now place }
@@ -77,7 +77,7 @@ fn step_on(bytes: &[u8], place: usize) -> usize
     }
 }
 
-// Whether the byte at a place goes on a character of UTF-8; none does where there is no byte.
+// Whether the byte at a place continues a character of UTF-8. False past the end.
 fn goes_on(bytes: &[u8], place: usize) -> bool
     ensures { result ≡ goes_on bytes.now place }
 {
@@ -88,15 +88,15 @@ fn goes_on(bytes: &[u8], place: usize) -> bool
     }
 }
 
-// Whether a text of so many bytes needs no cut.
+// Whether a text of `len` bytes needs no cut.
 fn fits(width: usize, len: usize) -> bool
     ensures { result ≡ fits width len }
 {
     width == 0 || len <= width
 }
 
-/// Adds a text: visible ASCII and whole characters of UTF-8 as they are, but for the control
-/// characters, and each other byte escaped, as in the lines of steps. An error is want of memory.
+/// Adds a text: visible ASCII and whole characters of UTF-8 as they are, except control characters.
+/// Escapes each other byte, as in the lines of steps. Fails only if memory runs out.
 pub fn push_text(line: &mut Vec<u8>, bytes: &[u8]) -> Result<(), AllocError>
     ensures { OnOk result (line.new.items ≡ line.old.items ++ shown_text bytes.now) }
 {
@@ -109,8 +109,8 @@ pub fn push_text(line: &mut Vec<u8>, bytes: &[u8]) -> Result<(), AllocError>
     Ok(())
 }
 
-// How many bytes are left of a whole character, at the first of these bytes: of that which was
-// begun, or else of that which begins here.
+// How many bytes of a whole character are left from the first of these bytes on: of the character
+// that was begun before, or else of the one that begins here.
 #[tactic(auto, unfolding(crate::specs::Shown::left_at))]
 fn left_at(left: u32, bytes: &[u8]) -> u32
     ensures { result ≡ left_at left bytes.now }
@@ -122,7 +122,7 @@ fn left_at(left: u32, bytes: &[u8]) -> u32
     }
 }
 
-// Adds a byte: as it is where some of a whole character are left, or else escaped.
+// Adds a byte: as it is inside a whole character, else escaped.
 fn push_shown(line: &mut Vec<u8>, byte: u8, left: u32) -> Result<(), AllocError>
     ensures { OnOk result (line.new.items ≡ line.old.items ++ shown_byte left byte) }
 {
@@ -133,8 +133,8 @@ fn push_shown(line: &mut Vec<u8>, byte: u8, left: u32) -> Result<(), AllocError>
     }
 }
 
-/// How many bytes the character has that stands first, where that is a whole character of UTF-8
-/// beyond ASCII and no control character, and 0 otherwise.
+/// The length in bytes of the first character, if it is a whole character of UTF-8 beyond ASCII and
+/// no control character; else 0.
 pub fn character_len(bytes: &[u8]) -> u32
     ensures { result ≡ character_length bytes.now }
 {
@@ -151,7 +151,7 @@ pub fn character_len(bytes: &[u8]) -> u32
     }
 }
 
-// Whether a character beyond ASCII that is no control character can begin so.
+// Whether a character beyond ASCII that is no control character can begin with these bytes.
 fn begins_character(bytes: &[u8]) -> bool
     ensures { result ≡ begins_character bytes.now }
 {
@@ -162,7 +162,8 @@ fn begins_character(bytes: &[u8]) -> bool
     }
 }
 
-// Whether a control of the direction of writing stands first, which would show a line in another order.
+// Whether a control of the writing direction stands first, which would show the line in another
+// order.
 fn turns_direction(bytes: &[u8]) -> bool
     ensures { result ≡ turns_direction bytes.now }
 {
@@ -176,7 +177,7 @@ fn turns_direction(bytes: &[u8]) -> bool
     }
 }
 
-// Whether so many bytes at the head are UTF-8.
+// Whether the first `len` bytes are UTF-8.
 fn is_whole(bytes: &[u8], len: usize) -> bool
     ensures { result ≡ is_whole len bytes.now }
 {
@@ -186,7 +187,7 @@ fn is_whole(bytes: &[u8], len: usize) -> bool
     str::from_utf8(&bytes[..len]).is_ok()
 }
 
-/// Adds cells as the views show them, cut to a width. An error is want of memory.
+/// Adds cells as the views show them, cut to a width. Fails only if memory runs out.
 pub fn push_cells_cut(
     line: &mut Vec<u8>,
     alloc: Global,
@@ -201,8 +202,8 @@ pub fn push_cells_cut(
     push_cut(line, bytes.as_slice(), width)
 }
 
-/// Adds the bytes of cells of the neutral string, a comma that parts two arguments in angle
-/// brackets; marks of calls add nothing. An error is want of memory.
+/// Adds the bytes of cells of the neutral string. A comma mark is shown in angle brackets; a call
+/// mark adds nothing. Fails only if memory runs out.
 pub fn push_raw(bytes: &mut Vec<u8>, cells: &[Cell]) -> Result<(), AllocError>
     ensures { OnOk result (bytes.new.items ≡ bytes.old.items ++ flat_map raw_cell cells.now) }
 {
@@ -223,7 +224,7 @@ fn push_raw_cell(bytes: &mut Vec<u8>, cell: &Cell) -> Result<(), AllocError>
     }
 }
 
-/// Adds a text that cells hold, cut to a width. An error is want of memory.
+/// Adds a text that cells hold, cut to a width. Fails only if memory runs out.
 pub fn push_name(
     line: &mut Vec<u8>,
     alloc: Global,

@@ -13,7 +13,7 @@ use trac_core::Cell;
 pub enum Event<'e> {
     /// It was done, and left these cells in the neutral and in the active string.
     Done(Step, &'e [Cell], &'e [Cell]),
-    /// It dropped so many characters, since a left parenthesis has no match.
+    /// It dropped this many characters, because a left parenthesis has no match.
     Dropped(u32),
     /// It printed these bytes.
     Printed(&'e [u8]),
@@ -21,7 +21,7 @@ pub enum Event<'e> {
     Called(Called<'e>),
 }
 
-/// Adds what the views show of an event. An error is want of memory.
+/// Adds what the views show of an event. Fails only if memory runs out.
 pub fn push_event(
     lines: &mut Vec<u8>,
     alloc: Global,
@@ -44,7 +44,7 @@ pub fn push_event(
     }
 }
 
-// Adds the line of the forms that a call made, changed or deleted, where there are such.
+// Adds the line of the forms that a call made, changed or deleted, if there are any.
 fn push_changes(lines: &mut Vec<u8>, called: &Called) -> Result<(), AllocError>
     ensures { OnOk result (lines.new.items ≡ lines.old.items
         ++ changes_text called.now.number called.now.form.now called.now.deleted.now) }
@@ -56,7 +56,7 @@ fn push_changes(lines: &mut Vec<u8>, called: &Called) -> Result<(), AllocError>
     }
 }
 
-// Adds the line of the form that a call made or changed, or of those that it deleted.
+// Adds the line of the form that a call made or changed, or of the forms that it deleted.
 fn push_change(lines: &mut Vec<u8>, called: &Called) -> Result<(), AllocError>
     ensures { OnOk result (lines.new.items ≡ lines.old.items
         ++ change_line called.now.number called.now.form.now called.now.deleted.now) }

@@ -1,4 +1,4 @@
-//! What is told of a machine where a fault ended the run. It is this processor's own choice.
+//! The lines on a machine whose run a fault ended. They are this processor's own choice.
 ghost use Rattle.std.specs.Prelude.{◌≡◌, ◌++◌, OnOk, count_by};
 ghost use Rattle.std.specs.List.{position_or_len};
 ghost use Rattle.trac_space.specs.Cells.{is_call};
@@ -15,10 +15,10 @@ use trac_core::{Cell, Fate, Machine};
 use trac_events::Place;
 use trac_space::Mode;
 
-// How many calls are told.
+// How many open calls are shown at most.
 const MOST_CALLS: usize = 5;
 
-/// Whether a run that ended so ended by a fault.
+/// Whether a run with this fate ended by a fault.
 pub fn is_fault(fate: Fate) -> bool
     ensures { result ≡ is_fault fate }
 {
@@ -28,9 +28,9 @@ pub fn is_fault(fate: Fate) -> bool
     }
 }
 
-/// Adds the lines on a fault: the step that was not done, the place where the string began that was
-/// read last, the innermost open calls, the largest forms, and the cells of each part of the block.
-/// An error is want of memory.
+/// Adds the lines on a fault: the step that was not done, where the string that was read last
+/// began, the innermost open calls, the largest forms, and the cells of each part of the block.
+/// Fails only if memory runs out.
 pub fn push_fault(
     lines: &mut Vec<u8>,
     alloc: Global,
@@ -47,7 +47,7 @@ pub fn push_fault(
     push_parts(lines, &Parts::of(machine, neutral.len()))
 }
 
-// Adds the line of the step that was not done, and of where the string began that was read last.
+// Adds the line of the step that was not done, and of where the string that was read last began.
 fn push_where(lines: &mut Vec<u8>, step: u64, string: Place) -> Result<(), AllocError>
     ensures { OnOk result (lines.new.items ≡ lines.old.items ++ where_text step string) }
 {
@@ -58,7 +58,7 @@ fn push_where(lines: &mut Vec<u8>, step: u64, string: Place) -> Result<(), Alloc
     push(lines, b"\n")
 }
 
-/// Adds a place in the input. An error is want of memory.
+/// Adds a place in the input. Fails only if memory runs out.
 pub fn push_place(lines: &mut Vec<u8>, place: Place) -> Result<(), AllocError>
     ensures { OnOk result (lines.new.items ≡ lines.old.items ++ place_text place) }
 {
@@ -68,8 +68,8 @@ pub fn push_place(lines: &mut Vec<u8>, place: Place) -> Result<(), AllocError>
     push_number(lines, place.column)
 }
 
-/// Adds the lines of the five innermost open calls of a neutral string, with their arguments so far,
-/// the innermost one last. An error is want of memory.
+/// Adds the lines of the five innermost open calls of a neutral string, with their arguments so
+/// far, the innermost one last. Fails only if memory runs out.
 pub fn push_open_calls(
     lines: &mut Vec<u8>,
     alloc: Global,
@@ -97,7 +97,7 @@ fn calls_in(neutral: &[Cell]) -> usize
     count
 }
 
-// Adds how many calls are open around those that are told, where there are such.
+// Adds how many open calls stand around the ones that are shown, if there are any.
 fn push_around(lines: &mut Vec<u8>, skip: usize) -> Result<(), AllocError>
     ensures { OnOk result (lines.new.items ≡ lines.old.items ++ around_text skip) }
 {
@@ -109,7 +109,7 @@ fn push_around(lines: &mut Vec<u8>, skip: usize) -> Result<(), AllocError>
     push(lines, b"\n")
 }
 
-// Adds the lines of the open calls, so many of them passed over.
+// Adds the lines of the innermost open calls, leaving out the outermost `skip`.
 fn push_opened(
     lines: &mut Vec<u8>,
     alloc: Global,
@@ -135,7 +135,7 @@ fn push_opened(
     Ok(())
 }
 
-// How many calls are still passed over behind a cell.
+// How many calls are still left out behind a cell.
 fn skip_behind(skip: usize, cell: &Cell) -> usize
     ensures { result ≡ skip_behind skip cell.now }
 {
@@ -145,7 +145,7 @@ fn skip_behind(skip: usize, cell: &Cell) -> usize
     }
 }
 
-// Adds the line of a call, where the cell is the mark of one that isn't passed over.
+// Adds the line of a call if the cell is the mark of one that isn't left out.
 fn push_opened_at(
     lines: &mut Vec<u8>,
     alloc: Global,
@@ -204,7 +204,7 @@ pub struct Parts {
 }
 
 impl Parts {
-    /// Those of a machine whose neutral string has so many cells.
+    /// The parts of a machine's block; `neutral` is the length of its neutral string, in cells.
     pub fn of(machine: &Machine, neutral: usize) -> Parts
         ensures { result ≡ parts_of machine.now neutral }
     {
@@ -221,7 +221,7 @@ impl Parts {
     }
 }
 
-/// Adds the line of the cells that each part of a block holds. An error is want of memory.
+/// Adds the line of the cells that each part of a block holds. Fails only if memory runs out.
 pub fn push_parts(lines: &mut Vec<u8>, parts: &Parts) -> Result<(), AllocError>
     ensures { OnOk result (lines.new.items ≡ lines.old.items
         ++ parts_text parts.now.forms parts.now.neutral parts.now.active parts.now.free) }

@@ -9,8 +9,8 @@ use crate::printed::Printed;
 use std::alloc::{AllocError, Global};
 use trac_core::{Forms, StoredForm, show_form};
 
-/// Adds a form: its name and, behind a colon, its body as `pf` displays it, both cut to a width. An
-/// error is want of memory.
+/// Adds a form: its name and, behind a colon, its body as `pf` displays it, both cut to a width.
+/// Fails only if memory runs out.
 pub fn push_form(
     line: &mut Vec<u8>,
     alloc: Global,
@@ -28,7 +28,7 @@ pub fn push_form(
     push_cut(line, text.as_bytes(), width)
 }
 
-/// Adds a line for each form. An error is want of memory.
+/// Adds a line for each form. Fails only if memory runs out.
 pub fn push_forms(
     lines: &mut Vec<u8>,
     alloc: Global,

@@ -1,4 +1,4 @@
-//! The largest forms of a machine. What is told of them is this processor's own choice.
+//! The largest forms of a machine. What is shown of them is this processor's own choice.
 ghost use Rattle.std.specs.Prelude.{◌≡◌, ◌++◌, OnOk, None};
 ghost use Rattle.trac_language.specs.Store.{form_cells};
 ghost use Rattle.trac_trace.specs.Largest.{better, comes_behind, form_at_text, is_larger};
@@ -9,18 +9,18 @@ use crate::lines::{push, push_number};
 use std::alloc::{AllocError, Global};
 use trac_core::{Forms, Machine, StoredForm};
 
-// How many forms are told.
+// How many forms are shown at most.
 const MOST_FORMS: u32 = 5;
 
-/// A form by its cells and its place among the forms, from 0.
+/// A form, by how many cells it takes and by its place among the forms, from 0.
 #[derive(Clone, Copy)]
 pub struct SizedForm {
     pub cells: u64,
     pub place: u64,
 }
 
-/// Adds the lines of the five largest forms with their cells, the largest one first, and of those
-/// that are as large the one that was defined first. An error is want of memory.
+/// Adds the lines of the five largest forms with their cells, the largest first. Of two that are
+/// equally large, the one that was defined first comes first. Fails only if memory runs out.
 pub fn push_largest_forms(
     lines: &mut Vec<u8>,
     alloc: Global,
@@ -62,7 +62,7 @@ fn push_form_at(
     Ok(())
 }
 
-// Adds the line of a form of so many cells.
+// Adds the line of a form and its number of cells.
 fn push_sized(
     lines: &mut Vec<u8>,
     alloc: Global,
@@ -80,8 +80,8 @@ fn push_sized(
     push(lines, b"\n")
 }
 
-/// The largest of the forms that come behind one, the first one of those that are as large. None
-/// where none comes behind it.
+/// The largest of the forms that come after `last` in this order, the first of equally large ones.
+/// None if none comes after it.
 pub fn next_largest(forms: Forms, last: Option<SizedForm>) -> Option<SizedForm>
     ensures { result ≡ next_largest last 0 forms.entry None }
 {
@@ -98,7 +98,7 @@ pub fn next_largest(forms: Forms, last: Option<SizedForm>) -> Option<SizedForm>
     found
 }
 
-// The one that is found, behind one that was told last, where so much was found before.
+// The form to keep while looking for the next one after `last`: `next`, or what was found before.
 fn better(next: SizedForm, last: Option<SizedForm>, found: Option<SizedForm>) -> Option<SizedForm>
     ensures { result ≡ better next last found }
 {
@@ -116,7 +116,7 @@ fn cells_of(form: &StoredForm) -> u64
     3 + form.name().len() as u64 + u64::from(form.body_len())
 }
 
-// Whether a form comes behind the one that was told last.
+// Whether a form comes after the one that was shown last.
 fn comes_behind(form: SizedForm, last: Option<SizedForm>) -> bool
     ensures { result ≡ comes_behind form last }
 {

@@ -6,7 +6,7 @@ use std::alloc::{AllocError, Global};
 use std::collections::VecDeque;
 use std::marker::Model;
 
-/// The numbers of the last steps that were added, at most so many, in their order.
+/// The numbers of the last steps that were added, in their order, at most as many as asked for.
 #[derive(Drop)]
 pub struct LastSteps {
     numbers: VecDeque<u64>,
@@ -25,7 +25,7 @@ impl Model for LastSteps {
 }
 
 impl LastSteps {
-    /// None of at most so many.
+    /// No step yet; keeps at most `most`.
     pub fn new(alloc: Global, most: u64) -> LastSteps
         ensures { result ≡ record { numbers = []; most = most } }
     {
@@ -35,8 +35,8 @@ impl LastSteps {
         }
     }
 
-    /// Adds a step of which these lines are shown, if there are any, and lets the first go where there
-    /// are too many then. An error is want of memory, and nothing is changed then.
+    /// Adds a step of which these lines are shown, if there are any, and forgets the first step if
+    /// there are too many then. Fails only if memory runs out; then nothing has changed.
     pub fn add(&mut self, number: u64, lines: &[u8]) -> Result<(), AllocError>
         ensures ok { OnOk result (self.new ≡ with_step number lines.now self.old) }
         ensures err { OnErr result (self.new ≡ self.old) }
@@ -51,7 +51,7 @@ impl LastSteps {
         Ok(())
     }
 
-    /// The first of them, 1 where there is none.
+    /// The first of the steps; 1 if there is none.
     pub fn first(&self) -> u64
         ensures { result ≡ slice_index_or self.now.numbers 0 1 }
     {

@@ -11,13 +11,13 @@ use std::alloc::AllocError;
 use trac_core::{Cell, Fate, Report, ScanningRule};
 use trac_space::Mode;
 
-// The line above those of the steps.
+// The line above the steps.
 const HEAD: &[u8; 64] = b"  step  rule           size  need  neutral string|active string\n";
 
-// The line above those of the calls.
+// The line above the calls.
 const CALLS_HEAD: &[u8; 13] = b"  step  call\n";
 
-// The line above those of the forms that change.
+// The line above the forms that change.
 const FORMS_HEAD: &[u8; 13] = b"  step  form\n";
 
 const DIGITS: &[u8; 16] = b"0123456789abcdef";
@@ -40,7 +40,7 @@ pub struct Step {
     pub need: u32,
 }
 
-/// The line above those of the views.
+/// The line above what the views show.
 pub fn head(views: &Views) -> &'static [u8]
     ensures { result.now ≡ head_text views.now.calls views.now.forms }
 {
@@ -53,8 +53,8 @@ pub fn head(views: &Views) -> &'static [u8]
     }
 }
 
-/// Adds the line of a step, with the cells of both strings after it, each cut to a width. An error is
-/// want of memory.
+/// Adds the line of a step, with the cells of both strings after it, each cut to a width. Fails
+/// only if memory runs out.
 pub fn push_step(
     line: &mut Vec<u8>,
     step: &Step,
@@ -78,7 +78,7 @@ pub fn push_step(
     push(line, b"\n")
 }
 
-/// Adds the line of what a step printed. An error is want of memory.
+/// Adds the line of what a step printed. Fails only if memory runs out.
 pub fn push_printed(line: &mut Vec<u8>, bytes: &[u8]) -> Result<(), AllocError>
     ensures { OnOk result (line.new.items ≡ line.old.items ++ printed_text bytes.now) }
 {
@@ -87,8 +87,8 @@ pub fn push_printed(line: &mut Vec<u8>, bytes: &[u8]) -> Result<(), AllocError>
     push(line, b"\n")
 }
 
-/// Adds the line of how many characters a step dropped, since its left parenthesis has no match. An
-/// error is want of memory.
+/// Adds the line of how many characters a step dropped, because its left parenthesis has no match.
+/// Fails only if memory runs out.
 pub fn push_dropped(line: &mut Vec<u8>, count: u32) -> Result<(), AllocError>
     ensures { OnOk result (line.new.items ≡ line.old.items ++ drop_line count) }
 {
@@ -100,9 +100,9 @@ pub fn push_dropped(line: &mut Vec<u8>, count: u32) -> Result<(), AllocError>
     )
 }
 
-/// Adds a text whose lines have at most so many columns: a longer one goes on in the next, behind ten
-/// blanks. 0 is no bound. A column is a byte of ASCII or a whole character of UTF-8. An error is want of
-/// memory.
+/// Adds a text in lines of at most `columns` columns. A longer line goes on in the next one, behind
+/// ten blanks. 0 sets no bound. A column is a byte of ASCII or a whole character of UTF-8. Fails
+/// only if memory runs out.
 pub fn push_folded(lines: &mut Vec<u8>, text: &[u8], columns: u32) -> Result<(), AllocError>
     ensures { OnOk result (lines.new.items ≡ lines.old.items ++ folded_text columns 0 text.now) }
 {
@@ -113,7 +113,7 @@ pub fn push_folded(lines: &mut Vec<u8>, text: &[u8], columns: u32) -> Result<(),
     Ok(())
 }
 
-// Adds a byte in front of which so many columns of its line are taken, and gives how many are behind it.
+// Adds a byte. `at` columns of its line are taken before it; gives how many are taken behind it.
 fn push_at(lines: &mut Vec<u8>, byte: u8, at: u32, columns: u32) -> Result<u32, AllocError>
     ensures text { IfOk result (λ _. lines.new.items ≡ lines.old.items ++ byte_at columns at byte) }
     ensures at { IfOk result (λ behind. behind ≡ column_behind columns at byte) }
@@ -138,7 +138,7 @@ fn is_folded(byte: u8, at: u32, columns: u32) -> bool
     0 < columns && columns <= at && byte != b'\n' && !matches!(byte, 128..=191)
 }
 
-/// Adds the last line, on how the run ended. An error is want of memory.
+/// Adds the last line, on how the run ended. Fails only if memory runs out.
 pub fn push_end(line: &mut Vec<u8>, report: &Report) -> Result<(), AllocError>
     ensures { OnOk result (line.new.items ≡ line.old.items
         ++ end_text report.now.fate report.now.steps report.now.peak) }
@@ -182,22 +182,22 @@ fn name(rule: ScanningRule) -> &'static [u8]
     }
 }
 
-/// Adds a text. An error is want of memory.
+/// Adds a text. Fails only if memory runs out.
 pub fn push(line: &mut Vec<u8>, text: &[u8]) -> Result<(), AllocError>
     ensures { OnOk result (line.new.items ≡ line.old.items ++ text.now) }
 {
     line.extend_from_slice(text)
 }
 
-/// Adds a number. An error is want of memory.
+/// Adds a number. Fails only if memory runs out.
 pub fn push_number(line: &mut Vec<u8>, n: u64) -> Result<(), AllocError>
     ensures { OnOk result (line.new.items ≡ line.old.items ++ decimal n) }
 {
     line.extend_from_slice(Buffer::new().format(n).as_bytes())
 }
 
-/// Adds a number at the right end of 6 columns, or of as many as it has digits. An error is want of
-/// memory.
+/// Adds a number at the right end of 6 columns, or of as many as it has digits. Fails only if
+/// memory runs out.
 pub fn push_column(line: &mut Vec<u8>, n: u64) -> Result<(), AllocError>
     ensures { OnOk result (line.new.items ≡ line.old.items ++ column_text n) }
 {
@@ -207,8 +207,8 @@ pub fn push_column(line: &mut Vec<u8>, n: u64) -> Result<(), AllocError>
     line.extend_from_slice(digits)
 }
 
-// Adds at most so many cells of a string; of a longer one the first and the last half of them, with two
-// full stops between. 0 is no bound.
+// Adds the cells of a string. Of one that is longer than `width` cells, adds the first and the last
+// half of that many, with two full stops between. A width of 0 sets no bound.
 fn push_string(line: &mut Vec<u8>, cells: &[Cell], width: u32) -> Result<(), AllocError>
     ensures { OnOk result (line.new.items ≡ line.old.items ++ string_text width cells.now) }
 {
@@ -222,7 +222,7 @@ fn push_string(line: &mut Vec<u8>, cells: &[Cell], width: u32) -> Result<(), All
     push_cells(line, &cells[cells.len() - half..])
 }
 
-// Whether so many cells need no cut.
+// Whether `len` cells need no cut.
 fn is_short(width: usize, len: usize) -> bool
     ensures { result ≡ is_short width len }
 {
@@ -263,8 +263,8 @@ fn push_bytes(line: &mut Vec<u8>, bytes: &[u8]) -> Result<(), AllocError>
     Ok(())
 }
 
-/// Adds a byte: layout and the reverse solidus behind a reverse solidus, and what is no visible
-/// character by its number. An error is want of memory.
+/// Adds a byte: layout and the reverse solidus behind a reverse solidus, and a byte that is no
+/// visible character by its number. Fails only if memory runs out.
 pub fn push_byte(line: &mut Vec<u8>, byte: u8) -> Result<(), AllocError>
     ensures { OnOk result (line.new.items ≡ line.old.items ++ byte_text byte) }
 {
@@ -278,7 +278,7 @@ pub fn push_byte(line: &mut Vec<u8>, byte: u8) -> Result<(), AllocError>
     }
 }
 
-// Adds a byte by its number to the base 16.
+// Adds the number of a byte, in base 16.
 fn push_number_16(line: &mut Vec<u8>, byte: u8) -> Result<(), AllocError>
     ensures { OnOk result (line.new.items ≡ line.old.items ++ number_16 byte) }
 {

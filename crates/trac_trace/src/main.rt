@@ -42,13 +42,13 @@ use views::Options;
 use watched::watched;
 use words::{Words, words_from};
 
-// The status where the words can't be used.
+// The status if the words can't be used.
 const USAGE: u8 = 2;
-// The status where what is shown can't be written.
+// The status if the output can't be written.
 const NOT_WRITTEN: u8 = 5;
-// The status where there is no memory.
+// The status if memory runs out.
 const NO_MEMORY: u8 = 6;
-// The line where there is no memory.
+// The line that is printed if there is no memory.
 const NO_MEMORY_LINE: &str = "trac_trace: no memory";
 // The line of `--version`, with the version of the repository.
 const VERSION_LINE: &[u8] = b"trac_trace 0.10.0\n";
@@ -103,8 +103,8 @@ fn done(rt: &HostRuntime, words: &Words) -> Result<u8, TraceError> {
     Ok(check_files(rt, &words.options.settings, &words.files))
 }
 
-// Says a line on standard error, behind the name of the program, by one call of the system as long as
-// there is memory for it. That it can't be written is ignored.
+// Prints a line on standard error, behind the name of the program, by one call of the system if
+// there is memory for that. A failure to write it is ignored.
 fn say(rt: &HostRuntime, words: &[&str]) {
     let _ = said(rt, words);
 }
@@ -150,7 +150,8 @@ fn show_warnings<W: Write>(
     Ok(watched.status())
 }
 
-// Reads the whole input, and gives the place at which it failed, if it did. An error is want of memory.
+// Reads the whole input, and gives the place at which reading failed, if it did. Fails only if
+// memory runs out.
 fn read_all<R: Read>(reader: &mut R, input: &mut Vec<u8>) -> Result<Option<u64>, TraceError> {
     match reader.read_to_end(input) {
         Ok(_) => Ok(None),
@@ -159,8 +160,8 @@ fn read_all<R: Read>(reader: &mut R, input: &mut Vec<u8>) -> Result<Option<u64>,
     }
 }
 
-// The status after a run, as that of `trac`; a run that
-// could not keep what it printed had no memory for it.
+// The status after a run, as `trac` has it. A run that could not keep what it printed ran out of
+// memory.
 fn status(fate: Fate) -> u8
     ensures { result ≡ traced_status fate }
 {

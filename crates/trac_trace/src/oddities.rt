@@ -11,10 +11,10 @@ use trac_language::Function;
 use trac_space::character_of;
 use trac_warnings::needs_form;
 
-/// What is odd about a call with these arguments and this value, by what it named before it was
-/// performed, and by the pointer of that form after it: that no function has its name, that no form
-/// has the name that its function needs, or that its value is its default value. The value of
-/// arithmetic is taken for its default where it is the same text.
+/// What is odd about a call with these arguments and this value: no function has its name, no form
+/// has the name that its function needs, or its value is its default value. `named` is what it
+/// named before it was performed; `pointer` is the pointer of that form afterwards. The value of
+/// arithmetic counts as its default value if it is the same text.
 pub fn oddity_of(
     named: &Named,
     arguments: &[Cell],
@@ -48,8 +48,8 @@ fn takes_part(function: Function) -> bool
     }
 }
 
-// Whether the value is the default value: of arithmetic where it is the same text, and of a part
-// where one was asked for and the pointer stays.
+// Whether the value is the default value: for arithmetic if it is the same text, for a part of a
+// form if a part was asked for and the pointer stayed.
 fn is_default(function: Function, arguments: &[Cell], value: &[Cell], stays: bool) -> bool
     ensures { result ≡ is_default function arguments.now value.now stays }
 {

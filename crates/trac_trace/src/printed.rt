@@ -12,7 +12,7 @@ pub struct Printed {
 }
 
 impl Printed {
-    /// Nothing printed yet.
+    /// A sink to which nothing was printed yet.
     pub fn new(alloc: Global) -> Printed
         ensures empty { result.bytes.items ≡ [] }
         ensures none { result.failures ≡ 0 }

@@ -17,7 +17,7 @@ pub struct Record {
 }
 
 impl Record {
-    /// Nothing read yet.
+    /// A record of no bytes.
     pub fn new(alloc: Global) -> Record
         ensures nothing { result.bytes.items ≡ [] }
         ensures whole { result.is_whole ≡ true }

@@ -39,7 +39,7 @@ pub struct Shown {
 }
 
 impl Shown {
-    /// Before the first step. The lines are those that stand above all others.
+    /// What is shown before the first step: the lines above all others.
     pub fn new(alloc: Global, views: Views) -> Result<Shown, AllocError>
         ensures { IfOk result (λ shown. (shown.views ≡ views) × (shown.peak ≡ 0)
             × (shown.lines.items ≡ head_text views.calls views.forms)) }
@@ -69,7 +69,7 @@ impl Shown {
         self.lines.as_slice()
     }
 
-    /// Looks at a machine before a step. An error is want of memory.
+    /// Looks at a machine before a step. Fails only if memory runs out.
     pub fn look(&mut self, machine: &Machine) -> Result<Before, AllocError>
         ensures seen { let asked = is_told self.old.views machine.now.steps in
             IfOk result (IsSeen machine.now (asked && not (has_steps self.old.views))) }
@@ -87,7 +87,7 @@ impl Shown {
         Ok(before)
     }
 
-    // Keeps what is to be known of a call once it is performed.
+    // Keeps what must be known of a call after it is performed.
     fn look_at_call(&mut self, machine: &Machine, call: OpenCall) -> Result<(), AllocError>
         ensures lines { self.new.lines ≡ self.old.lines }
         ensures views { self.new.views ≡ self.old.views }
@@ -109,7 +109,8 @@ impl Shown {
         )
     }
 
-    /// Tells what a step did, of the machine after it. An error is want of memory.
+    /// Adds the lines of what a step did. `machine` is the machine after it. Fails only if memory
+    /// runs out.
     pub fn tell(
         &mut self,
         before: &Before,
@@ -152,7 +153,7 @@ impl Shown {
         push_event(&mut self.lines, self.alloc, &self.views, event)
     }
 
-    // Tells that a step was done, and what it dropped.
+    // Adds that a step was done, and what it dropped.
     fn tell_step(&mut self, before: &Before, machine: &Machine, need: u32) -> Result<(), AllocError>
         ensures lines { has_steps self.old.views ≡ true → OnOk result (TellsDone self.old.views.width
             before.now need machine.now self.old.lines.items self.new.lines.items) }
@@ -169,7 +170,7 @@ impl Shown {
         self.show(&Event::Dropped(before.drops))
     }
 
-    // Tells the call that a step performed, if it did.
+    // Adds the call that a step performed, if it performed one.
     fn tell_call(
         &mut self,
         before: &Before,
@@ -219,7 +220,7 @@ impl Shown {
         )
     }
 
-    /// Tells how the run ended. An error is want of memory.
+    /// Adds how the run ended. Fails only if memory runs out.
     pub fn tell_end(&mut self, fate: Fate, machine: &Machine) -> Result<(), AllocError>
         ensures { OnOk result (TellsEnd self.old.views fate self.old.peak machine.now
             self.old.lines.items self.new.lines.items) }
@@ -234,7 +235,7 @@ impl Shown {
         self.tell_fault(fate, machine)
     }
 
-    // Adds the forms and the meta character, where forms are shown.
+    // Adds the forms and the meta character, if forms are shown.
     fn tell_forms(&mut self, machine: &Machine) -> Result<(), AllocError>
         ensures lines { OnOk result (self.new.lines.items ≡
             self.old.lines.items ++ forms_text self.old.views machine.now) }
@@ -252,7 +253,7 @@ impl Shown {
         push_meta(&mut self.lines, machine.meta())
     }
 
-    // Adds what is told of a fault, where the run ended by one.
+    // Adds the lines on a fault, if one ended the run.
     fn tell_fault(&mut self, fate: Fate, machine: &Machine) -> Result<(), AllocError>
         ensures { OnOk result (TellsWhere (is_fault fate) self.old.views.width machine.now
             self.old.lines.items self.new.lines.items) }

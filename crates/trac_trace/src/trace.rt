@@ -39,7 +39,8 @@ impl From<AllocError> for TraceError {
 pub struct Traced {
     /// How the run ended.
     pub fate: Fate,
-    /// The first of the last steps of which something was shown, as many as the views ask for.
+    /// The first of the last steps that the views show something of; the views say how many steps
+    /// these are.
     pub first: u64,
 }
 
@@ -78,11 +79,11 @@ pub fn trace<I: Source, W: Write>(
     }
 }
 
-/// Runs the script that the reader gives, as `trace` does, and shows the last steps of which the views
-/// show something. The script is run once, which finds the first of these and keeps what it reads, and
-/// then again over that. This takes the place of a ring of lines, since the strings of each step may be
-/// as long as the block. The second run has the same fate: it reads the same bytes, and fails where the
-/// first did.
+/// Runs the script that the reader gives, as `trace` does, and shows the last steps that the views
+/// show something of. The script is run twice: the first run finds the first of these steps and
+/// keeps what it reads, and the second reads that again. No lines are kept in between, since the
+/// strings of each step may be as long as the block. The second run ends as the first: it reads the
+/// same bytes, and fails where the first did.
 pub fn trace_last<R: Read + Drop, W: Write>(
     alloc: Global,
     options: &Options,
@@ -106,8 +107,8 @@ pub fn trace_last<R: Read + Drop, W: Write>(
     trace(alloc, &options, &mut source, output)
 }
 
-// Runs a script, keeps what it reads, and finds the first of the last steps that are shown. Where the
-// steps themselves are shown they need only be counted.
+// Runs a script, keeps what it reads, and finds the first of the last steps that are shown. If the
+// steps themselves are shown, counting them is enough.
 fn run_once<R: Read + Drop>(
     alloc: Global,
     options: &Options,
@@ -129,7 +130,7 @@ fn run_once<R: Read + Drop>(
     })
 }
 
-// Writes a text whose lines have at most so many columns.
+// Writes a text in lines of at most `columns` columns.
 fn write_folded<W: Write>(
     alloc: Global,
     output: &mut W,

@@ -9,14 +9,14 @@ pub const MOST_LAST: u64 = 1_000_000;
 /// The widest that `--width` can make a text, and `--columns` a line, this processor's own choice.
 pub const MOST_WIDTH: u32 = 16_777_216;
 
-/// The views of a run, and the steps that they are of. All of it is this processor's own choice.
+/// What is shown of a run, and of which steps. All of it is this processor's own choice.
 #[derive(Clone, Copy)]
 pub struct Views {
     /// The first step that is shown, from 1.
     pub from: u64,
     /// The last step that is shown.
     pub to: u64,
-    /// How many of the last steps of which there is something to show are shown, 0 for all.
+    /// How many of the last steps are shown that there is something to show of; 0 for all.
     pub last: u64,
     /// The most bytes of a text that are shown, 0 for all.
     pub width: u32,
@@ -45,21 +45,21 @@ impl Views {
         !self.calls && !self.forms
     }
 
-    /// Whether it is shown what becomes of the strings: with the steps and with the calls.
+    /// Whether the strings are shown: with the steps and with the calls.
     pub fn has_strings(&self) -> bool
         ensures { result ≡ has_strings self.now }
     {
         self.has_steps() || self.calls
     }
 
-    /// Whether a step is one of those that are shown.
+    /// Whether a step is shown.
     pub fn has(&self, number: u64) -> bool
         ensures { result ≡ (nat_le self.now.from number && nat_le number self.now.to) }
     {
         self.from <= number && number <= self.to
     }
 
-    /// The same views of all steps.
+    /// These views, of all steps.
     pub fn of_all_steps(&self) -> Views
         ensures { result ≡ record self.now { from = 1; to = 2 ^ 64 - 1 } }
     {
@@ -70,14 +70,14 @@ impl Views {
         }
     }
 
-    /// The first of the last steps of so many.
+    /// Where the last steps begin that are shown of a run of `steps` steps.
     pub fn first_of(&self, steps: u64) -> u64
         ensures { result ≡ min (steps - self.now.last + 1) (2 ^ 64 - 1) }
     {
         steps.saturating_sub(self.last).saturating_add(1)
     }
 
-    /// The same views of the steps from this one on.
+    /// These views, of the steps from this one on.
     pub fn beginning_at(&self, first: u64) -> Views
         ensures { result ≡ record self.now { from = max self.now.from first; last = 0 } }
     {

@@ -10,9 +10,9 @@ use std::alloc::AllocError;
 use trac_events::Place;
 use trac_warnings::{Origin, Warning};
 
-/// Adds the line of a warning that was given so often: its place in the input, in which value it is,
-/// whose form has this name, what is said of it, and the name or the text that it is of. An error is
-/// want of memory.
+/// Adds the line of a warning that was given `times` times: its place in the input, the name of the
+/// form in whose value it is, if it is in one, what it says, and the name or the text that it is
+/// about. Fails only if memory runs out.
 pub fn push_warning(
     line: &mut Vec<u8>,
     warning: &Warning,
@@ -31,7 +31,7 @@ pub fn push_warning(
     push(line, b"\n")
 }
 
-// Adds in which value it is, where it is in one.
+// Adds the value that a warning is in, if it is in one.
 fn push_value(line: &mut Vec<u8>, origin: Origin, form: &[u8]) -> Result<(), AllocError>
     ensures { OnOk result (line.new.items ≡ line.old.items ++ value_text origin form.now) }
 {
@@ -52,7 +52,8 @@ fn push_value_of(line: &mut Vec<u8>, column: usize, form: &[u8]) -> Result<(), A
     push(line, b": ")
 }
 
-// Adds what is said of it: the sentence, the name or the text, and of how many characters it is.
+// Adds what a warning says: its sentence, the name or the text, and how many characters it is
+// about.
 fn push_said(line: &mut Vec<u8>, warning: &Warning) -> Result<(), AllocError>
     ensures { OnOk result (line.new.items ≡ line.old.items ++ said_text warning.now) }
 {
@@ -61,7 +62,7 @@ fn push_said(line: &mut Vec<u8>, warning: &Warning) -> Result<(), AllocError>
     push_count(line, warning.count)
 }
 
-// Adds of how many characters it is, where it is of some.
+// Adds how many characters a warning is about, if it is about any.
 fn push_count(line: &mut Vec<u8>, count: usize) -> Result<(), AllocError>
     ensures { OnOk result (line.new.items ≡ line.old.items ++ count_text count) }
 {
@@ -71,7 +72,7 @@ fn push_count(line: &mut Vec<u8>, count: usize) -> Result<(), AllocError>
     push_number(line, count as u64)
 }
 
-// Adds how often it was given, where that is more than once.
+// Adds how often a warning was given, if more than once.
 fn push_times(line: &mut Vec<u8>, times: u64) -> Result<(), AllocError>
     ensures { OnOk result (line.new.items ≡ line.old.items ++ times_text times) }
 {

@@ -25,9 +25,9 @@ pub struct WatchedRun {
     pub report: Report,
 }
 
-/// Runs a script whose whole input is known, and which the source gives, in a workspace of the
-/// settings' cells and with the steps that they allow, and keeps what is suspicious. An error is want
-/// of memory.
+/// Runs the script that the source gives, in a workspace of the settings' cells and with the steps
+/// that they allow, and keeps what is suspicious. `input` is the whole input. Fails only if memory
+/// runs out.
 pub fn watched<I: Source>(
     alloc: Global,
     settings: &Settings,
@@ -86,7 +86,8 @@ fn keep_warnings(watch: &mut Watch, findings: &mut Findings) -> Result<(), Alloc
 }
 
 impl WatchedRun {
-    /// The status of a program that tells these warnings: that of a fault, or 7 where there are some.
+    /// The status of a program that prints these warnings: that of a fault, or 7 if there are any
+    /// warnings.
     pub fn status(&self) -> u8
         ensures { result ≡
             warned_status self.now.report.fate (length self.now.findings.counts.entries) }
@@ -101,8 +102,8 @@ impl WatchedRun {
         self.findings.len()
     }
 
-    /// Adds a line for each warning behind a text, in the order of their places in the input. An error
-    /// is want of memory.
+    /// Adds a line for each warning, behind a text, in the order of their places in the input.
+    /// Fails only if memory runs out.
     pub fn push_warnings(
         &self,
         lines: &mut Vec<u8>,
@@ -121,7 +122,7 @@ impl WatchedRun {
         Ok(())
     }
 
-    // The name of the form in whose value a warning is, null where it is in none.
+    // The name of the form in whose value a warning is; null if it is in none.
     fn form(&self, warning: &Warning) -> &[u8] {
         match warning.origin.form {
             Some(number) => self.watch.name(number),
@@ -129,7 +130,7 @@ impl WatchedRun {
         }
     }
 
-    /// Adds the line on how the run ended, where that is a fault. An error is want of memory.
+    /// Adds the line on how the run ended, if by a fault. Fails only if memory runs out.
     pub fn push_fault(&self, lines: &mut Vec<u8>) -> Result<(), AllocError>
         ensures { OnOk result (lines.new.items ≡
             lines.old.items ++ fault_end (is_fault self.now.report.fate) self.now.report) }
@@ -141,8 +142,8 @@ impl WatchedRun {
         }
     }
 
-    /// Adds the line of a file of this name: how many warnings there are, and how the run ended. An
-    /// error is want of memory.
+    /// Adds the line of a file of this name: how many warnings there are, and how the run ended.
+    /// Fails only if memory runs out.
     pub fn push_summary(&self, lines: &mut Vec<u8>, name: &[u8]) -> Result<(), AllocError>
         ensures { OnOk result (lines.new.items ≡ lines.old.items
             ++ summary_text name.now (length self.now.findings.counts.entries) self.now.report) }
@@ -155,7 +156,7 @@ impl WatchedRun {
     }
 }
 
-// The status after a run with this fate and so many warnings.
+// The status after a run with this fate and this many warnings.
 fn status_of(fate: Fate, warnings: usize) -> u8
     ensures { result ≡ warned_status fate warnings }
 {
@@ -166,7 +167,7 @@ fn status_of(fate: Fate, warnings: usize) -> u8
     }
 }
 
-/// The worse of two statuses: each other one is worse than that of warnings, and any than 0.
+/// The worse of two statuses. 0 is the best, then that of warnings; all others are worse.
 pub fn worse(a: u8, b: u8) -> u8
     ensures { result ≡ worse a b }
 {

@@ -65,7 +65,7 @@ fn is_version(words: &[String]) -> bool
     }
 }
 
-// How many words stand before the first `--check`, or before `--version` where that stands alone.
+// How many words stand before the first `--check`, or before `--version` if that stands alone.
 fn options_len(words: &[String]) -> usize
     ensures value { result ≡ options_len (map string_bytes words.now) }
     ensures within { result ≤ length words.now }
@@ -90,10 +90,10 @@ fn place_of_check(words: &[String]) -> usize
 }
 
 /// Reads the options from the program's words, its name first: `trac_trace [--cells N] [--steps N]
-/// [--from N] [--to N] [--last N] [--width N] [--columns N] [--calls] [--forms] [--warn]`. Where the
-/// words don't say, there are 65536 cells and 1000000 steps, all steps are shown, and 100 bytes of a
-/// text in lines of any length. The error is clap's, for words that it refuses, numbers out of range
-/// among them, for help, or for want of memory. The command is this processor's own choice.
+/// [--from N] [--to N] [--last N] [--width N] [--columns N] [--calls] [--forms] [--warn]`. By
+/// default there are 65536 cells and 1000000 steps, and all steps are shown, with 100 bytes of a
+/// text, in lines of any length. The error is clap's: for words that it refuses, such as a number
+/// out of range, for help, or because memory ran out. The command is this processor's own choice.
 fn options_from(alloc: Global, words: Vec<String>) -> Result<Options, Error>
     ensures taken { let texts = map string_bytes words.items in
         IfOk result (λ o. AreValuesOf false (matches_of trace_command texts) o.settings) }

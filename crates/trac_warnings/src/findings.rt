@@ -8,14 +8,14 @@ use std::collections::{BTreeMap, BTreeSet};
 /// Warnings, each kept once.
 #[derive(Drop)]
 pub struct Findings {
-    // How often each was given, by its place.
+    // How often each warning was given, in the order of the places.
     counts: BTreeMap<Warning, u64>,
-    // The names that no form has and that were told.
+    // The names that no form has and that a warning was kept of.
     missing: BTreeSet<Vec<u8>>,
 }
 
 impl Findings {
-    /// None yet.
+    /// No warning yet.
     pub fn new(alloc: Global) -> Findings
         ensures { result.counts.entries ≡ [] }
     {
@@ -25,7 +25,8 @@ impl Findings {
         }
     }
 
-    /// Adds one. A name that no form has is told once, wherever it stands. An error is want of memory.
+    /// Adds a warning. Of a name that no form has only the first warning is kept, wherever the
+    /// others stand. Fails only if memory runs out.
     pub fn add(&mut self, warning: Warning) -> Result<(), AllocError> {
         if warning.suspicion == Suspicion::NoForm && !self.missing.insert(warning.text.clone()?)? {
             return Ok(());
@@ -35,14 +36,14 @@ impl Findings {
         Ok(())
     }
 
-    /// How many there are.
+    /// How many warnings there are, each counted once.
     pub fn len(&self) -> usize
         ensures { result ≡ length self.now.counts.entries }
     {
         self.counts.len()
     }
 
-    /// Whether there are none.
+    /// Whether there is no warning.
     pub fn is_empty(&self) -> bool
         ensures { result ≡ (length self.now.counts.entries == 0) }
     {

@@ -87,7 +87,7 @@ fn ends_name(item: &Item) -> bool
     }
 }
 
-/// The body of a form. An error is want of memory.
+/// The body of a form. Fails only if memory runs out.
 pub fn body_of(alloc: Global, form: &StoredForm) -> Result<Vec<Item>, AllocError>
     ensures { IfOk result (λ items. items.items ≡ form.now.body) }
 {

@@ -1,5 +1,5 @@
-//! What is nearly the beginning of a call. Only where the name of a function follows is it said, since
-//! else it may well be a text.
+//! What is nearly the beginning of a call. There is a warning only if the name of a function
+//! follows, since otherwise it may well be a text.
 ghost use Rattle.std.specs.Prelude.{◌≡◌, ◌≤◌, length, true};
 ghost use Rattle.trac_warnings.specs.Spelling.{behind_blanks, names_function, opens, spelling_of};
 

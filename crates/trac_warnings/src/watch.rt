@@ -41,13 +41,13 @@ struct Written {
     body: Origin,
 }
 
-/// What is looked at of a run to find what is suspicious in it. A machine is looked at before and
-/// after each step, and the warnings are those of that step. It keeps the origins of the active
-/// string, the open calls, and the names of the forms that were defined.
+/// Finds what is suspicious in a run. Show it the machine before and after each step; its warnings
+/// are then those of that step. It keeps the origins of the active string, the open calls, and the
+/// names of the forms that were defined.
 #[derive(Drop)]
 pub struct Watch {
     alloc: Global,
-    // The warnings of the step that was seen last.
+    // The warnings of the last step that it saw.
     warnings: Vec<Warning>,
     // The bytes of the input that were read.
     read: usize,
@@ -71,7 +71,7 @@ pub struct Watch {
 
 #[tactic(auto, using(crate::proofs::Keeping::keeping))]
 impl Watch {
-    /// Before the first step.
+    /// A watch before the first step.
     pub fn new(alloc: Global) -> Watch
         ensures { IsFresh result }
     {
@@ -91,14 +91,14 @@ impl Watch {
         }
     }
 
-    /// The warnings of the step that was seen last.
+    /// The warnings of the last step that it saw.
     pub fn warnings(&self) -> &[Warning]
         ensures { result.now ≡ self.now.warnings.items }
     {
         self.warnings.as_slice()
     }
 
-    /// Takes the last of those warnings away. None where none is left.
+    /// Takes the last of these warnings away. None if none is left.
     pub fn take_warning(&mut self) -> Option<Warning>
         ensures left { self.old.warnings.items ≡ self.new.warnings.items ++ option_to_list result }
         ensures some { IsSome result ↔ (0 < length self.old.warnings.items) }
@@ -106,7 +106,7 @@ impl Watch {
         self.warnings.pop()
     }
 
-    /// The name of a form by its number in an origin, null for a number that no name has.
+    /// The name of a form by its number in an origin. It is null if no name has the number.
     pub fn name(&self, number: usize) -> &[u8]
         ensures { MatchOption (slice_get self.now.names.items number)
             (result.now ≡ []) (λ name. result.now ≡ name.items) }
@@ -117,8 +117,8 @@ impl Watch {
         }
     }
 
-    /// Looks at a machine before a step, of whose input at least these bytes are known that it has
-    /// read. An error is want of memory.
+    /// Looks at a machine before a step. `input` has at least the bytes that the machine has read.
+    /// Fails only if memory runs out.
     pub fn look(&mut self, machine: &Machine, input: &[u8]) -> Result<Before, AllocError>
         ensures seen { IfOk result (IsSeen machine.now false) }
         ensures runs { self.new.runs.items ≡ self.old.runs.items }
@@ -173,8 +173,8 @@ impl Watch {
         look_at_call(&mut self.warnings, self.alloc, machine, &ending)
     }
 
-    /// Looks at a machine after a step, of whose input at least these bytes are known that it has
-    /// read. An error is want of memory.
+    /// Looks at a machine after a step. `input` has at least the bytes that the machine has read.
+    /// Fails only if memory runs out.
     pub fn tell(
         &mut self,
         before: &Before,
@@ -201,7 +201,7 @@ impl Watch {
         self.tell_ends(before, machine.active().len(), here)
     }
 
-    // Tells what a step did by its rule.
+    // Looks at what a step did, by its rule.
     fn tell_rule(&mut self, before: &Before, machine: &Machine) -> Result<(), AllocError>
         ensures kept { Kept self.old.warnings.items self.new.warnings.items }
         ensures runs { self.new.runs.items ≡ self.old.runs.items }
@@ -222,7 +222,7 @@ impl Watch {
         Ok(())
     }
 
-    // Tells what a step read.
+    // Looks at what a step read.
     fn tell_read(
         &mut self,
         before: &Before,
@@ -286,8 +286,8 @@ impl Watch {
         }
     }
 
-    // Where the value of the call that the step performs was written, if it is one of a form; else
-    // where the call was.
+    // Where the value of the call that the step performs was written, if it comes from a form; else
+    // where the call was written.
     fn origin_of_form(&self, machine: &Machine, begin: Origin) -> Result<Origin, AllocError> {
         let arguments = self.arguments.as_slice();
         if !gives_body(argument(arguments, 0)) {
@@ -317,7 +317,7 @@ impl Watch {
         self.origin_of_argument(value).unwrap_or(self.value)
     }
 
-    // Where the argument was written that is the value of the call that the step performs. None where
+    // Where the argument was written that is the value of the call that the step performs. None if
     // its value is no argument.
     fn origin_of_argument(&self, value: &[Cell]) -> Option<Origin> {
         let arguments = self.arguments.as_slice();
@@ -425,7 +425,8 @@ impl Watch {
         Ok(())
     }
 
-    // Follows the active string over a step, which put a value there that was written so.
+    // Follows the active string over a step, which put a value there that was written at this
+    // origin.
     fn move_on(
         &mut self,
         before: &Before,
@@ -496,8 +497,8 @@ impl Watch {
         Ok(())
     }
 
-    // Looks at the strings that ended with a step that left so many cells in the active string, and
-    // whose first character was written here.
+    // Looks at the strings that ended with a step. The step left `active` cells in the active
+    // string, and the first of them was written `here`.
     fn tell_ends(&mut self, before: &Before, active: usize, here: Origin) -> Result<(), AllocError>
         ensures kept { Kept self.old.warnings.items self.new.warnings.items }
         ensures runs { self.new.runs.items ≡ self.old.runs.items }
@@ -539,7 +540,7 @@ impl Watch {
         Ok(())
     }
 
-    // Whether the last warning tells that all was dropped.
+    // Whether the last warning says that the rest of a string was dropped.
     fn is_dropped(&self) -> bool {
         match self.warnings.as_slice() {
             [.., warning] => warning.suspicion == Suspicion::Dropped,
@@ -547,7 +548,7 @@ impl Watch {
         }
     }
 
-    // Tells the calls that are open beyond so many.
+    // Warns of the open calls beyond the outermost `depth`.
     fn tell_open_calls(&mut self, depth: usize) -> Result<(), AllocError>
         ensures kept { Kept self.old.warnings.items self.new.warnings.items }
         ensures runs { self.new.runs.items ≡ self.old.runs.items }
@@ -569,8 +570,8 @@ impl Watch {
     }
 }
 
-// Where each of the arguments behind the name was written, of a call that has these, where those of all
-// open calls were written so.
+// Where each argument behind the name was written, of the innermost call, which has these
+// arguments. `commas` has the places of the arguments of all open calls.
 fn places_of<'c>(commas: &'c [Origin], arguments: &[Cell]) -> &'c [Origin] {
     let first = commas.len().saturating_sub(commas_in(arguments));
     commas.get(first..).unwrap_or(&[])

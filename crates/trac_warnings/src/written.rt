@@ -10,10 +10,10 @@ use crate::warning::{Suspicion, Warning};
 use std::alloc::{AllocError, Global};
 use trac_core::is_layout;
 
-// How many numbered lines are suspicious.
+// From this many numbered lines on there is a warning.
 const FEW_LINES: usize = 3;
 
-/// Adds what is suspicious in how a script is written. An error is want of memory.
+/// Adds what is suspicious in how a script is written. Fails only if memory runs out.
 #[tactic(auto, using(crate::proofs::Keeping::keeping))]
 pub fn look_at_script(
     warnings: &mut Vec<Warning>,
@@ -32,8 +32,8 @@ pub fn look_at_script(
     look_at_spelling(warnings, alloc, input)
 }
 
-// The byte that seems to end the strings of a script without any apostrophe, behind so many others: the
-// last one that is neither layout nor a blank, where it is no letter, no digit and no right parenthesis.
+// The byte that seems to end the strings of a script without any apostrophe, and its place: the
+// last byte apart from layout and blanks, unless it is a letter, a digit or a right parenthesis.
 fn other_meta(input: &[u8]) -> Option<(usize, u8)> {
     if input.contains(&b'\'') {
         return None;
@@ -84,7 +84,7 @@ fn is_numbered(line: &[u8]) -> bool {
     rest.len() < line.len() && matches!(rest, [b' ', b'#' | b'(' | b':', ..])
 }
 
-// Looks for what is nearly the beginning of a call. Of a parenthesis of which this is said nothing more is.
+// Looks for what is nearly the beginning of a call. Each parenthesis gets one warning at most.
 #[tactic(auto, using(crate::proofs::Keeping::keeping))]
 fn look_at_spelling(
     warnings: &mut Vec<Warning>,
