@@ -224,11 +224,11 @@ TIMES = """
 
 
 class Long(Lecture):
-    def quick(self, name, most, longest=None, count=9, place=None):
+    def quick(self, name, most, longest=None, count=9, place=None, rounds=6):
         """The middle one of some clicks takes less, and the page is never held for long, in a round of several: one
         that other programs leave alone. Each round begins at a place, where one is given."""
         found = []
-        for _ in range(6):
+        for _ in range(rounds):
             if place is not None:
                 self.go(place)
             middle, gap = browser.execute_async_script(TIMES, name, count)
@@ -306,10 +306,10 @@ class Long(Lecture):
             for place in (12, 17, last - 16):
                 self.quick('step', 16, place=place)
                 self.quick('back', 32, place=place + 9)
-            # the steps at which the text is read, taken, kept and printed too
+            # the steps at which the text is read, taken, kept and printed too; a single click is less even
             for place in range(last):
-                self.quick('step', 16, count=1, place=place)
-                self.quick('back', 32, count=1, place=place + 1)
+                self.quick('step', 24, count=1, place=place, rounds=20)
+                self.quick('back', 48, count=1, place=place + 1, rounds=20)
 
     def test_a_long_output(self):
         script = "#(ds,l,(#(ps,(0123456789 0123456789 0123456789 012345678\n))#(gr,N,0,(#(cl,l,#(su,N,1))))))" \
