@@ -98,7 +98,7 @@ pub(crate) fn scan_once(work: &mut Work, plain: u32) -> Option<Pending>
 /// with the commas between them, or of layout characters, or one step of another rule that performs
 /// no call. From `plain` on no comma mark stands in the neutral string; `long` counts the long runs
 /// that followed one another before.
-#[inline]
+#[inline(always)]
 pub(crate) fn scan_steps(
     work: &mut Work,
     most: u64,
