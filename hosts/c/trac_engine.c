@@ -4,7 +4,7 @@
  * and what compilers make of it (memcpy, memset) alone.
  *
  * Crates: trac_language trac_space trac_values trac_store trac_forms trac_devices trac_functions trac_laws trac_core trac_c
- * Sources: d6df0b2f709d4520b390f860a36eb53bac5c65f5bbd3678426ee047cb97fe7d1
+ * Sources: dfebb54aa2c071edd8219cb5c1a5be87b3c3dae9f383d2b095d2f77c477ff03d
  * Kit: rattle-kit-13f logic dac8208d650f15bf
  * Tools: wasm-opt version 108, wabt 1.0.32
  */
@@ -21007,7 +21007,7 @@ static void engine_turn(u64 stack, u64 l0, u64 l1, u64 l2, u64 l3, u64 l4, u64 l
     u64 l26 = 0;
     u64 l27 = 0;
     u64 l28 = 0;
-    u32 l29 = 0;
+    u64 l29 = 0;
     u32 l30 = 0;
     u32 l31 = 0;
     u32 l32 = 0;
@@ -21024,6 +21024,7 @@ static void engine_turn(u64 stack, u64 l0, u64 l1, u64 l2, u64 l3, u64 l4, u64 l
     u32 l43 = 0;
     u32 l44 = 0;
     u32 l45 = 0;
+    u32 l46 = 0;
     l20 = l0;
     l9 = l1;
     l8 = l2;
@@ -21060,8 +21061,8 @@ static void engine_turn(u64 stack, u64 l0, u64 l1, u64 l2, u64 l3, u64 l4, u64 l
                     store64(l10 + 232u, 0ull);
                     store64(l10 + 240u, 0ull);
                     l8 = 0ull;
-                    l29 = 0u;
-                    l32 = 0u;
+                    l30 = 0u;
+                    l33 = 0u;
                     l5 = l9 + 84ull;
                     const u32 t6 = load8(l5);
                     if (t6 != 1u) {
@@ -21074,6 +21075,9 @@ static void engine_turn(u64 stack, u64 l0, u64 l1, u64 l2, u64 l3, u64 l4, u64 l
                         const u64 t10 = load64(l9 + 64ull);
                         store64(l10 + 168u, t10);
                         l17 = l10 + 208ull;
+                        l14 = l9 + 60ull;
+                        const u32 t11 = load32(l14);
+                        l35 = t11;
                         l13 = l10 + 168ull;
                         l2 = l7 - l4;
                         l1 = stack - 144ull;
@@ -21081,42 +21085,41 @@ static void engine_turn(u64 stack, u64 l0, u64 l1, u64 l2, u64 l3, u64 l4, u64 l
                         {
                             l11 = l1;
                             {
-                                const u64 t13 = load64(l13 + 8u);
-                                l21 = t13;
+                                const u64 t14 = load64(l13 + 8u);
+                                l21 = t14;
                                 store32(l11 + 60u, 0u);
                                 store8(l11 + 64u, (u8)0u);
+                                store32(l11 + 56u, l35);
                                 store32(l11 + 52u, 0u);
-                                const u32 t14 = load32(l9 + 20ull);
-                                l34 = t14;
-                                store32(l11 + 56u, l34);
                                 const u32 t15 = load32(l13 + 16u);
-                                l43 = t15;
+                                l44 = t15;
                                 const u64 t16 = load64(l13);
                                 l13 = t16 - l21;
                                 l15 = (l2 > l13) ? l13 : l2;
                                 if ((l15 == 0) == 0) {
                                     const u32 t18 = load32(l9 + 24ull);
-                                    const u32 t19 = load32(l9 + 16ull);
-                                    l31 = t18 + (l34 + t19);
+                                    const u32 t19 = load32(l9 + 20ull);
+                                    const u32 t20 = load32(l9 + 16ull);
+                                    l32 = t18 + (t19 + t20);
                                     l27 = l11 + 109ull;
                                     l28 = l11 + 93ull;
                                     l1 = l15;
-                                    L20:;
+                                    L21:;
                                     {
-                                        u64 v21;
+                                        u64 v22;
                                         {
                                             {
-                                                u32 v23;
+                                                u32 v24;
                                                 {
                                                     {
                                                         {
                                                             {
-                                                                u32 v27;
+                                                                u32 v28;
                                                                 {
                                                                     {
-                                                                        const u32 t29 = load32(l9 + 24ull);
-                                                                        l35 = t29;
-                                                                        if (l35) {
+                                                                        const u32 t30 = load32(l9 + 24ull);
+                                                                        l36 = t30;
+                                                                        if (l36) {
                                                                             l13 = 1ull;
                                                                             {
                                                                                 {
@@ -21124,91 +21127,91 @@ static void engine_turn(u64 stack, u64 l0, u64 l1, u64 l2, u64 l3, u64 l4, u64 l
                                                                                         {
                                                                                             {
                                                                                                 {
-                                                                                                    const u64 t37 = load64(l9);
-                                                                                                    l2 = t37;
-                                                                                                    const u32 t38 = load32(l9 + 28ull);
-                                                                                                    l34 = t38 - l35;
-                                                                                                    const u32 t39 = load8((l2 + ((u64)l34 << 3)) + 1ull);
-                                                                                                    l33 = t39;
-                                                                                                    switch (l33 - 13u) {
-                                                                                                    case 0: goto L31;
-                                                                                                    case 22: goto L33;
-                                                                                                    case 27: goto L36;
-                                                                                                    case 28: goto L35;
-                                                                                                    case 31: goto L34;
-                                                                                                    default: goto L32;
+                                                                                                    const u64 t38 = load64(l9);
+                                                                                                    l2 = t38;
+                                                                                                    const u32 t39 = load32(l9 + 28ull);
+                                                                                                    l35 = t39 - l36;
+                                                                                                    const u32 t40 = load8((l2 + ((u64)l35 << 3)) + 1ull);
+                                                                                                    l34 = t40;
+                                                                                                    switch (l34 - 13u) {
+                                                                                                    case 0: goto L32;
+                                                                                                    case 22: goto L34;
+                                                                                                    case 27: goto L37;
+                                                                                                    case 28: goto L36;
+                                                                                                    case 31: goto L35;
+                                                                                                    default: goto L33;
                                                                                                     }
                                                                                                 }
-                                                                                                L36:;
+                                                                                                L37:;
                                                                                                 core_scan_protect(stack, l9);
-                                                                                                goto L22;
+                                                                                                goto L23;
                                                                                             }
-                                                                                            L35:;
-                                                                                            const u32 t40 = load32(l9 + 32ull);
-                                                                                            l33 = t40;
-                                                                                            if (l33) goto L28;
-                                                                                            store32(l9 + 24ull, l35 - 1u);
-                                                                                            goto L22;
+                                                                                            L36:;
+                                                                                            const u32 t41 = load32(l9 + 32ull);
+                                                                                            l34 = t41;
+                                                                                            if (l34) goto L29;
+                                                                                            store32(l9 + 24ull, l36 - 1u);
+                                                                                            goto L23;
                                                                                         }
-                                                                                        L34:;
-                                                                                        const u32 t41 = load32(l11 + 52u);
-                                                                                        const u64 t42 = core_scan_begin_argument(stack, l9, l1, l11 + 56ull, t41 > 1u);
-                                                                                        l13 = t42;
-                                                                                        goto L22;
+                                                                                        L35:;
+                                                                                        const u32 t42 = load32(l11 + 52u);
+                                                                                        const u64 t43 = core_scan_begin_argument(stack, l9, l1, l11 + 56ull, t42 > 1u);
+                                                                                        l13 = t43;
+                                                                                        goto L23;
                                                                                     }
-                                                                                    L33:;
-                                                                                    const u32 t43 = load32(l11 + 52u);
-                                                                                    const u64 t44 = core_scan_number_sign(stack, l9, l1, l11 + 56ull, t43 > 1u);
-                                                                                    l13 = t44;
-                                                                                    goto L22;
+                                                                                    L34:;
+                                                                                    const u32 t44 = load32(l11 + 52u);
+                                                                                    const u64 t45 = core_scan_number_sign(stack, l9, l1, l11 + 56ull, t44 > 1u);
+                                                                                    l13 = t45;
+                                                                                    goto L23;
                                                                                 }
-                                                                                L32:;
-                                                                                if (((l33 - 9u) & 255u) < 2u) goto L31;
-                                                                                const u64 t45 = core_scan_add_characters(stack, l9, l1, l11 + 56ull, l11 + 52ull);
-                                                                                l13 = t45;
-                                                                                goto L22;
+                                                                                L33:;
+                                                                                if (((l34 - 9u) & 255u) < 2u) goto L32;
+                                                                                const u64 t46 = core_scan_add_characters(stack, l9, l1, l11 + 56ull, l11 + 52ull);
+                                                                                l13 = t46;
+                                                                                goto L23;
                                                                             }
-                                                                            L31:;
-                                                                            l13 = (u64)l35;
-                                                                            const u64 t46 = (u64)((l34 + (u32)(((l1 > l13) ? l13 : l1))));
-                                                                            l13 = (u64)(l34 + 1u);
-                                                                            l12 = t46 - l13;
-                                                                            if (l12 == 0) { v23 = 1u; goto L23; }
+                                                                            L32:;
+                                                                            l13 = (u64)l36;
+                                                                            const u64 t47 = (u64)((l35 + (u32)(((l1 > l13) ? l13 : l1))));
+                                                                            l13 = (u64)(l35 + 1u);
+                                                                            l16 = t47 - l13;
+                                                                            if (l16 == 0) { v24 = 1u; goto L24; }
                                                                             l13 = (l2 + (l13 << 3)) + 1ull;
                                                                             l2 = 0ull;
-                                                                            L47:;
+                                                                            L48:;
                                                                             {
-                                                                                const u32 t48 = load8(l13);
-                                                                                l34 = t48;
-                                                                                if (l34 > 13u) goto L24;
-                                                                                if (((1u << (l34 & 31)) & 9728u) == 0) goto L24;
+                                                                                const u32 t49 = load8(l13);
+                                                                                l35 = t49;
+                                                                                if (l35 > 13u) goto L25;
+                                                                                if (((1u << (l35 & 31)) & 9728u) == 0) goto L25;
                                                                                 l13 = l13 + 8ull;
                                                                                 l2 = l2 + 1ull;
-                                                                                if (l12 != l2) goto L47;
+                                                                                if (l16 != l2) goto L48;
                                                                             }
-                                                                            l2 = l12;
-                                                                            goto L24;
+                                                                            l2 = l16;
+                                                                            goto L25;
                                                                         }
                                                                         store32(l9 + 32ull, 0u);
                                                                         l2 = l9 + 20ull;
                                                                         store32(l2, 0u);
                                                                         store8(l11 + 70u, (u8)0u);
                                                                         store16(l11 + 68u, (u16)0u);
-                                                                        l34 = 11u;
-                                                                        const u32 t49 = load32(l9 + 28ull);
-                                                                        l35 = t49;
-                                                                        l12 = l9 + 16ull;
-                                                                        const u32 t50 = load32(l12);
-                                                                        if ((l35 - t50) <= 10u) {
-                                                                            const u32 t52 = space_space_Space_try_claim_spare(stack, l9, 11ull);
-                                                                            if (t52 == 0) goto L26;
-                                                                            const u32 t53 = load32(l9 + 24ull);
-                                                                            l34 = t53 + 11u;
-                                                                            const u32 t54 = load32(l9 + 28ull);
-                                                                            l35 = t54;
+                                                                        l35 = 11u;
+                                                                        const u32 t50 = load32(l9 + 28ull);
+                                                                        l36 = t50;
+                                                                        l16 = l9 + 16ull;
+                                                                        const u32 t51 = load32(l16);
+                                                                        if ((l36 - t51) <= 10u) {
+                                                                            const u32 t53 = space_space_Space_try_claim_spare(stack, l9, 11ull);
+                                                                            if (t53 == 0) goto L27;
+                                                                            const u32 t54 = load32(l9 + 24ull);
+                                                                            l35 = t54 + 11u;
+                                                                            const u32 t55 = load32(l9 + 28ull);
+                                                                            l36 = t55;
                                                                         }
-                                                                        const u64 t55 = load64(l9);
-                                                                        l13 = t55 + ((u64)(l35 - l34) << 3);
+                                                                        const u64 t56 = load64(l9);
+                                                                        l13 = t56 + ((u64)(l36 - l35) << 3);
                                                                         store64(l13 + 56u, 0ull);
                                                                         store64(l13 + 48u, 0ull);
                                                                         store64(l13 + 40u, 0ull);
@@ -21231,23 +21234,23 @@ static void engine_turn(u64 stack, u64 l0, u64 l1, u64 l2, u64 l3, u64 l4, u64 l
                                                                         store8(l13 + 17ull, (u8)112u);
                                                                         store8(l13 + 9ull, (u8)40u);
                                                                         store8(l13 + 1ull, (u8)35u);
-                                                                        store32(l9 + 24ull, l34);
-                                                                        const u32 t56 = load32(l2);
-                                                                        const u32 t57 = load32(l12);
-                                                                        v27 = t56 + (t57 + l34); goto L27;
+                                                                        store32(l9 + 24ull, l35);
+                                                                        const u32 t57 = load32(l2);
+                                                                        const u32 t58 = load32(l16);
+                                                                        v28 = t57 + (t58 + l35); goto L28;
                                                                     }
-                                                                    L28:;
-                                                                    const u64 t58 = load64(l9);
-                                                                    l13 = t58;
-                                                                    const u32 t59 = load32(l9 + 16ull);
-                                                                    l34 = t59;
-                                                                    l31 = l33 - 1u;
-                                                                    const u32 t60 = load8((l13 + ((u64)(l34 + l31) << 3)) + 1ull);
-                                                                    l37 = t60;
-                                                                    const u32 t61 = load32(l9 + 20ull);
-                                                                    l41 = t61;
-                                                                    const u32 t62 = load32(l11 + 56u);
-                                                                    l30 = t62;
+                                                                    L29:;
+                                                                    const u64 t59 = load64(l9);
+                                                                    l13 = t59;
+                                                                    const u32 t60 = load32(l9 + 16ull);
+                                                                    l35 = t60;
+                                                                    l32 = l34 - 1u;
+                                                                    const u32 t61 = load8((l13 + ((u64)(l35 + l32) << 3)) + 1ull);
+                                                                    l38 = t61;
+                                                                    const u32 t62 = load32(l9 + 20ull);
+                                                                    l42 = t62;
+                                                                    const u32 t63 = load32(l11 + 56u);
+                                                                    l31 = t63;
                                                                     store8(l11 + 98u, (u8)0u);
                                                                     store16(l11 + 96u, (u16)0u);
                                                                     {
@@ -21262,92 +21265,92 @@ static void engine_turn(u64 stack, u64 l0, u64 l1, u64 l2, u64 l3, u64 l4, u64 l
                                                                                                         {
                                                                                                             {
                                                                                                                 {
-                                                                                                                    l32 = l34 + l41;
-                                                                                                                    l2 = (u64)(l33 + l34);
-                                                                                                                    l12 = (u64)l32 - l2;
-                                                                                                                    if (l12 < 2ull) goto L74;
+                                                                                                                    l33 = l35 + l42;
+                                                                                                                    l2 = (u64)(l34 + l35);
+                                                                                                                    l16 = (u64)l33 - l2;
+                                                                                                                    if (l16 < 2ull) goto L75;
                                                                                                                     l2 = l13 + (l2 << 3);
-                                                                                                                    if (l12 != 2ull) {
-                                                                                                                        const u32 t76 = load8(l2 + 16ull);
-                                                                                                                        if (t76 != 2u) goto L74;
+                                                                                                                    if (l16 != 2ull) {
+                                                                                                                        const u32 t77 = load8(l2 + 16ull);
+                                                                                                                        if (t77 != 2u) goto L75;
                                                                                                                     }
                                                                                                                     functions_function_function_of(stack, l11 + 96ull, l2, l2 + 8ull);
-                                                                                                                    const u32 t77 = load8(l11 + 96u);
-                                                                                                                    if (t77 == 1u) goto L73;
+                                                                                                                    const u32 t78 = load8(l11 + 96u);
+                                                                                                                    if (t78 == 1u) goto L74;
                                                                                                                 }
-                                                                                                                L74:;
-                                                                                                                l42 = 0u;
+                                                                                                                L75:;
+                                                                                                                l43 = 0u;
                                                                                                                 store8(l11 + 70u, (u8)0u);
                                                                                                                 store16(l11 + 68u, (u16)0u);
-                                                                                                                l29 = 1u;
-                                                                                                                l36 = 0u;
-                                                                                                                l38 = l33;
-                                                                                                                goto L72;
+                                                                                                                l30 = 1u;
+                                                                                                                l37 = 0u;
+                                                                                                                l39 = l34;
+                                                                                                                goto L73;
                                                                                                             }
-                                                                                                            L73:;
-                                                                                                            const u32 t78 = load8(l11 + 98u);
-                                                                                                            l42 = t78;
-                                                                                                            const u32 t79 = load8(l11 + 97u);
-                                                                                                            l36 = t79;
-                                                                                                            l29 = 0u;
+                                                                                                            L74:;
+                                                                                                            const u32 t79 = load8(l11 + 98u);
+                                                                                                            l43 = t79;
+                                                                                                            const u32 t80 = load8(l11 + 97u);
+                                                                                                            l37 = t80;
+                                                                                                            l30 = 0u;
                                                                                                             store8(l11 + 70u, (u8)0u);
                                                                                                             store16(l11 + 68u, (u16)0u);
-                                                                                                            l38 = l33 + 3u;
-                                                                                                            if ((l36 - 11u) < 14u) goto L72;
-                                                                                                            if (((1u << (l36 & 31)) & 1012u) == 0) goto L71;
+                                                                                                            l39 = l34 + 3u;
+                                                                                                            if ((l37 - 11u) < 14u) goto L73;
+                                                                                                            if (((1u << (l37 & 31)) & 1012u) == 0) goto L72;
                                                                                                         }
-                                                                                                        L72:;
-                                                                                                        l35 = l35 - 1u;
-                                                                                                        store32(l9 + 24ull, l35);
-                                                                                                        l39 = l32 + l35;
-                                                                                                        l32 = 0u;
-                                                                                                        if (l29) goto L63;
-                                                                                                        l29 = l37 == 0;
+                                                                                                        L73:;
+                                                                                                        l36 = l36 - 1u;
+                                                                                                        store32(l9 + 24ull, l36);
+                                                                                                        l40 = l33 + l36;
+                                                                                                        l33 = 0u;
+                                                                                                        if (l30) goto L64;
+                                                                                                        l30 = l38 == 0;
                                                                                                         {
-                                                                                                            if ((l36 - 5u) < 20u) goto L80;
+                                                                                                            if ((l37 - 5u) < 20u) goto L81;
                                                                                                             {
-                                                                                                                switch (l36 - 2u) {
-                                                                                                                case 0: goto L81;
-                                                                                                                case 2: goto L70;
-                                                                                                                default: goto L80;
+                                                                                                                switch (l37 - 2u) {
+                                                                                                                case 0: goto L82;
+                                                                                                                case 2: goto L71;
+                                                                                                                default: goto L81;
                                                                                                                 }
                                                                                                             }
-                                                                                                            L81:;
-                                                                                                            const u32 t82 = load16(l11 + 68u);
-                                                                                                            store16(l27, (u16)t82);
-                                                                                                            const u32 t83 = load8(l11 + 70u);
-                                                                                                            store8(l27 + 2u, (u8)t83);
-                                                                                                            store8(l11 + 108u, (u8)l29);
-                                                                                                            store32(l11 + 104u, l30);
-                                                                                                            store32(l11 + 100u, l41);
-                                                                                                            store32(l11 + 96u, l38);
+                                                                                                            L82:;
+                                                                                                            const u32 t83 = load16(l11 + 68u);
+                                                                                                            store16(l27, (u16)t83);
+                                                                                                            const u32 t84 = load8(l11 + 70u);
+                                                                                                            store8(l27 + 2u, (u8)t84);
+                                                                                                            store8(l11 + 108u, (u8)l30);
+                                                                                                            store32(l11 + 104u, l31);
+                                                                                                            store32(l11 + 100u, l42);
+                                                                                                            store32(l11 + 96u, l39);
                                                                                                             functions_arguments_Arguments_next(stack, l11, l11 + 96ull, l9);
-                                                                                                            const u32 t84 = load32(l11);
-                                                                                                            l35 = t84;
-                                                                                                            const u32 t85 = load32(l11 + 4u);
-                                                                                                            if (l35 == t85) goto L63;
-                                                                                                            l13 = l13 + ((u64)(l34 + l35) << 3);
-                                                                                                            const u32 t86 = load8(l13);
-                                                                                                            const u64 t87 = l22;
-                                                                                                            u32 v88;
-                                                                                                            if (t86) {
-                                                                                                                v88 = 0u;
+                                                                                                            const u32 t85 = load32(l11);
+                                                                                                            l36 = t85;
+                                                                                                            const u32 t86 = load32(l11 + 4u);
+                                                                                                            if (l36 == t86) goto L64;
+                                                                                                            l13 = l13 + ((u64)(l35 + l36) << 3);
+                                                                                                            const u32 t87 = load8(l13);
+                                                                                                            const u64 t88 = l22;
+                                                                                                            u32 v89;
+                                                                                                            if (t87) {
+                                                                                                                v89 = 0u;
                                                                                                             } else {
-                                                                                                                const u32 t89 = load8(l13 + 1ull);
-                                                                                                                v88 = t89;
+                                                                                                                const u32 t90 = load8(l13 + 1ull);
+                                                                                                                v89 = t90;
                                                                                                             }
-                                                                                                            store8(t87, (u8)v88);
-                                                                                                            goto L63;
+                                                                                                            store8(t88, (u8)v89);
+                                                                                                            goto L64;
                                                                                                         }
-                                                                                                        L80:;
-                                                                                                        const u32 t90 = load16(l11 + 68u);
-                                                                                                        store16(l28, (u16)t90);
-                                                                                                        const u32 t91 = load8(l11 + 70u);
-                                                                                                        store8(l28 + 2u, (u8)t91);
-                                                                                                        store8(l11 + 92u, (u8)l29);
-                                                                                                        store32(l11 + 88u, l30);
-                                                                                                        store32(l11 + 84u, l41);
-                                                                                                        store32(l11 + 80u, l38);
+                                                                                                        L81:;
+                                                                                                        const u32 t91 = load16(l11 + 68u);
+                                                                                                        store16(l28, (u16)t91);
+                                                                                                        const u32 t92 = load8(l11 + 70u);
+                                                                                                        store8(l28 + 2u, (u8)t92);
+                                                                                                        store8(l11 + 92u, (u8)l30);
+                                                                                                        store32(l11 + 88u, l31);
+                                                                                                        store32(l11 + 84u, l42);
+                                                                                                        store32(l11 + 80u, l39);
                                                                                                         store64(l11 + 72u, 0ull);
                                                                                                         {
                                                                                                             {
@@ -21368,1170 +21371,1170 @@ static void engine_turn(u64 stack, u64 l0, u64 l1, u64 l2, u64 l3, u64 l4, u64 l
                                                                                                                                                                         {
                                                                                                                                                                             {
                                                                                                                                                                                 {
-                                                                                                                                                                                    switch (l36 - 5u) {
-                                                                                                                                                                                    case 0: goto L98;
-                                                                                                                                                                                    case 1: goto L97;
-                                                                                                                                                                                    case 2: goto L95;
-                                                                                                                                                                                    case 3: goto L94;
-                                                                                                                                                                                    case 4: goto L93;
-                                                                                                                                                                                    case 6: goto L96;
-                                                                                                                                                                                    case 7: goto L103;
-                                                                                                                                                                                    case 8: goto L102;
-                                                                                                                                                                                    case 9: goto L101;
-                                                                                                                                                                                    case 10: goto L100;
-                                                                                                                                                                                    case 11: goto L99;
-                                                                                                                                                                                    case 12: goto L92;
-                                                                                                                                                                                    case 13: goto L110;
-                                                                                                                                                                                    case 14: goto L109;
-                                                                                                                                                                                    case 15: goto L108;
-                                                                                                                                                                                    case 16: goto L107;
-                                                                                                                                                                                    case 17: goto L106;
-                                                                                                                                                                                    case 18: goto L105;
-                                                                                                                                                                                    case 19: goto L104;
-                                                                                                                                                                                    default: goto L64;
+                                                                                                                                                                                    switch (l37 - 5u) {
+                                                                                                                                                                                    case 0: goto L99;
+                                                                                                                                                                                    case 1: goto L98;
+                                                                                                                                                                                    case 2: goto L96;
+                                                                                                                                                                                    case 3: goto L95;
+                                                                                                                                                                                    case 4: goto L94;
+                                                                                                                                                                                    case 6: goto L97;
+                                                                                                                                                                                    case 7: goto L104;
+                                                                                                                                                                                    case 8: goto L103;
+                                                                                                                                                                                    case 9: goto L102;
+                                                                                                                                                                                    case 10: goto L101;
+                                                                                                                                                                                    case 11: goto L100;
+                                                                                                                                                                                    case 12: goto L93;
+                                                                                                                                                                                    case 13: goto L111;
+                                                                                                                                                                                    case 14: goto L110;
+                                                                                                                                                                                    case 15: goto L109;
+                                                                                                                                                                                    case 16: goto L108;
+                                                                                                                                                                                    case 17: goto L107;
+                                                                                                                                                                                    case 18: goto L106;
+                                                                                                                                                                                    case 19: goto L105;
+                                                                                                                                                                                    default: goto L65;
                                                                                                                                                                                     }
                                                                                                                                                                                 }
-                                                                                                                                                                                L110:;
+                                                                                                                                                                                L111:;
                                                                                                                                                                                 functions_comparing_greater(stack, l11 + 72ull, l9, l11 + 80ull);
-                                                                                                                                                                                goto L66;
+                                                                                                                                                                                goto L67;
                                                                                                                                                                             }
-                                                                                                                                                                            L109:;
-                                                                                                                                                                            functions_arithmetic_arithmetic(stack, l11 + 72ull, l9, l42, l11 + 80ull);
-                                                                                                                                                                            goto L66;
+                                                                                                                                                                            L110:;
+                                                                                                                                                                            functions_arithmetic_arithmetic(stack, l11 + 72ull, l9, l43, l11 + 80ull);
+                                                                                                                                                                            goto L67;
                                                                                                                                                                         }
-                                                                                                                                                                        L108:;
+                                                                                                                                                                        L109:;
                                                                                                                                                                         functions_bit_strings_union(stack, l11 + 72ull, l9, l11 + 80ull);
-                                                                                                                                                                        goto L66;
+                                                                                                                                                                        goto L67;
                                                                                                                                                                     }
-                                                                                                                                                                    L107:;
+                                                                                                                                                                    L108:;
                                                                                                                                                                     functions_bit_strings_intersection(stack, l11 + 72ull, l9, l11 + 80ull);
-                                                                                                                                                                    goto L66;
+                                                                                                                                                                    goto L67;
                                                                                                                                                                 }
-                                                                                                                                                                L106:;
+                                                                                                                                                                L107:;
                                                                                                                                                                 store64(l11 + 136u, 0ull);
-                                                                                                                                                                const u64 t111 = load64(l11 + 80u);
-                                                                                                                                                                store64(l11 + 120u, t111);
-                                                                                                                                                                const u64 t112 = load64(l11 + 88u);
-                                                                                                                                                                store64(l11 + 128u, t112);
+                                                                                                                                                                const u64 t112 = load64(l11 + 80u);
+                                                                                                                                                                store64(l11 + 120u, t112);
+                                                                                                                                                                const u64 t113 = load64(l11 + 88u);
+                                                                                                                                                                store64(l11 + 128u, t113);
                                                                                                                                                                 store64(l11 + 108u, 0ull);
                                                                                                                                                                 functions_arguments_Arguments_next(stack, l11 + 8ull, l11 + 120ull, l9);
-                                                                                                                                                                const u32 t113 = load32(l11 + 8u);
-                                                                                                                                                                l37 = t113;
-                                                                                                                                                                const u32 t114 = load32(l11 + 12u);
-                                                                                                                                                                l29 = t114;
-                                                                                                                                                                l12 = (u64)(l29 + l34);
-                                                                                                                                                                l2 = (u64)(l37 + l34) - l12;
-                                                                                                                                                                l13 = (l13 + (l12 << 3)) - 8ull;
-                                                                                                                                                                l32 = l29;
-                                                                                                                                                                L115:;
+                                                                                                                                                                const u32 t114 = load32(l11 + 8u);
+                                                                                                                                                                l38 = t114;
+                                                                                                                                                                const u32 t115 = load32(l11 + 12u);
+                                                                                                                                                                l30 = t115;
+                                                                                                                                                                l16 = (u64)(l30 + l35);
+                                                                                                                                                                l2 = (u64)(l38 + l35) - l16;
+                                                                                                                                                                l13 = (l13 + (l16 << 3)) - 8ull;
+                                                                                                                                                                l33 = l30;
+                                                                                                                                                                L116:;
                                                                                                                                                                 {
                                                                                                                                                                     {
-                                                                                                                                                                        l36 = l32;
-                                                                                                                                                                        if (l2 == 0) goto L116;
-                                                                                                                                                                        const u32 t117 = load8(l13);
-                                                                                                                                                                        if (t117) goto L116;
+                                                                                                                                                                        l37 = l33;
+                                                                                                                                                                        if (l2 == 0) goto L117;
+                                                                                                                                                                        const u32 t118 = load8(l13);
+                                                                                                                                                                        if (t118) goto L117;
                                                                                                                                                                         l2 = l2 + 1ull;
-                                                                                                                                                                        l32 = l36 - 1u;
-                                                                                                                                                                        l12 = l13 + 1ull;
+                                                                                                                                                                        l33 = l37 - 1u;
+                                                                                                                                                                        l16 = l13 + 1ull;
                                                                                                                                                                         l13 = l13 - 8ull;
-                                                                                                                                                                        const u32 t118 = load8(l12);
-                                                                                                                                                                        if ((t118 & 248u) == 48u) goto L115;
+                                                                                                                                                                        const u32 t119 = load8(l16);
+                                                                                                                                                                        if ((t119 & 248u) == 48u) goto L116;
                                                                                                                                                                     }
-                                                                                                                                                                    L116:;
+                                                                                                                                                                    L117:;
                                                                                                                                                                 }
-                                                                                                                                                                store32(l11 + 104u, l29);
-                                                                                                                                                                store32(l11 + 100u, l36);
+                                                                                                                                                                store32(l11 + 104u, l30);
+                                                                                                                                                                store32(l11 + 100u, l37);
                                                                                                                                                                 store32(l11 + 96u, 2u);
-                                                                                                                                                                functions_bit_strings_give_bits(stack, l11 + 136ull, l9, l37, l36, l11 + 96ull);
-                                                                                                                                                                const u32 t119 = load16(l11 + 136u);
-                                                                                                                                                                store16(l11 + 72u, (u16)t119);
-                                                                                                                                                                const u32 t120 = load32(l11 + 140u);
-                                                                                                                                                                store32(l11 + 76u, t120);
-                                                                                                                                                                goto L66;
+                                                                                                                                                                functions_bit_strings_give_bits(stack, l11 + 136ull, l9, l38, l37, l11 + 96ull);
+                                                                                                                                                                const u32 t120 = load16(l11 + 136u);
+                                                                                                                                                                store16(l11 + 72u, (u16)t120);
+                                                                                                                                                                const u32 t121 = load32(l11 + 140u);
+                                                                                                                                                                store32(l11 + 76u, t121);
+                                                                                                                                                                goto L67;
                                                                                                                                                             }
-                                                                                                                                                            L105:;
+                                                                                                                                                            L106:;
                                                                                                                                                             functions_bit_strings_shift(stack, l11 + 72ull, l9, l11 + 80ull);
-                                                                                                                                                            goto L66;
+                                                                                                                                                            goto L67;
                                                                                                                                                         }
-                                                                                                                                                        L104:;
+                                                                                                                                                        L105:;
                                                                                                                                                         functions_bit_strings_rotate(stack, l11 + 72ull, l9, l11 + 80ull);
-                                                                                                                                                        goto L66;
+                                                                                                                                                        goto L67;
                                                                                                                                                     }
-                                                                                                                                                    L103:;
+                                                                                                                                                    L104:;
                                                                                                                                                     functions_form_parts_call_segment(stack, l11 + 72ull, l9, l11 + 80ull);
-                                                                                                                                                    goto L66;
+                                                                                                                                                    goto L67;
                                                                                                                                                 }
-                                                                                                                                                L102:;
+                                                                                                                                                L103:;
                                                                                                                                                 functions_form_parts_call_character(stack, l11 + 72ull, l9, l11 + 80ull);
-                                                                                                                                                goto L66;
+                                                                                                                                                goto L67;
                                                                                                                                             }
-                                                                                                                                            L101:;
+                                                                                                                                            L102:;
                                                                                                                                             functions_form_parts_call_number(stack, l11 + 72ull, l9, l11 + 80ull);
-                                                                                                                                            goto L66;
+                                                                                                                                            goto L67;
                                                                                                                                         }
-                                                                                                                                        L100:;
+                                                                                                                                        L101:;
                                                                                                                                         functions_form_parts_initial_part(stack, l11 + 72ull, l9, l11 + 80ull);
-                                                                                                                                        goto L66;
+                                                                                                                                        goto L67;
                                                                                                                                     }
-                                                                                                                                    L99:;
+                                                                                                                                    L100:;
                                                                                                                                     functions_form_parts_call_restore(stack, l11 + 72ull, l9, l11 + 80ull);
-                                                                                                                                    goto L66;
+                                                                                                                                    goto L67;
                                                                                                                                 }
-                                                                                                                                L98:;
+                                                                                                                                L99:;
                                                                                                                                 functions_form_calls_define_string(stack, l11 + 72ull, l9, l11 + 80ull);
-                                                                                                                                goto L66;
+                                                                                                                                goto L67;
                                                                                                                             }
-                                                                                                                            L97:;
+                                                                                                                            L98:;
                                                                                                                             functions_form_calls_segment_string(stack, l11 + 72ull, l9, l11 + 80ull);
-                                                                                                                            goto L66;
+                                                                                                                            goto L67;
                                                                                                                         }
-                                                                                                                        L96:;
-                                                                                                                        const u64 t121 = load64(l11 + 88u);
-                                                                                                                        store64(l11 + 104u, t121);
-                                                                                                                        const u64 t122 = load64(l11 + 80u);
-                                                                                                                        store64(l11 + 96u, t122);
-                                                                                                                        const u32 t123 = load8(l11 + 108u);
-                                                                                                                        l29 = t123;
+                                                                                                                        L97:;
+                                                                                                                        const u64 t122 = load64(l11 + 88u);
+                                                                                                                        store64(l11 + 104u, t122);
+                                                                                                                        const u64 t123 = load64(l11 + 80u);
+                                                                                                                        store64(l11 + 96u, t123);
+                                                                                                                        const u32 t124 = load8(l11 + 108u);
+                                                                                                                        l30 = t124;
                                                                                                                         functions_arguments_Arguments_next(stack, l11 + 40ull, l11 + 96ull, l9);
-                                                                                                                        const u32 t124 = load32(l11 + 44u);
-                                                                                                                        l36 = t124;
-                                                                                                                        const u32 t125 = load32(l11 + 40u);
-                                                                                                                        l32 = t125;
-                                                                                                                        u32 v126;
+                                                                                                                        const u32 t125 = load32(l11 + 44u);
+                                                                                                                        l37 = t125;
+                                                                                                                        const u32 t126 = load32(l11 + 40u);
+                                                                                                                        l33 = t126;
+                                                                                                                        u32 v127;
                                                                                                                         {
-                                                                                                                            const u32 t127 = load32(l9 + 40ull);
-                                                                                                                            l37 = t127;
-                                                                                                                            if (l37 >= 8u) {
-                                                                                                                                forms_work_Work_find_among_more(stack, l11 + 24ull, l9, l32, l36);
-                                                                                                                                const u32 t129 = load8(l11 + 24u);
-                                                                                                                                l36 = t129;
-                                                                                                                                const u32 t130 = load32(l11 + 28u);
-                                                                                                                                v126 = t130; goto L126;
+                                                                                                                            const u32 t128 = load32(l9 + 40ull);
+                                                                                                                            l38 = t128;
+                                                                                                                            if (l38 >= 8u) {
+                                                                                                                                forms_work_Work_find_among_more(stack, l11 + 24ull, l9, l33, l37);
+                                                                                                                                const u32 t130 = load8(l11 + 24u);
+                                                                                                                                l37 = t130;
+                                                                                                                                const u32 t131 = load32(l11 + 28u);
+                                                                                                                                v127 = t131; goto L127;
                                                                                                                             }
                                                                                                                             {
-                                                                                                                                if (l37 == 0) goto L131;
-                                                                                                                                const u64 t132 = load32(l13 + 4ull);
-                                                                                                                                l12 = (u64)(l34 + l36);
-                                                                                                                                l2 = (u64)(l32 + l34);
-                                                                                                                                if (t132 != (l12 - l2)) goto L131;
+                                                                                                                                if (l38 == 0) goto L132;
+                                                                                                                                const u64 t133 = load32(l13 + 4ull);
+                                                                                                                                l16 = (u64)(l35 + l37);
+                                                                                                                                l2 = (u64)(l33 + l35);
+                                                                                                                                if (t133 != (l16 - l2)) goto L132;
                                                                                                                                 l18 = 17ull - (l2 << 3);
-                                                                                                                                l2 = (l12 ^ 18446744073709551615ull) + l2;
-                                                                                                                                l13 = l13 + (l12 << 3);
-                                                                                                                                L133:;
+                                                                                                                                l2 = (l16 ^ 18446744073709551615ull) + l2;
+                                                                                                                                l13 = l13 + (l16 << 3);
+                                                                                                                                L134:;
                                                                                                                                 {
                                                                                                                                     l2 = l2 + 1ull;
-                                                                                                                                    if (l2 == 0) goto L69;
-                                                                                                                                    l12 = l13 - 7ull;
-                                                                                                                                    l14 = l13 + l18;
+                                                                                                                                    if (l2 == 0) goto L70;
+                                                                                                                                    l16 = l13 - 7ull;
+                                                                                                                                    l12 = l13 + l18;
                                                                                                                                     l13 = l13 - 8ull;
-                                                                                                                                    const u32 t134 = load8(l14);
                                                                                                                                     const u32 t135 = load8(l12);
-                                                                                                                                    if (t134 == t135) goto L133;
+                                                                                                                                    const u32 t136 = load8(l16);
+                                                                                                                                    if (t135 == t136) goto L134;
                                                                                                                                 }
                                                                                                                             }
-                                                                                                                            L131:;
-                                                                                                                            forms_work_Work_find_among_few(stack, l11 + 32ull, l9, l32, l36);
-                                                                                                                            const u32 t136 = load8(l11 + 32u);
-                                                                                                                            l36 = t136;
-                                                                                                                            const u32 t137 = load32(l11 + 36u);
-                                                                                                                            v126 = t137;
+                                                                                                                            L132:;
+                                                                                                                            forms_work_Work_find_among_few(stack, l11 + 32ull, l9, l33, l37);
+                                                                                                                            const u32 t137 = load8(l11 + 32u);
+                                                                                                                            l37 = t137;
+                                                                                                                            const u32 t138 = load32(l11 + 36u);
+                                                                                                                            v127 = t138;
                                                                                                                         }
-                                                                                                                        L126:;
-                                                                                                                        l32 = v126;
-                                                                                                                        if ((l36 & 255u) != 1u) goto L68;
-                                                                                                                        goto L67;
+                                                                                                                        L127:;
+                                                                                                                        l33 = v127;
+                                                                                                                        if ((l37 & 255u) != 1u) goto L69;
+                                                                                                                        goto L68;
                                                                                                                     }
-                                                                                                                    L95:;
+                                                                                                                    L96:;
                                                                                                                     functions_form_calls_delete_definition(stack, l11 + 72ull, l9, l11 + 80ull);
-                                                                                                                    goto L66;
+                                                                                                                    goto L67;
                                                                                                                 }
-                                                                                                                L94:;
+                                                                                                                L95:;
                                                                                                                 functions_form_calls_delete_all(stack, l11 + 72ull, l9);
-                                                                                                                goto L66;
+                                                                                                                goto L67;
                                                                                                             }
-                                                                                                            L93:;
+                                                                                                            L94:;
                                                                                                             functions_form_calls_list_names(stack, l11 + 72ull, l9, l11 + 80ull);
-                                                                                                            goto L66;
+                                                                                                            goto L67;
                                                                                                         }
-                                                                                                        L92:;
+                                                                                                        L93:;
                                                                                                         functions_comparing_equal(stack, l11 + 72ull, l9, l11 + 80ull);
-                                                                                                        goto L66;
+                                                                                                        goto L67;
                                                                                                     }
-                                                                                                    L71:;
+                                                                                                    L72:;
                                                                                                     store32(l17 + 11u, 0u);
-                                                                                                    store8(l17 + 10u, (u8)l42);
-                                                                                                    store8(l17 + 9u, (u8)l36);
+                                                                                                    store8(l17 + 10u, (u8)l43);
+                                                                                                    store8(l17 + 9u, (u8)l37);
                                                                                                     store8(l17 + 8u, (u8)1u);
                                                                                                     store8(l17 + 15u, (u8)0u);
                                                                                                     store32(l17 + 36u, 0u);
-                                                                                                    store32(l17 + 32u, l43);
+                                                                                                    store32(l17 + 32u, l44);
                                                                                                     store32(l17 + 20u, 0u);
-                                                                                                    const u32 t138 = load32(l11 + 56u);
-                                                                                                    store32(l17 + 16u, t138);
+                                                                                                    const u32 t139 = load32(l11 + 56u);
+                                                                                                    store32(l17 + 16u, t139);
                                                                                                     l13 = l15 - l1;
                                                                                                     store64(l17, l13);
                                                                                                     store64(l17 + 24u, l13 + l21);
-                                                                                                    goto L11;
+                                                                                                    goto L12;
                                                                                                 }
-                                                                                                L70:;
+                                                                                                L71:;
                                                                                                 l2 = l15 - l1;
                                                                                                 l13 = l2 + l21;
-                                                                                                l34 = 0u;
-                                                                                                goto L65;
+                                                                                                l35 = 0u;
+                                                                                                goto L66;
                                                                                             }
-                                                                                            L69:;
+                                                                                            L70:;
                                                                                             store64(l9 + 44ull, 0ull);
-                                                                                            l32 = 0u;
-                                                                                            goto L67;
+                                                                                            l33 = 0u;
+                                                                                            goto L68;
                                                                                         }
-                                                                                        L68:;
+                                                                                        L69:;
                                                                                         store32(l11 + 76u, 0u);
                                                                                         store16(l11 + 72u, (u16)1u);
-                                                                                        goto L66;
+                                                                                        goto L67;
                                                                                     }
-                                                                                    L67:;
-                                                                                    const u32 t139 = load32(l11 + 100u);
-                                                                                    l36 = t139;
-                                                                                    const u32 t140 = load32(l11 + 96u);
+                                                                                    L68:;
+                                                                                    const u32 t140 = load32(l11 + 100u);
                                                                                     l37 = t140;
+                                                                                    const u32 t141 = load32(l11 + 96u);
+                                                                                    l38 = t141;
                                                                                     {
                                                                                         {
                                                                                             {
                                                                                                 {
                                                                                                     {
-                                                                                                        if ((l29 & 1u) == 0) goto L145;
-                                                                                                        if (l36 >= l37) goto L145;
-                                                                                                        const u32 t146 = load32(l9 + 44ull);
-                                                                                                        const u32 t147 = load32(l9 + 48ull);
-                                                                                                        const u32 t148 = store_form_cells_place_of(stack, l9, t146, t147, l32);
-                                                                                                        l30 = t148;
-                                                                                                        const u64 t149 = load64(l9);
-                                                                                                        l12 = t149;
-                                                                                                        l13 = l12 + ((u64)l30 << 3);
-                                                                                                        const u32 t150 = load32(l13 + 12ull);
-                                                                                                        l42 = t150;
-                                                                                                        const u32 t151 = load32(l13 + 20ull);
-                                                                                                        l38 = t151;
-                                                                                                        l29 = l42 - l38;
-                                                                                                        if (l29 == 0) {
-                                                                                                            l29 = 0u;
-                                                                                                            goto L141;
+                                                                                                        if ((l30 & 1u) == 0) goto L146;
+                                                                                                        if (l37 >= l38) goto L146;
+                                                                                                        const u32 t147 = load32(l9 + 44ull);
+                                                                                                        const u32 t148 = load32(l9 + 48ull);
+                                                                                                        const u32 t149 = store_form_cells_place_of(stack, l9, t147, t148, l33);
+                                                                                                        l31 = t149;
+                                                                                                        const u64 t150 = load64(l9);
+                                                                                                        l16 = t150;
+                                                                                                        l13 = l16 + ((u64)l31 << 3);
+                                                                                                        const u32 t151 = load32(l13 + 12ull);
+                                                                                                        l43 = t151;
+                                                                                                        const u32 t152 = load32(l13 + 20ull);
+                                                                                                        l39 = t152;
+                                                                                                        l30 = l43 - l39;
+                                                                                                        if (l30 == 0) {
+                                                                                                            l30 = 0u;
+                                                                                                            goto L142;
                                                                                                         }
-                                                                                                        const u32 t153 = load32(l13 + 4ull);
-                                                                                                        l44 = (l30 + t153) + 3u;
-                                                                                                        l30 = l38 + l44;
+                                                                                                        const u32 t154 = load32(l13 + 4ull);
+                                                                                                        l45 = (l31 + t154) + 3u;
+                                                                                                        l31 = l39 + l45;
                                                                                                         {
-                                                                                                            const u32 t155 = load32(l9 + 28ull);
-                                                                                                            l38 = t155;
-                                                                                                            const u32 t156 = load32(l9 + 20ull);
-                                                                                                            const u32 t157 = load32(l9 + 24ull);
-                                                                                                            l40 = t157;
-                                                                                                            const u32 t158 = load32(l9 + 16ull);
-                                                                                                            if (l29 <= (l38 - (t156 + (l40 + t158)))) {
-                                                                                                                l14 = (u64)l29;
-                                                                                                                l18 = (u64)l30;
+                                                                                                            const u32 t156 = load32(l9 + 28ull);
+                                                                                                            l39 = t156;
+                                                                                                            const u32 t157 = load32(l9 + 20ull);
+                                                                                                            const u32 t158 = load32(l9 + 24ull);
+                                                                                                            l41 = t158;
+                                                                                                            const u32 t159 = load32(l9 + 16ull);
+                                                                                                            if (l30 <= (l39 - (t157 + (l41 + t159)))) {
+                                                                                                                l12 = (u64)l30;
+                                                                                                                l18 = (u64)l31;
                                                                                                                 {
                                                                                                                     {
-                                                                                                                        if (l29 >= 8u) {
-                                                                                                                            if (l29 == 8u) goto L160;
-                                                                                                                            l13 = l12 + (l18 << 3);
-                                                                                                                            l2 = l14;
-                                                                                                                            goto L161;
+                                                                                                                        if (l30 >= 8u) {
+                                                                                                                            if (l30 == 8u) goto L161;
+                                                                                                                            l13 = l16 + (l18 << 3);
+                                                                                                                            l2 = l12;
+                                                                                                                            goto L162;
                                                                                                                         }
-                                                                                                                        if (l29 >= 4u) {
-                                                                                                                            l13 = l12 + (l18 << 3);
-                                                                                                                            const u32 t164 = load8(l13 + 24ull);
-                                                                                                                            const u32 t165 = load8(l13 + 16ull);
-                                                                                                                            const u32 t166 = load8(l13 + 8ull);
-                                                                                                                            const u32 t167 = load8(l13);
-                                                                                                                            if (((t164 + t165) | (t166 + t167)) & 255u) goto L145;
-                                                                                                                            l2 = l14 + l18;
-                                                                                                                            l13 = l12 + (l2 << 3);
-                                                                                                                            const u32 t168 = load8(l13 - 8ull);
-                                                                                                                            const u32 t169 = load8(l13 - 16ull);
-                                                                                                                            const u32 t170 = load8(l13 - 24ull);
-                                                                                                                            const u32 t171 = load8(l13 - 32ull);
-                                                                                                                            if (((t168 + t169) | (t170 + t171)) & 255u) goto L145;
-                                                                                                                            l36 = l29 + l40;
-                                                                                                                            l13 = (u64)(l38 - l36);
-                                                                                                                            core_slice_edits_slice_T_copy_from_slice(stack, l12 + (l13 << 3), l12 + (l18 << 3), 4ull);
-                                                                                                                            const u64 t172 = l13 - l18;
+                                                                                                                        if (l30 >= 4u) {
+                                                                                                                            l13 = l16 + (l18 << 3);
+                                                                                                                            const u32 t165 = load8(l13 + 24ull);
+                                                                                                                            const u32 t166 = load8(l13 + 16ull);
+                                                                                                                            const u32 t167 = load8(l13 + 8ull);
+                                                                                                                            const u32 t168 = load8(l13);
+                                                                                                                            if (((t165 + t166) | (t167 + t168)) & 255u) goto L146;
+                                                                                                                            l2 = l12 + l18;
+                                                                                                                            l13 = l16 + (l2 << 3);
+                                                                                                                            const u32 t169 = load8(l13 - 8ull);
+                                                                                                                            const u32 t170 = load8(l13 - 16ull);
+                                                                                                                            const u32 t171 = load8(l13 - 24ull);
+                                                                                                                            const u32 t172 = load8(l13 - 32ull);
+                                                                                                                            if (((t169 + t170) | (t171 + t172)) & 255u) goto L146;
+                                                                                                                            l37 = l30 + l41;
+                                                                                                                            l13 = (u64)(l39 - l37);
+                                                                                                                            core_slice_edits_slice_T_copy_from_slice(stack, l16 + (l13 << 3), l16 + (l18 << 3), 4ull);
+                                                                                                                            const u64 t173 = l13 - l18;
                                                                                                                             l13 = l2 - 4ull;
-                                                                                                                            core_slice_edits_slice_T_copy_from_slice(stack, l12 + ((t172 + l13) << 3), l12 + (l13 << 3), 4ull);
-                                                                                                                            goto L142;
+                                                                                                                            core_slice_edits_slice_T_copy_from_slice(stack, l16 + ((t173 + l13) << 3), l16 + (l13 << 3), 4ull);
+                                                                                                                            goto L143;
                                                                                                                         }
-                                                                                                                        l13 = l12 + (l18 << 3);
-                                                                                                                        const u32 t173 = load8(l13);
-                                                                                                                        l30 = t173;
-                                                                                                                        if (l29 == 1u) goto L154;
-                                                                                                                        const u32 t174 = load8(l13 + 8ull);
-                                                                                                                        if (t174 | (l30 & 255u)) goto L145;
-                                                                                                                        l2 = l14 + l18;
-                                                                                                                        l13 = l12 + (l2 << 3);
-                                                                                                                        const u32 t175 = load8(l13 - 8ull);
-                                                                                                                        const u32 t176 = load8(l13 - 16ull);
-                                                                                                                        if (t175 | t176) goto L145;
-                                                                                                                        l36 = l29 + l40;
-                                                                                                                        l13 = (u64)(l38 - l36);
-                                                                                                                        core_slice_edits_slice_T_copy_from_slice(stack, l12 + (l13 << 3), l12 + (l18 << 3), 2ull);
-                                                                                                                        const u64 t177 = l13 - l18;
+                                                                                                                        l13 = l16 + (l18 << 3);
+                                                                                                                        const u32 t174 = load8(l13);
+                                                                                                                        l31 = t174;
+                                                                                                                        if (l30 == 1u) goto L155;
+                                                                                                                        const u32 t175 = load8(l13 + 8ull);
+                                                                                                                        if (t175 | (l31 & 255u)) goto L146;
+                                                                                                                        l2 = l12 + l18;
+                                                                                                                        l13 = l16 + (l2 << 3);
+                                                                                                                        const u32 t176 = load8(l13 - 8ull);
+                                                                                                                        const u32 t177 = load8(l13 - 16ull);
+                                                                                                                        if (t176 | t177) goto L146;
+                                                                                                                        l37 = l30 + l41;
+                                                                                                                        l13 = (u64)(l39 - l37);
+                                                                                                                        core_slice_edits_slice_T_copy_from_slice(stack, l16 + (l13 << 3), l16 + (l18 << 3), 2ull);
+                                                                                                                        const u64 t178 = l13 - l18;
                                                                                                                         l13 = l2 - 2ull;
-                                                                                                                        core_slice_edits_slice_T_copy_from_slice(stack, l12 + ((t177 + l13) << 3), l12 + (l13 << 3), 2ull);
-                                                                                                                        goto L142;
+                                                                                                                        core_slice_edits_slice_T_copy_from_slice(stack, l16 + ((t178 + l13) << 3), l16 + (l13 << 3), 2ull);
+                                                                                                                        goto L143;
                                                                                                                     }
-                                                                                                                    L161:;
-                                                                                                                    L178:;
+                                                                                                                    L162:;
+                                                                                                                    L179:;
                                                                                                                     {
-                                                                                                                        const u32 t179 = load8(l13 + 56ull);
-                                                                                                                        const u32 t180 = load8(l13 + 48ull);
-                                                                                                                        const u32 t181 = load8(l13 + 40ull);
-                                                                                                                        const u32 t182 = load8(l13 + 32ull);
-                                                                                                                        const u32 t183 = load8(l13 + 24ull);
-                                                                                                                        const u32 t184 = load8(l13 + 16ull);
-                                                                                                                        const u32 t185 = load8(l13 + 8ull);
-                                                                                                                        const u32 t186 = load8(l13);
-                                                                                                                        if (t179 | ((t180 + (t181 + (t182 + (t183 + (t184 + (t185 + t186)))))) & 255u)) goto L145;
+                                                                                                                        const u32 t180 = load8(l13 + 56ull);
+                                                                                                                        const u32 t181 = load8(l13 + 48ull);
+                                                                                                                        const u32 t182 = load8(l13 + 40ull);
+                                                                                                                        const u32 t183 = load8(l13 + 32ull);
+                                                                                                                        const u32 t184 = load8(l13 + 24ull);
+                                                                                                                        const u32 t185 = load8(l13 + 16ull);
+                                                                                                                        const u32 t186 = load8(l13 + 8ull);
+                                                                                                                        const u32 t187 = load8(l13);
+                                                                                                                        if (t180 | ((t181 + (t182 + (t183 + (t184 + (t185 + (t186 + t187)))))) & 255u)) goto L146;
                                                                                                                         l13 = l13 + 64ull;
                                                                                                                         l2 = l2 - 8ull;
-                                                                                                                        if (l2 >= 9ull) goto L178;
+                                                                                                                        if (l2 >= 9ull) goto L179;
                                                                                                                     }
                                                                                                                 }
-                                                                                                                L160:;
-                                                                                                                l2 = l14 + l18;
-                                                                                                                l13 = l12 + (l2 << 3);
-                                                                                                                const u32 t187 = load8(l13 - 56ull);
-                                                                                                                const u32 t188 = load8(l13 - 64ull);
-                                                                                                                const u32 t189 = load8(l13 - 48ull);
-                                                                                                                const u32 t190 = load8(l13 - 40ull);
-                                                                                                                const u32 t191 = load8(l13 - 32ull);
-                                                                                                                const u32 t192 = load8(l13 - 24ull);
-                                                                                                                const u32 t193 = load8(l13 - 16ull);
-                                                                                                                const u32 t194 = load8(l13 - 8ull);
-                                                                                                                if ((((((((t187 + t188) + t189) + t190) + t191) + t192) + t193) & 255u) | t194) goto L145;
-                                                                                                                l36 = l29 + l40;
-                                                                                                                l23 = (u64)(l38 - l36);
-                                                                                                                if (l29 > 24u) goto L144;
-                                                                                                                if (l29 != 8u) {
-                                                                                                                    l16 = l12 - 64ull;
-                                                                                                                    l13 = l16 + (l2 << 3);
-                                                                                                                    l2 = l16 + ((l14 + l23) << 3);
-                                                                                                                    L196:;
+                                                                                                                L161:;
+                                                                                                                l2 = l12 + l18;
+                                                                                                                l13 = l16 + (l2 << 3);
+                                                                                                                const u32 t188 = load8(l13 - 56ull);
+                                                                                                                const u32 t189 = load8(l13 - 64ull);
+                                                                                                                const u32 t190 = load8(l13 - 48ull);
+                                                                                                                const u32 t191 = load8(l13 - 40ull);
+                                                                                                                const u32 t192 = load8(l13 - 32ull);
+                                                                                                                const u32 t193 = load8(l13 - 24ull);
+                                                                                                                const u32 t194 = load8(l13 - 16ull);
+                                                                                                                const u32 t195 = load8(l13 - 8ull);
+                                                                                                                if ((((((((t188 + t189) + t190) + t191) + t192) + t193) + t194) & 255u) | t195) goto L146;
+                                                                                                                l37 = l30 + l41;
+                                                                                                                l23 = (u64)(l39 - l37);
+                                                                                                                if (l30 > 24u) goto L145;
+                                                                                                                if (l30 != 8u) {
+                                                                                                                    l29 = l16 - 64ull;
+                                                                                                                    l13 = l29 + (l2 << 3);
+                                                                                                                    l2 = l29 + ((l12 + l23) << 3);
+                                                                                                                    L197:;
                                                                                                                     {
                                                                                                                         core_slice_edits_slice_T_copy_from_slice(stack, l2, l13, 8ull);
                                                                                                                         l13 = l13 - 64ull;
                                                                                                                         l2 = l2 - 64ull;
-                                                                                                                        l14 = l14 - 8ull;
-                                                                                                                        if (l14 > 8ull) goto L196;
+                                                                                                                        l12 = l12 - 8ull;
+                                                                                                                        if (l12 > 8ull) goto L197;
                                                                                                                     }
                                                                                                                 }
-                                                                                                                core_slice_edits_slice_T_copy_from_slice(stack, l12 + (l23 << 3), l12 + (l18 << 3), 8ull);
-                                                                                                                store32(l9 + 24ull, l36);
-                                                                                                                goto L141;
+                                                                                                                core_slice_edits_slice_T_copy_from_slice(stack, l16 + (l23 << 3), l16 + (l18 << 3), 8ull);
+                                                                                                                store32(l9 + 24ull, l37);
+                                                                                                                goto L142;
                                                                                                             }
-                                                                                                            store_item_copies_load_items_over_spare(stack, l11 + 16ull, l9, l30, l42 + l44);
-                                                                                                            const u32 t197 = load8(l11 + 16u);
-                                                                                                            if (t197 != 1u) goto L145;
-                                                                                                            const u32 t198 = load32(l11 + 20u);
-                                                                                                            l29 = t198;
-                                                                                                            goto L141;
+                                                                                                            store_item_copies_load_items_over_spare(stack, l11 + 16ull, l9, l31, l43 + l45);
+                                                                                                            const u32 t198 = load8(l11 + 16u);
+                                                                                                            if (t198 != 1u) goto L146;
+                                                                                                            const u32 t199 = load32(l11 + 20u);
+                                                                                                            l30 = t199;
+                                                                                                            goto L142;
                                                                                                         }
-                                                                                                        L154:;
-                                                                                                        if ((l30 & 255u) == 0) goto L143;
+                                                                                                        L155:;
+                                                                                                        if ((l31 & 255u) == 0) goto L144;
                                                                                                     }
-                                                                                                    L145:;
-                                                                                                    const u32 t199 = forms_work_Work_fill_body(stack, l9, l32, l37, l36);
-                                                                                                    l36 = t199;
+                                                                                                    L146:;
+                                                                                                    const u32 t200 = forms_work_Work_fill_body(stack, l9, l33, l38, l37);
+                                                                                                    l37 = t200;
                                                                                                     store32(l11 + 76u, 0u);
                                                                                                     store8(l11 + 73u, (u8)0u);
-                                                                                                    store8(l11 + 72u, (u8)l36);
-                                                                                                    goto L66;
+                                                                                                    store8(l11 + 72u, (u8)l37);
+                                                                                                    goto L67;
                                                                                                 }
-                                                                                                L144:;
-                                                                                                space_copies_copy_long(stack, l12, l18, l2, l23);
-                                                                                                goto L142;
+                                                                                                L145:;
+                                                                                                space_copies_copy_long(stack, l16, l18, l2, l23);
+                                                                                                goto L143;
                                                                                             }
-                                                                                            L143:;
-                                                                                            l36 = l29 + l40;
-                                                                                            l13 = l12 + ((u64)(l38 - l36) << 3);
-                                                                                            l2 = l12 + (l18 << 3);
-                                                                                            const u32 t200 = load16(l2);
-                                                                                            store16(l13, (u16)t200);
-                                                                                            const u32 t201 = load32(l2 + 4ull);
-                                                                                            store32(l13 + 4ull, t201);
+                                                                                            L144:;
+                                                                                            l37 = l30 + l41;
+                                                                                            l13 = l16 + ((u64)(l39 - l37) << 3);
+                                                                                            l2 = l16 + (l18 << 3);
+                                                                                            const u32 t201 = load16(l2);
+                                                                                            store16(l13, (u16)t201);
+                                                                                            const u32 t202 = load32(l2 + 4ull);
+                                                                                            store32(l13 + 4ull, t202);
                                                                                         }
-                                                                                        L142:;
-                                                                                        store32(l9 + 24ull, l36);
+                                                                                        L143:;
+                                                                                        store32(l9 + 24ull, l37);
                                                                                     }
-                                                                                    L141:;
-                                                                                    store32(l11 + 76u, l29);
+                                                                                    L142:;
+                                                                                    store32(l11 + 76u, l30);
                                                                                     store16(l11 + 72u, (u16)2u);
                                                                                 }
-                                                                                L66:;
-                                                                                const u32 t202 = load32(l11 + 76u);
-                                                                                l32 = t202;
+                                                                                L67:;
+                                                                                const u32 t203 = load32(l11 + 76u);
+                                                                                l33 = t203;
                                                                                 {
-                                                                                    const u64 t204 = load8(l11 + 72u);
-                                                                                    switch ((u32)t204 - 1u) {
-                                                                                    case 0: goto L64;
-                                                                                    case 1: goto L63;
-                                                                                    case 2: goto L63;
-                                                                                    case 3: goto L203;
-                                                                                    default: goto L26;
+                                                                                    const u64 t205 = load8(l11 + 72u);
+                                                                                    switch ((u32)t205 - 1u) {
+                                                                                    case 0: goto L65;
+                                                                                    case 1: goto L64;
+                                                                                    case 2: goto L64;
+                                                                                    case 3: goto L204;
+                                                                                    default: goto L27;
                                                                                     }
                                                                                 }
-                                                                                L203:;
-                                                                                const u32 t205 = load32(l9 + 24ull);
-                                                                                const u32 t206 = load32(l9 + 20ull);
-                                                                                const u32 t207 = load32(l9 + 16ull);
-                                                                                l39 = t205 + (t206 + t207);
+                                                                                L204:;
+                                                                                const u32 t206 = load32(l9 + 24ull);
+                                                                                const u32 t207 = load32(l9 + 20ull);
+                                                                                const u32 t208 = load32(l9 + 16ull);
+                                                                                l40 = t206 + (t207 + t208);
                                                                                 l2 = l15 - l1;
                                                                                 l13 = l2 + l21;
-                                                                                const u32 t208 = load8(l11 + 73u);
-                                                                                l34 = t208;
-                                                                                l35 = 1u << (l34 & 31);
-                                                                                if (l35 & 3u) goto L65;
-                                                                                if (l35 & 12u) goto L25;
-                                                                                l43 = (l39 > l43) ? l39 : l43;
-                                                                                goto L25;
+                                                                                const u32 t209 = load8(l11 + 73u);
+                                                                                l35 = t209;
+                                                                                l36 = 1u << (l35 & 31);
+                                                                                if (l36 & 3u) goto L66;
+                                                                                if (l36 & 12u) goto L26;
+                                                                                l44 = (l40 > l44) ? l40 : l44;
+                                                                                goto L26;
                                                                             }
-                                                                            L65:;
-                                                                            l43 = (l39 > l43) ? l39 : l43;
+                                                                            L66:;
+                                                                            l44 = (l40 > l44) ? l40 : l44;
                                                                             l13 = l13 + 1ull;
-                                                                            goto L25;
+                                                                            goto L26;
                                                                         }
-                                                                        L64:;
-                                                                        const u32 t209 = load32(l9 + 20ull);
-                                                                        l33 = t209;
-                                                                        core_delivery_deliver(stack, l9, l31, l41);
-                                                                        v27 = l33 + (l34 + l35); goto L27;
+                                                                        L65:;
+                                                                        const u32 t210 = load32(l9 + 20ull);
+                                                                        l34 = t210;
+                                                                        core_delivery_deliver(stack, l9, l32, l42);
+                                                                        v28 = l34 + (l35 + l36); goto L28;
                                                                     }
-                                                                    L63:;
-                                                                    const u64 t210 = load64(l9);
-                                                                    const u64 t211 = load32(l9 + 16ull);
-                                                                    l13 = t210 + (t211 << 3);
+                                                                    L64:;
+                                                                    const u64 t211 = load64(l9);
+                                                                    const u64 t212 = load32(l9 + 16ull);
+                                                                    l13 = t211 + (t212 << 3);
                                                                     {
                                                                         {
-                                                                            const u32 t214 = load32(l9 + 32ull);
-                                                                            l34 = t214;
-                                                                            l35 = l34 <= l31;
-                                                                            if (l35) goto L213;
-                                                                            if (l33 != l34) goto L213;
-                                                                            const u32 t215 = load32((l13 + ((u64)l31 << 3)) + 4ull);
-                                                                            l34 = t215;
-                                                                            l35 = l34 ? (l33 - l34) : 0u;
-                                                                            goto L212;
+                                                                            const u32 t215 = load32(l9 + 32ull);
+                                                                            l35 = t215;
+                                                                            l36 = l35 <= l32;
+                                                                            if (l36) goto L214;
+                                                                            if (l34 != l35) goto L214;
+                                                                            const u32 t216 = load32((l13 + ((u64)l32 << 3)) + 4ull);
+                                                                            l35 = t216;
+                                                                            l36 = l35 ? (l34 - l35) : 0u;
+                                                                            goto L213;
                                                                         }
-                                                                        L213:;
-                                                                        if (l35) {
-                                                                            l35 = l34;
-                                                                            goto L212;
+                                                                        L214:;
+                                                                        if (l36) {
+                                                                            l36 = l35;
+                                                                            goto L213;
                                                                         }
-                                                                        L217:;
+                                                                        L218:;
                                                                         {
-                                                                            const u32 t218 = load32((l13 + ((u64)(l34 - 1u) << 3)) + 4ull);
-                                                                            l35 = t218;
-                                                                            l34 = l34 - l35;
-                                                                            l35 = l35 ? l34 : 0u;
-                                                                            if (l35 > l31) goto L217;
+                                                                            const u32 t219 = load32((l13 + ((u64)(l35 - 1u) << 3)) + 4ull);
+                                                                            l36 = t219;
+                                                                            l35 = l35 - l36;
+                                                                            l36 = l36 ? l35 : 0u;
+                                                                            if (l36 > l32) goto L218;
                                                                         }
                                                                     }
-                                                                    L212:;
-                                                                    store32(l9 + 20ull, l31);
-                                                                    store32(l9 + 32ull, l35);
-                                                                    v27 = l32 + l39;
+                                                                    L213:;
+                                                                    store32(l9 + 20ull, l32);
+                                                                    store32(l9 + 32ull, l36);
+                                                                    v28 = l33 + l40;
                                                                 }
-                                                                L27:;
-                                                                l34 = v27;
+                                                                L28:;
+                                                                l35 = v28;
                                                                 store32(l11 + 52u, 0u);
-                                                                const u32 t219 = load32(l9 + 20ull);
-                                                                l35 = t219;
-                                                                store32(l11 + 56u, l35);
-                                                                const u32 t220 = load32(l9 + 24ull);
-                                                                const u32 t221 = load32(l9 + 16ull);
-                                                                l31 = t220 + (l35 + t221);
-                                                                l43 = (l34 > l43) ? l34 : l43;
-                                                                v21 = l1 - 1ull; goto L21;
+                                                                const u32 t220 = load32(l9 + 20ull);
+                                                                l36 = t220;
+                                                                store32(l11 + 56u, l36);
+                                                                const u32 t221 = load32(l9 + 24ull);
+                                                                const u32 t222 = load32(l9 + 16ull);
+                                                                l32 = t221 + (l36 + t222);
+                                                                l44 = (l35 > l44) ? l35 : l44;
+                                                                v22 = l1 - 1ull; goto L22;
                                                             }
-                                                            L26:;
+                                                            L27:;
                                                             l2 = l15 - l1;
                                                             l13 = l2 + l21;
-                                                            l34 = 2u;
+                                                            l35 = 2u;
                                                         }
-                                                        L25:;
-                                                        const u32 t222 = load32(l9 + 20ull);
-                                                        l35 = t222;
+                                                        L26:;
+                                                        const u32 t223 = load32(l9 + 20ull);
+                                                        l36 = t223;
                                                         store8(l17 + 10u, (u8)0u);
                                                         store16(l17 + 8u, (u16)0u);
                                                         store64(l17, l2);
-                                                        const u32 t223 = load32(l11 + 60u);
-                                                        store32(l17 + 11u, t223);
-                                                        const u32 t224 = load8(l11 + 64u);
-                                                        store8(l17 + 15u, (u8)t224);
+                                                        const u32 t224 = load32(l11 + 60u);
+                                                        store32(l17 + 11u, t224);
+                                                        const u32 t225 = load8(l11 + 64u);
+                                                        store8(l17 + 15u, (u8)t225);
                                                         store16(l17 + 38u, (u16)0u);
-                                                        store8(l17 + 37u, (u8)l34);
+                                                        store8(l17 + 37u, (u8)l35);
                                                         store8(l17 + 36u, (u8)1u);
-                                                        store32(l17 + 32u, l43);
+                                                        store32(l17 + 32u, l44);
                                                         store64(l17 + 24u, l13);
                                                         store32(l17 + 20u, 0u);
-                                                        store32(l17 + 16u, l35);
-                                                        goto L11;
+                                                        store32(l17 + 16u, l36);
+                                                        goto L12;
                                                     }
-                                                    L24:;
-                                                    v23 = (u32)l2 + 1u;
+                                                    L25:;
+                                                    v24 = (u32)l2 + 1u;
                                                 }
-                                                L23:;
-                                                l33 = v23;
-                                                store32(l9 + 24ull, l35 - l33);
-                                                l13 = (u64)l33;
+                                                L24:;
+                                                l34 = v24;
+                                                store32(l9 + 24ull, l36 - l34);
+                                                l13 = (u64)l34;
                                             }
-                                            L22:;
-                                            l43 = (l31 > l43) ? l31 : l43;
-                                            v21 = l1 - l13;
+                                            L23:;
+                                            l44 = (l32 > l44) ? l32 : l44;
+                                            v22 = l1 - l13;
                                         }
-                                        L21:;
-                                        l1 = v21;
-                                        if (l1 != 0ull) goto L20;
+                                        L22:;
+                                        l1 = v22;
+                                        if (l1 != 0ull) goto L21;
                                     }
-                                    const u32 t225 = load32(l11 + 56u);
-                                    l34 = t225;
+                                    const u32 t226 = load32(l11 + 56u);
+                                    l35 = t226;
                                 }
                                 store32(l17 + 36u, 0u);
-                                store32(l17 + 32u, l43);
+                                store32(l17 + 32u, l44);
                                 store32(l17 + 20u, 0u);
-                                store32(l17 + 16u, l34);
+                                store32(l17 + 16u, l35);
                                 store64(l17 + 8u, 0ull);
                                 store64(l17, l15);
                                 store64(l17 + 24u, l15 + l21);
-                                goto L11;
+                                goto L12;
                             }
                             trap();
                         }
-                        L11:;
+                        L12:;
                         stack = l11 + 144ull;
-                        const u64 t226 = load64(l10 + 232u);
-                        store64(l0, t226);
-                        const u32 t227 = load32(l10 + 240u);
-                        store32(l8, t227);
-                        const u32 t228 = load16(l10 + 244u);
-                        store16(l5, (u16)t228);
-                        const u32 t229 = load32(l10 + 224u);
-                        store32(l9 + 60ull, t229);
-                        const u32 t230 = load8(l10 + 216u);
-                        l29 = t230 == 1u;
-                        const u64 t231 = load64(l10 + 208u);
-                        l8 = t231;
-                        const u32 t232 = load8(l10 + 217u);
-                        l32 = t232;
+                        const u64 t227 = load64(l10 + 232u);
+                        store64(l0, t227);
+                        const u32 t228 = load32(l10 + 240u);
+                        store32(l8, t228);
+                        const u32 t229 = load16(l10 + 244u);
+                        store16(l5, (u16)t229);
+                        const u32 t230 = load32(l10 + 224u);
+                        store32(l14, t230);
+                        const u32 t231 = load8(l10 + 216u);
+                        l30 = t231 == 1u;
+                        const u64 t232 = load64(l10 + 208u);
+                        l8 = t232;
+                        const u32 t233 = load8(l10 + 217u);
+                        l33 = t233;
                     }
                     l5 = 0ull;
                     l4 = l4 + l8;
                     if (l4 == l7) goto L3;
                     {
-                        u64 v234;
+                        u64 v235;
                         {
                             {
-                                if (l6) goto L235;
-                                if (l29 == 0) goto L233;
+                                if (l6) goto L236;
+                                if (l30 == 0) goto L234;
                                 {
                                     {
                                         {
                                             {
                                                 {
-                                                    l31 = l32 & 255u;
-                                                    if ((l31 - 2u) < 23u) goto L240;
-                                                    const u64 t241 = load64(l10 + 120u);
-                                                    l15 = t241;
-                                                    if (l31 == 1u) goto L237;
-                                                    const u64 t242 = load64(l10 + 112u);
-                                                    l12 = t242;
-                                                    const u32 t243 = load8(l22);
-                                                    l30 = t243;
+                                                    l32 = l33 & 255u;
+                                                    if ((l32 - 2u) < 23u) goto L241;
+                                                    const u64 t242 = load64(l10 + 120u);
+                                                    l15 = t242;
+                                                    if (l32 == 1u) goto L238;
+                                                    const u64 t243 = load64(l10 + 112u);
+                                                    l12 = t243;
+                                                    const u32 t244 = load8(l22);
+                                                    l31 = t244;
                                                     if (l15 <= 3ull) {
-                                                        if (l15 == 0) goto L238;
-                                                        l29 = l30 & 255u;
-                                                        const u32 t245 = load8(l12);
-                                                        if (l29 == t245) goto L240;
-                                                        const u32 t246 = load8(l12 + (l15 >> 1));
-                                                        if (t246 == l29) goto L240;
-                                                        const u32 t247 = load8((l12 + l15) - 1ull);
-                                                        if (t247 == (l30 & 255u)) goto L240;
-                                                        goto L238;
+                                                        if (l15 == 0) goto L239;
+                                                        l30 = l31 & 255u;
+                                                        const u32 t246 = load8(l12);
+                                                        if (l30 == t246) goto L241;
+                                                        const u32 t247 = load8(l12 + (l15 >> 1));
+                                                        if (t247 == l30) goto L241;
+                                                        const u32 t248 = load8((l12 + l15) - 1ull);
+                                                        if (t248 == (l31 & 255u)) goto L241;
+                                                        goto L239;
                                                     }
                                                     if (l15 <= 8ull) {
-                                                        l29 = l30 & 255u;
-                                                        const u32 t249 = load8(l12);
-                                                        if (l29 == t249) goto L240;
-                                                        const u32 t250 = load8(l12 + 1ull);
-                                                        if (t250 == l29) goto L240;
-                                                        l29 = l30 & 255u;
-                                                        const u32 t251 = load8(l12 + 2ull);
-                                                        if (l29 == t251) goto L240;
-                                                        const u32 t252 = load8(l12 + 3ull);
-                                                        if (t252 == l29) goto L240;
-                                                        l29 = l30 & 255u;
+                                                        l30 = l31 & 255u;
+                                                        const u32 t250 = load8(l12);
+                                                        if (l30 == t250) goto L241;
+                                                        const u32 t251 = load8(l12 + 1ull);
+                                                        if (t251 == l30) goto L241;
+                                                        l30 = l31 & 255u;
+                                                        const u32 t252 = load8(l12 + 2ull);
+                                                        if (l30 == t252) goto L241;
+                                                        const u32 t253 = load8(l12 + 3ull);
+                                                        if (t253 == l30) goto L241;
+                                                        l30 = l31 & 255u;
                                                         l8 = l12 + l15;
-                                                        const u32 t253 = load8(l8 - 4ull);
-                                                        if (l29 == t253) goto L240;
-                                                        const u32 t254 = load8(l8 - 3ull);
-                                                        if (t254 == l29) goto L240;
-                                                        l29 = l30 & 255u;
-                                                        const u32 t255 = load8(l8 - 2ull);
-                                                        if (l29 == t255) goto L240;
-                                                        const u32 t256 = load8(l8 - 1ull);
-                                                        if (t256 == l29) goto L240;
-                                                        goto L238;
+                                                        const u32 t254 = load8(l8 - 4ull);
+                                                        if (l30 == t254) goto L241;
+                                                        const u32 t255 = load8(l8 - 3ull);
+                                                        if (t255 == l30) goto L241;
+                                                        l30 = l31 & 255u;
+                                                        const u32 t256 = load8(l8 - 2ull);
+                                                        if (l30 == t256) goto L241;
+                                                        const u32 t257 = load8(l8 - 1ull);
+                                                        if (t257 == l30) goto L241;
+                                                        goto L239;
                                                     }
                                                     if (l15 <= 32ull) {
-                                                        l29 = l30 & 255u;
-                                                        const u32 t258 = load8(l12);
-                                                        if (l29 == t258) goto L240;
-                                                        const u32 t259 = load8(l12 + 1ull);
-                                                        if (t259 == l29) goto L240;
-                                                        l29 = l30 & 255u;
-                                                        const u32 t260 = load8(l12 + 2ull);
-                                                        if (l29 == t260) goto L240;
-                                                        const u32 t261 = load8(l12 + 3ull);
-                                                        if (t261 == l29) goto L240;
-                                                        l29 = l30 & 255u;
-                                                        const u32 t262 = load8(l12 + 4ull);
-                                                        if (l29 == t262) goto L240;
-                                                        const u32 t263 = load8(l12 + 5ull);
-                                                        if (t263 == l29) goto L240;
-                                                        l29 = l30 & 255u;
-                                                        const u32 t264 = load8(l12 + 6ull);
-                                                        if (l29 == t264) goto L240;
-                                                        const u32 t265 = load8(l12 + 7ull);
-                                                        if (t265 == l29) goto L240;
-                                                        l29 = l30 & 255u;
+                                                        l30 = l31 & 255u;
+                                                        const u32 t259 = load8(l12);
+                                                        if (l30 == t259) goto L241;
+                                                        const u32 t260 = load8(l12 + 1ull);
+                                                        if (t260 == l30) goto L241;
+                                                        l30 = l31 & 255u;
+                                                        const u32 t261 = load8(l12 + 2ull);
+                                                        if (l30 == t261) goto L241;
+                                                        const u32 t262 = load8(l12 + 3ull);
+                                                        if (t262 == l30) goto L241;
+                                                        l30 = l31 & 255u;
+                                                        const u32 t263 = load8(l12 + 4ull);
+                                                        if (l30 == t263) goto L241;
+                                                        const u32 t264 = load8(l12 + 5ull);
+                                                        if (t264 == l30) goto L241;
+                                                        l30 = l31 & 255u;
+                                                        const u32 t265 = load8(l12 + 6ull);
+                                                        if (l30 == t265) goto L241;
+                                                        const u32 t266 = load8(l12 + 7ull);
+                                                        if (t266 == l30) goto L241;
+                                                        l30 = l31 & 255u;
                                                         l0 = l15 - 8ull;
                                                         l8 = l12 + ((l0 < 8ull) ? l0 : 8ull);
-                                                        const u32 t266 = load8(l8);
-                                                        if (l29 == t266) goto L240;
-                                                        const u32 t267 = load8(l8 + 1ull);
-                                                        if (t267 == l29) goto L240;
-                                                        l29 = l30 & 255u;
-                                                        const u32 t268 = load8(l8 + 2ull);
-                                                        if (l29 == t268) goto L240;
-                                                        const u32 t269 = load8(l8 + 3ull);
-                                                        if (t269 == l29) goto L240;
-                                                        l29 = l30 & 255u;
-                                                        const u32 t270 = load8(l8 + 4ull);
-                                                        if (l29 == t270) goto L240;
-                                                        const u32 t271 = load8(l8 + 5ull);
-                                                        if (t271 == l29) goto L240;
-                                                        l29 = l30 & 255u;
-                                                        const u32 t272 = load8(l8 + 6ull);
-                                                        if (l29 == t272) goto L240;
-                                                        const u32 t273 = load8(l8 + 7ull);
-                                                        if (t273 == l29) goto L240;
-                                                        l29 = l30 & 255u;
+                                                        const u32 t267 = load8(l8);
+                                                        if (l30 == t267) goto L241;
+                                                        const u32 t268 = load8(l8 + 1ull);
+                                                        if (t268 == l30) goto L241;
+                                                        l30 = l31 & 255u;
+                                                        const u32 t269 = load8(l8 + 2ull);
+                                                        if (l30 == t269) goto L241;
+                                                        const u32 t270 = load8(l8 + 3ull);
+                                                        if (t270 == l30) goto L241;
+                                                        l30 = l31 & 255u;
+                                                        const u32 t271 = load8(l8 + 4ull);
+                                                        if (l30 == t271) goto L241;
+                                                        const u32 t272 = load8(l8 + 5ull);
+                                                        if (t272 == l30) goto L241;
+                                                        l30 = l31 & 255u;
+                                                        const u32 t273 = load8(l8 + 6ull);
+                                                        if (l30 == t273) goto L241;
+                                                        const u32 t274 = load8(l8 + 7ull);
+                                                        if (t274 == l30) goto L241;
+                                                        l30 = l31 & 255u;
                                                         l8 = l12 + ((l0 < 16ull) ? l0 : 16ull);
-                                                        const u32 t274 = load8(l8);
-                                                        if (l29 == t274) goto L240;
-                                                        const u32 t275 = load8(l8 + 1ull);
-                                                        if (t275 == l29) goto L240;
-                                                        l29 = l30 & 255u;
-                                                        const u32 t276 = load8(l8 + 2ull);
-                                                        if (l29 == t276) goto L240;
-                                                        const u32 t277 = load8(l8 + 3ull);
-                                                        if (t277 == l29) goto L240;
-                                                        l29 = l30 & 255u;
-                                                        const u32 t278 = load8(l8 + 4ull);
-                                                        if (l29 == t278) goto L240;
-                                                        const u32 t279 = load8(l8 + 5ull);
-                                                        if (t279 == l29) goto L240;
-                                                        l29 = l30 & 255u;
-                                                        const u32 t280 = load8(l8 + 6ull);
-                                                        if (l29 == t280) goto L240;
-                                                        const u32 t281 = load8(l8 + 7ull);
-                                                        if (t281 == l29) goto L240;
-                                                        l29 = l30 & 255u;
+                                                        const u32 t275 = load8(l8);
+                                                        if (l30 == t275) goto L241;
+                                                        const u32 t276 = load8(l8 + 1ull);
+                                                        if (t276 == l30) goto L241;
+                                                        l30 = l31 & 255u;
+                                                        const u32 t277 = load8(l8 + 2ull);
+                                                        if (l30 == t277) goto L241;
+                                                        const u32 t278 = load8(l8 + 3ull);
+                                                        if (t278 == l30) goto L241;
+                                                        l30 = l31 & 255u;
+                                                        const u32 t279 = load8(l8 + 4ull);
+                                                        if (l30 == t279) goto L241;
+                                                        const u32 t280 = load8(l8 + 5ull);
+                                                        if (t280 == l30) goto L241;
+                                                        l30 = l31 & 255u;
+                                                        const u32 t281 = load8(l8 + 6ull);
+                                                        if (l30 == t281) goto L241;
+                                                        const u32 t282 = load8(l8 + 7ull);
+                                                        if (t282 == l30) goto L241;
+                                                        l30 = l31 & 255u;
                                                         l8 = l0 + l12;
-                                                        const u32 t282 = load8(l8);
-                                                        if (l29 == t282) goto L240;
-                                                        const u32 t283 = load8(l8 + 1ull);
-                                                        if (t283 == l29) goto L240;
-                                                        l29 = l30 & 255u;
-                                                        const u32 t284 = load8(l8 + 2ull);
-                                                        if (l29 == t284) goto L240;
-                                                        const u32 t285 = load8(l8 + 3ull);
-                                                        if (t285 == l29) goto L240;
-                                                        l29 = l30 & 255u;
-                                                        const u32 t286 = load8(l8 + 4ull);
-                                                        if (l29 == t286) goto L240;
-                                                        const u32 t287 = load8(l8 + 5ull);
-                                                        if (t287 == l29) goto L240;
-                                                        l29 = l30 & 255u;
-                                                        const u32 t288 = load8(l8 + 6ull);
-                                                        if (l29 == t288) goto L240;
-                                                        const u32 t289 = load8(l8 + 7ull);
-                                                        if (t289 == l29) goto L240;
-                                                        goto L238;
+                                                        const u32 t283 = load8(l8);
+                                                        if (l30 == t283) goto L241;
+                                                        const u32 t284 = load8(l8 + 1ull);
+                                                        if (t284 == l30) goto L241;
+                                                        l30 = l31 & 255u;
+                                                        const u32 t285 = load8(l8 + 2ull);
+                                                        if (l30 == t285) goto L241;
+                                                        const u32 t286 = load8(l8 + 3ull);
+                                                        if (t286 == l30) goto L241;
+                                                        l30 = l31 & 255u;
+                                                        const u32 t287 = load8(l8 + 4ull);
+                                                        if (l30 == t287) goto L241;
+                                                        const u32 t288 = load8(l8 + 5ull);
+                                                        if (t288 == l30) goto L241;
+                                                        l30 = l31 & 255u;
+                                                        const u32 t289 = load8(l8 + 6ull);
+                                                        if (l30 == t289) goto L241;
+                                                        const u32 t290 = load8(l8 + 7ull);
+                                                        if (t290 == l30) goto L241;
+                                                        goto L239;
                                                     }
-                                                    if (l15 > 64ull) goto L239;
-                                                    l29 = l30 & 255u;
-                                                    const u32 t290 = load8(l12);
-                                                    if (l29 == t290) goto L240;
-                                                    const u32 t291 = load8(l12 + 1ull);
-                                                    if (t291 == l29) goto L240;
-                                                    l29 = l30 & 255u;
-                                                    const u32 t292 = load8(l12 + 2ull);
-                                                    if (l29 == t292) goto L240;
-                                                    const u32 t293 = load8(l12 + 3ull);
-                                                    if (t293 == l29) goto L240;
-                                                    l29 = l30 & 255u;
-                                                    const u32 t294 = load8(l12 + 4ull);
-                                                    if (l29 == t294) goto L240;
-                                                    const u32 t295 = load8(l12 + 5ull);
-                                                    if (t295 == l29) goto L240;
-                                                    l29 = l30 & 255u;
-                                                    const u32 t296 = load8(l12 + 6ull);
-                                                    if (l29 == t296) goto L240;
-                                                    const u32 t297 = load8(l12 + 7ull);
-                                                    if (t297 == l29) goto L240;
-                                                    l29 = l30 & 255u;
-                                                    const u32 t298 = load8(l12 + 8ull);
-                                                    if (l29 == t298) goto L240;
-                                                    const u32 t299 = load8(l12 + 9ull);
-                                                    if (t299 == l29) goto L240;
-                                                    l29 = l30 & 255u;
-                                                    const u32 t300 = load8(l12 + 10ull);
-                                                    if (l29 == t300) goto L240;
-                                                    const u32 t301 = load8(l12 + 11ull);
-                                                    if (t301 == l29) goto L240;
-                                                    l29 = l30 & 255u;
-                                                    const u32 t302 = load8(l12 + 12ull);
-                                                    if (l29 == t302) goto L240;
-                                                    const u32 t303 = load8(l12 + 13ull);
-                                                    if (t303 == l29) goto L240;
-                                                    l29 = l30 & 255u;
-                                                    const u32 t304 = load8(l12 + 14ull);
-                                                    if (l29 == t304) goto L240;
-                                                    const u32 t305 = load8(l12 + 15ull);
-                                                    if (t305 == l29) goto L240;
-                                                    l29 = l30 & 255u;
-                                                    const u32 t306 = load8(l12 + 16ull);
-                                                    if (l29 == t306) goto L240;
-                                                    const u32 t307 = load8(l12 + 17ull);
-                                                    if (t307 == l29) goto L240;
-                                                    l29 = l30 & 255u;
-                                                    const u32 t308 = load8(l12 + 18ull);
-                                                    if (l29 == t308) goto L240;
-                                                    const u32 t309 = load8(l12 + 19ull);
-                                                    if (t309 == l29) goto L240;
-                                                    l29 = l30 & 255u;
-                                                    const u32 t310 = load8(l12 + 20ull);
-                                                    if (l29 == t310) goto L240;
-                                                    const u32 t311 = load8(l12 + 21ull);
-                                                    if (t311 == l29) goto L240;
-                                                    l29 = l30 & 255u;
-                                                    const u32 t312 = load8(l12 + 22ull);
-                                                    if (l29 == t312) goto L240;
-                                                    const u32 t313 = load8(l12 + 23ull);
-                                                    if (t313 == l29) goto L240;
-                                                    l29 = l30 & 255u;
-                                                    const u32 t314 = load8(l12 + 24ull);
-                                                    if (l29 == t314) goto L240;
-                                                    const u32 t315 = load8(l12 + 25ull);
-                                                    if (t315 == l29) goto L240;
-                                                    l29 = l30 & 255u;
-                                                    const u32 t316 = load8(l12 + 26ull);
-                                                    if (l29 == t316) goto L240;
-                                                    const u32 t317 = load8(l12 + 27ull);
-                                                    if (t317 == l29) goto L240;
-                                                    l29 = l30 & 255u;
-                                                    const u32 t318 = load8(l12 + 28ull);
-                                                    if (l29 == t318) goto L240;
-                                                    const u32 t319 = load8(l12 + 29ull);
-                                                    if (t319 == l29) goto L240;
-                                                    l29 = l30 & 255u;
-                                                    const u32 t320 = load8(l12 + 30ull);
-                                                    if (l29 == t320) goto L240;
-                                                    const u32 t321 = load8(l12 + 31ull);
-                                                    if (t321 == l29) goto L240;
-                                                    l29 = l30 & 255u;
+                                                    if (l15 > 64ull) goto L240;
+                                                    l30 = l31 & 255u;
+                                                    const u32 t291 = load8(l12);
+                                                    if (l30 == t291) goto L241;
+                                                    const u32 t292 = load8(l12 + 1ull);
+                                                    if (t292 == l30) goto L241;
+                                                    l30 = l31 & 255u;
+                                                    const u32 t293 = load8(l12 + 2ull);
+                                                    if (l30 == t293) goto L241;
+                                                    const u32 t294 = load8(l12 + 3ull);
+                                                    if (t294 == l30) goto L241;
+                                                    l30 = l31 & 255u;
+                                                    const u32 t295 = load8(l12 + 4ull);
+                                                    if (l30 == t295) goto L241;
+                                                    const u32 t296 = load8(l12 + 5ull);
+                                                    if (t296 == l30) goto L241;
+                                                    l30 = l31 & 255u;
+                                                    const u32 t297 = load8(l12 + 6ull);
+                                                    if (l30 == t297) goto L241;
+                                                    const u32 t298 = load8(l12 + 7ull);
+                                                    if (t298 == l30) goto L241;
+                                                    l30 = l31 & 255u;
+                                                    const u32 t299 = load8(l12 + 8ull);
+                                                    if (l30 == t299) goto L241;
+                                                    const u32 t300 = load8(l12 + 9ull);
+                                                    if (t300 == l30) goto L241;
+                                                    l30 = l31 & 255u;
+                                                    const u32 t301 = load8(l12 + 10ull);
+                                                    if (l30 == t301) goto L241;
+                                                    const u32 t302 = load8(l12 + 11ull);
+                                                    if (t302 == l30) goto L241;
+                                                    l30 = l31 & 255u;
+                                                    const u32 t303 = load8(l12 + 12ull);
+                                                    if (l30 == t303) goto L241;
+                                                    const u32 t304 = load8(l12 + 13ull);
+                                                    if (t304 == l30) goto L241;
+                                                    l30 = l31 & 255u;
+                                                    const u32 t305 = load8(l12 + 14ull);
+                                                    if (l30 == t305) goto L241;
+                                                    const u32 t306 = load8(l12 + 15ull);
+                                                    if (t306 == l30) goto L241;
+                                                    l30 = l31 & 255u;
+                                                    const u32 t307 = load8(l12 + 16ull);
+                                                    if (l30 == t307) goto L241;
+                                                    const u32 t308 = load8(l12 + 17ull);
+                                                    if (t308 == l30) goto L241;
+                                                    l30 = l31 & 255u;
+                                                    const u32 t309 = load8(l12 + 18ull);
+                                                    if (l30 == t309) goto L241;
+                                                    const u32 t310 = load8(l12 + 19ull);
+                                                    if (t310 == l30) goto L241;
+                                                    l30 = l31 & 255u;
+                                                    const u32 t311 = load8(l12 + 20ull);
+                                                    if (l30 == t311) goto L241;
+                                                    const u32 t312 = load8(l12 + 21ull);
+                                                    if (t312 == l30) goto L241;
+                                                    l30 = l31 & 255u;
+                                                    const u32 t313 = load8(l12 + 22ull);
+                                                    if (l30 == t313) goto L241;
+                                                    const u32 t314 = load8(l12 + 23ull);
+                                                    if (t314 == l30) goto L241;
+                                                    l30 = l31 & 255u;
+                                                    const u32 t315 = load8(l12 + 24ull);
+                                                    if (l30 == t315) goto L241;
+                                                    const u32 t316 = load8(l12 + 25ull);
+                                                    if (t316 == l30) goto L241;
+                                                    l30 = l31 & 255u;
+                                                    const u32 t317 = load8(l12 + 26ull);
+                                                    if (l30 == t317) goto L241;
+                                                    const u32 t318 = load8(l12 + 27ull);
+                                                    if (t318 == l30) goto L241;
+                                                    l30 = l31 & 255u;
+                                                    const u32 t319 = load8(l12 + 28ull);
+                                                    if (l30 == t319) goto L241;
+                                                    const u32 t320 = load8(l12 + 29ull);
+                                                    if (t320 == l30) goto L241;
+                                                    l30 = l31 & 255u;
+                                                    const u32 t321 = load8(l12 + 30ull);
+                                                    if (l30 == t321) goto L241;
+                                                    const u32 t322 = load8(l12 + 31ull);
+                                                    if (t322 == l30) goto L241;
+                                                    l30 = l31 & 255u;
                                                     l8 = l12 + l15;
-                                                    const u32 t322 = load8(l8 - 32ull);
-                                                    if (l29 == t322) goto L240;
-                                                    const u32 t323 = load8(l8 - 31ull);
-                                                    if (t323 == l29) goto L240;
-                                                    l29 = l30 & 255u;
-                                                    const u32 t324 = load8(l8 - 30ull);
-                                                    if (l29 == t324) goto L240;
-                                                    const u32 t325 = load8(l8 - 29ull);
-                                                    if (t325 == l29) goto L240;
-                                                    l29 = l30 & 255u;
-                                                    const u32 t326 = load8(l8 - 28ull);
-                                                    if (l29 == t326) goto L240;
-                                                    const u32 t327 = load8(l8 - 27ull);
-                                                    if (t327 == l29) goto L240;
-                                                    l29 = l30 & 255u;
-                                                    const u32 t328 = load8(l8 - 26ull);
-                                                    if (l29 == t328) goto L240;
-                                                    const u32 t329 = load8(l8 - 25ull);
-                                                    if (t329 == l29) goto L240;
-                                                    l29 = l30 & 255u;
-                                                    const u32 t330 = load8(l8 - 24ull);
-                                                    if (l29 == t330) goto L240;
-                                                    const u32 t331 = load8(l8 - 23ull);
-                                                    if (t331 == l29) goto L240;
-                                                    l29 = l30 & 255u;
-                                                    const u32 t332 = load8(l8 - 22ull);
-                                                    if (l29 == t332) goto L240;
-                                                    const u32 t333 = load8(l8 - 21ull);
-                                                    if (t333 == l29) goto L240;
-                                                    l29 = l30 & 255u;
-                                                    const u32 t334 = load8(l8 - 20ull);
-                                                    if (l29 == t334) goto L240;
-                                                    const u32 t335 = load8(l8 - 19ull);
-                                                    if (t335 == l29) goto L240;
-                                                    l29 = l30 & 255u;
-                                                    const u32 t336 = load8(l8 - 18ull);
-                                                    if (l29 == t336) goto L240;
-                                                    const u32 t337 = load8(l8 - 17ull);
-                                                    if (t337 == l29) goto L240;
-                                                    l29 = l30 & 255u;
-                                                    const u32 t338 = load8(l8 - 16ull);
-                                                    if (l29 == t338) goto L240;
-                                                    const u32 t339 = load8(l8 - 15ull);
-                                                    if (t339 == l29) goto L240;
-                                                    l29 = l30 & 255u;
-                                                    const u32 t340 = load8(l8 - 14ull);
-                                                    if (l29 == t340) goto L240;
-                                                    const u32 t341 = load8(l8 - 13ull);
-                                                    if (t341 == l29) goto L240;
-                                                    l29 = l30 & 255u;
-                                                    const u32 t342 = load8(l8 - 12ull);
-                                                    if (l29 == t342) goto L240;
-                                                    const u32 t343 = load8(l8 - 11ull);
-                                                    if (t343 == l29) goto L240;
-                                                    l29 = l30 & 255u;
-                                                    const u32 t344 = load8(l8 - 10ull);
-                                                    if (l29 == t344) goto L240;
-                                                    const u32 t345 = load8(l8 - 9ull);
-                                                    if (t345 == l29) goto L240;
-                                                    l29 = l30 & 255u;
-                                                    const u32 t346 = load8(l8 - 8ull);
-                                                    if (l29 == t346) goto L240;
-                                                    const u32 t347 = load8(l8 - 7ull);
-                                                    if (t347 == l29) goto L240;
-                                                    l29 = l30 & 255u;
-                                                    const u32 t348 = load8(l8 - 6ull);
-                                                    if (l29 == t348) goto L240;
-                                                    const u32 t349 = load8(l8 - 5ull);
-                                                    if (t349 == l29) goto L240;
-                                                    l29 = l30 & 255u;
-                                                    const u32 t350 = load8(l8 - 4ull);
-                                                    if (l29 == t350) goto L240;
-                                                    const u32 t351 = load8(l8 - 3ull);
-                                                    if (t351 == l29) goto L240;
-                                                    l29 = l30 & 255u;
-                                                    const u32 t352 = load8(l8 - 2ull);
-                                                    if (l29 == t352) goto L240;
-                                                    const u32 t353 = load8(l8 - 1ull);
-                                                    if (t353 != l29) goto L238;
+                                                    const u32 t323 = load8(l8 - 32ull);
+                                                    if (l30 == t323) goto L241;
+                                                    const u32 t324 = load8(l8 - 31ull);
+                                                    if (t324 == l30) goto L241;
+                                                    l30 = l31 & 255u;
+                                                    const u32 t325 = load8(l8 - 30ull);
+                                                    if (l30 == t325) goto L241;
+                                                    const u32 t326 = load8(l8 - 29ull);
+                                                    if (t326 == l30) goto L241;
+                                                    l30 = l31 & 255u;
+                                                    const u32 t327 = load8(l8 - 28ull);
+                                                    if (l30 == t327) goto L241;
+                                                    const u32 t328 = load8(l8 - 27ull);
+                                                    if (t328 == l30) goto L241;
+                                                    l30 = l31 & 255u;
+                                                    const u32 t329 = load8(l8 - 26ull);
+                                                    if (l30 == t329) goto L241;
+                                                    const u32 t330 = load8(l8 - 25ull);
+                                                    if (t330 == l30) goto L241;
+                                                    l30 = l31 & 255u;
+                                                    const u32 t331 = load8(l8 - 24ull);
+                                                    if (l30 == t331) goto L241;
+                                                    const u32 t332 = load8(l8 - 23ull);
+                                                    if (t332 == l30) goto L241;
+                                                    l30 = l31 & 255u;
+                                                    const u32 t333 = load8(l8 - 22ull);
+                                                    if (l30 == t333) goto L241;
+                                                    const u32 t334 = load8(l8 - 21ull);
+                                                    if (t334 == l30) goto L241;
+                                                    l30 = l31 & 255u;
+                                                    const u32 t335 = load8(l8 - 20ull);
+                                                    if (l30 == t335) goto L241;
+                                                    const u32 t336 = load8(l8 - 19ull);
+                                                    if (t336 == l30) goto L241;
+                                                    l30 = l31 & 255u;
+                                                    const u32 t337 = load8(l8 - 18ull);
+                                                    if (l30 == t337) goto L241;
+                                                    const u32 t338 = load8(l8 - 17ull);
+                                                    if (t338 == l30) goto L241;
+                                                    l30 = l31 & 255u;
+                                                    const u32 t339 = load8(l8 - 16ull);
+                                                    if (l30 == t339) goto L241;
+                                                    const u32 t340 = load8(l8 - 15ull);
+                                                    if (t340 == l30) goto L241;
+                                                    l30 = l31 & 255u;
+                                                    const u32 t341 = load8(l8 - 14ull);
+                                                    if (l30 == t341) goto L241;
+                                                    const u32 t342 = load8(l8 - 13ull);
+                                                    if (t342 == l30) goto L241;
+                                                    l30 = l31 & 255u;
+                                                    const u32 t343 = load8(l8 - 12ull);
+                                                    if (l30 == t343) goto L241;
+                                                    const u32 t344 = load8(l8 - 11ull);
+                                                    if (t344 == l30) goto L241;
+                                                    l30 = l31 & 255u;
+                                                    const u32 t345 = load8(l8 - 10ull);
+                                                    if (l30 == t345) goto L241;
+                                                    const u32 t346 = load8(l8 - 9ull);
+                                                    if (t346 == l30) goto L241;
+                                                    l30 = l31 & 255u;
+                                                    const u32 t347 = load8(l8 - 8ull);
+                                                    if (l30 == t347) goto L241;
+                                                    const u32 t348 = load8(l8 - 7ull);
+                                                    if (t348 == l30) goto L241;
+                                                    l30 = l31 & 255u;
+                                                    const u32 t349 = load8(l8 - 6ull);
+                                                    if (l30 == t349) goto L241;
+                                                    const u32 t350 = load8(l8 - 5ull);
+                                                    if (t350 == l30) goto L241;
+                                                    l30 = l31 & 255u;
+                                                    const u32 t351 = load8(l8 - 4ull);
+                                                    if (l30 == t351) goto L241;
+                                                    const u32 t352 = load8(l8 - 3ull);
+                                                    if (t352 == l30) goto L241;
+                                                    l30 = l31 & 255u;
+                                                    const u32 t353 = load8(l8 - 2ull);
+                                                    if (l30 == t353) goto L241;
+                                                    const u32 t354 = load8(l8 - 1ull);
+                                                    if (t354 != l30) goto L239;
                                                 }
-                                                L240:;
-                                                const u64 t354 = load64(l10 + 80u);
-                                                const u64 t355 = load64(l10 + 88u);
-                                                v234 = t354 - t355; goto L234;
+                                                L241:;
+                                                const u64 t355 = load64(l10 + 80u);
+                                                const u64 t356 = load64(l10 + 88u);
+                                                v235 = t355 - t356; goto L235;
                                             }
-                                            L239:;
+                                            L240:;
                                             l1 = l15 & 18446744073709551552ull;
                                             l2 = 0ull;
                                             l14 = l12;
                                             {
-                                                L357:;
+                                                L358:;
                                                 {
-                                                    l37 = 0u;
+                                                    l38 = 0u;
                                                     l0 = 0ull;
-                                                    L358:;
+                                                    L359:;
                                                     {
-                                                        l31 = l30 & 255u;
+                                                        l32 = l31 & 255u;
                                                         l8 = l0 + l14;
-                                                        const u32 t359 = load8(l8);
-                                                        const u32 t360 = load8(l8 + 1ull);
-                                                        const u32 t361 = load8(l8 + 2ull);
-                                                        const u32 t362 = load8(l8 + 3ull);
-                                                        l37 = (((l37 | (l31 == t359)) | (t360 == l31)) | (t361 == l31)) | (t362 == l31);
+                                                        const u32 t360 = load8(l8);
+                                                        const u32 t361 = load8(l8 + 1ull);
+                                                        const u32 t362 = load8(l8 + 2ull);
+                                                        const u32 t363 = load8(l8 + 3ull);
+                                                        l38 = (((l38 | (l32 == t360)) | (t361 == l32)) | (t362 == l32)) | (t363 == l32);
                                                         l0 = l0 + 4ull;
-                                                        if (l0 != 64ull) goto L358;
+                                                        if (l0 != 64ull) goto L359;
                                                     }
-                                                    if (l37 & 1u) goto L356;
+                                                    if (l38 & 1u) goto L357;
                                                     l14 = l14 + 64ull;
                                                     l2 = l2 + 64ull;
-                                                    if ((l15 - l2) > 63ull) goto L357;
+                                                    if ((l15 - l2) > 63ull) goto L358;
                                                 }
                                                 l2 = l1;
                                             }
-                                            L356:;
+                                            L357:;
                                             {
                                                 l0 = l15 - l2;
-                                                if (l0 < 32ull) goto L363;
+                                                if (l0 < 32ull) goto L364;
                                                 l8 = l2 + l12;
-                                                L364:;
+                                                L365:;
                                                 {
                                                     {
-                                                        l31 = l30 & 255u;
-                                                        const u32 t366 = load8(l8);
-                                                        if (l31 == t366) goto L365;
-                                                        const u32 t367 = load8(l8 + 1ull);
-                                                        if (t367 == l31) goto L365;
-                                                        l31 = l30 & 255u;
-                                                        const u32 t368 = load8(l8 + 2ull);
-                                                        if (l31 == t368) goto L365;
-                                                        const u32 t369 = load8(l8 + 3ull);
-                                                        if (t369 == l31) goto L365;
-                                                        l31 = l30 & 255u;
-                                                        const u32 t370 = load8(l8 + 4ull);
-                                                        if (l31 == t370) goto L365;
-                                                        const u32 t371 = load8(l8 + 5ull);
-                                                        if (t371 == l31) goto L365;
-                                                        l31 = l30 & 255u;
-                                                        const u32 t372 = load8(l8 + 6ull);
-                                                        if (l31 == t372) goto L365;
-                                                        const u32 t373 = load8(l8 + 7ull);
-                                                        if (t373 == l31) goto L365;
-                                                        l31 = l30 & 255u;
-                                                        const u32 t374 = load8(l8 + 8ull);
-                                                        if (l31 == t374) goto L365;
-                                                        const u32 t375 = load8(l8 + 9ull);
-                                                        if (t375 == l31) goto L365;
-                                                        l31 = l30 & 255u;
-                                                        const u32 t376 = load8(l8 + 10ull);
-                                                        if (l31 == t376) goto L365;
-                                                        const u32 t377 = load8(l8 + 11ull);
-                                                        if (t377 == l31) goto L365;
-                                                        l31 = l30 & 255u;
-                                                        const u32 t378 = load8(l8 + 12ull);
-                                                        if (l31 == t378) goto L365;
-                                                        const u32 t379 = load8(l8 + 13ull);
-                                                        if (t379 == l31) goto L365;
-                                                        l31 = l30 & 255u;
-                                                        const u32 t380 = load8(l8 + 14ull);
-                                                        if (l31 == t380) goto L365;
-                                                        const u32 t381 = load8(l8 + 15ull);
-                                                        if (t381 == l31) goto L365;
-                                                        l31 = l30 & 255u;
-                                                        const u32 t382 = load8(l8 + 16ull);
-                                                        if (l31 == t382) goto L365;
-                                                        const u32 t383 = load8(l8 + 17ull);
-                                                        if (t383 == l31) goto L365;
-                                                        l31 = l30 & 255u;
-                                                        const u32 t384 = load8(l8 + 18ull);
-                                                        if (l31 == t384) goto L365;
-                                                        const u32 t385 = load8(l8 + 19ull);
-                                                        if (t385 == l31) goto L365;
-                                                        l31 = l30 & 255u;
-                                                        const u32 t386 = load8(l8 + 20ull);
-                                                        if (l31 == t386) goto L365;
-                                                        const u32 t387 = load8(l8 + 21ull);
-                                                        if (t387 == l31) goto L365;
-                                                        l31 = l30 & 255u;
-                                                        const u32 t388 = load8(l8 + 22ull);
-                                                        if (l31 == t388) goto L365;
-                                                        const u32 t389 = load8(l8 + 23ull);
-                                                        if (t389 == l31) goto L365;
-                                                        l31 = l30 & 255u;
-                                                        const u32 t390 = load8(l8 + 24ull);
-                                                        if (l31 == t390) goto L365;
-                                                        const u32 t391 = load8(l8 + 25ull);
-                                                        if (t391 == l31) goto L365;
-                                                        l31 = l30 & 255u;
-                                                        const u32 t392 = load8(l8 + 26ull);
-                                                        if (l31 == t392) goto L365;
-                                                        const u32 t393 = load8(l8 + 27ull);
-                                                        if (t393 == l31) goto L365;
-                                                        l31 = l30 & 255u;
-                                                        const u32 t394 = load8(l8 + 28ull);
-                                                        if (l31 == t394) goto L365;
-                                                        const u32 t395 = load8(l8 + 29ull);
-                                                        if (t395 == l31) goto L365;
-                                                        l31 = l30 & 255u;
-                                                        const u32 t396 = load8(l8 + 30ull);
-                                                        if (l31 == t396) goto L365;
-                                                        const u32 t397 = load8(l8 + 31ull);
-                                                        if (t397 == l31) goto L365;
+                                                        l32 = l31 & 255u;
+                                                        const u32 t367 = load8(l8);
+                                                        if (l32 == t367) goto L366;
+                                                        const u32 t368 = load8(l8 + 1ull);
+                                                        if (t368 == l32) goto L366;
+                                                        l32 = l31 & 255u;
+                                                        const u32 t369 = load8(l8 + 2ull);
+                                                        if (l32 == t369) goto L366;
+                                                        const u32 t370 = load8(l8 + 3ull);
+                                                        if (t370 == l32) goto L366;
+                                                        l32 = l31 & 255u;
+                                                        const u32 t371 = load8(l8 + 4ull);
+                                                        if (l32 == t371) goto L366;
+                                                        const u32 t372 = load8(l8 + 5ull);
+                                                        if (t372 == l32) goto L366;
+                                                        l32 = l31 & 255u;
+                                                        const u32 t373 = load8(l8 + 6ull);
+                                                        if (l32 == t373) goto L366;
+                                                        const u32 t374 = load8(l8 + 7ull);
+                                                        if (t374 == l32) goto L366;
+                                                        l32 = l31 & 255u;
+                                                        const u32 t375 = load8(l8 + 8ull);
+                                                        if (l32 == t375) goto L366;
+                                                        const u32 t376 = load8(l8 + 9ull);
+                                                        if (t376 == l32) goto L366;
+                                                        l32 = l31 & 255u;
+                                                        const u32 t377 = load8(l8 + 10ull);
+                                                        if (l32 == t377) goto L366;
+                                                        const u32 t378 = load8(l8 + 11ull);
+                                                        if (t378 == l32) goto L366;
+                                                        l32 = l31 & 255u;
+                                                        const u32 t379 = load8(l8 + 12ull);
+                                                        if (l32 == t379) goto L366;
+                                                        const u32 t380 = load8(l8 + 13ull);
+                                                        if (t380 == l32) goto L366;
+                                                        l32 = l31 & 255u;
+                                                        const u32 t381 = load8(l8 + 14ull);
+                                                        if (l32 == t381) goto L366;
+                                                        const u32 t382 = load8(l8 + 15ull);
+                                                        if (t382 == l32) goto L366;
+                                                        l32 = l31 & 255u;
+                                                        const u32 t383 = load8(l8 + 16ull);
+                                                        if (l32 == t383) goto L366;
+                                                        const u32 t384 = load8(l8 + 17ull);
+                                                        if (t384 == l32) goto L366;
+                                                        l32 = l31 & 255u;
+                                                        const u32 t385 = load8(l8 + 18ull);
+                                                        if (l32 == t385) goto L366;
+                                                        const u32 t386 = load8(l8 + 19ull);
+                                                        if (t386 == l32) goto L366;
+                                                        l32 = l31 & 255u;
+                                                        const u32 t387 = load8(l8 + 20ull);
+                                                        if (l32 == t387) goto L366;
+                                                        const u32 t388 = load8(l8 + 21ull);
+                                                        if (t388 == l32) goto L366;
+                                                        l32 = l31 & 255u;
+                                                        const u32 t389 = load8(l8 + 22ull);
+                                                        if (l32 == t389) goto L366;
+                                                        const u32 t390 = load8(l8 + 23ull);
+                                                        if (t390 == l32) goto L366;
+                                                        l32 = l31 & 255u;
+                                                        const u32 t391 = load8(l8 + 24ull);
+                                                        if (l32 == t391) goto L366;
+                                                        const u32 t392 = load8(l8 + 25ull);
+                                                        if (t392 == l32) goto L366;
+                                                        l32 = l31 & 255u;
+                                                        const u32 t393 = load8(l8 + 26ull);
+                                                        if (l32 == t393) goto L366;
+                                                        const u32 t394 = load8(l8 + 27ull);
+                                                        if (t394 == l32) goto L366;
+                                                        l32 = l31 & 255u;
+                                                        const u32 t395 = load8(l8 + 28ull);
+                                                        if (l32 == t395) goto L366;
+                                                        const u32 t396 = load8(l8 + 29ull);
+                                                        if (t396 == l32) goto L366;
+                                                        l32 = l31 & 255u;
+                                                        const u32 t397 = load8(l8 + 30ull);
+                                                        if (l32 == t397) goto L366;
+                                                        const u32 t398 = load8(l8 + 31ull);
+                                                        if (t398 == l32) goto L366;
                                                         l8 = l8 + 32ull;
                                                         l0 = l0 - 32ull;
-                                                        if (l0 > 31ull) goto L364;
-                                                        goto L363;
+                                                        if (l0 > 31ull) goto L365;
+                                                        goto L364;
                                                     }
-                                                    L365:;
+                                                    L366:;
                                                 }
-                                                if (l0 > 31ull) goto L235;
+                                                if (l0 > 31ull) goto L236;
                                             }
-                                            L363:;
-                                            l31 = l30 & 255u;
+                                            L364:;
+                                            l32 = l31 & 255u;
                                             l8 = l12 + l15;
-                                            const u32 t398 = load8(l8 - 32ull);
-                                            if (l31 == t398) goto L235;
-                                            const u32 t399 = load8(l8 - 31ull);
-                                            if (t399 == l31) goto L235;
-                                            l31 = l30 & 255u;
-                                            const u32 t400 = load8(l8 - 30ull);
-                                            if (l31 == t400) goto L235;
-                                            const u32 t401 = load8(l8 - 29ull);
-                                            if (t401 == l31) goto L235;
-                                            l31 = l30 & 255u;
-                                            const u32 t402 = load8(l8 - 28ull);
-                                            if (l31 == t402) goto L235;
-                                            const u32 t403 = load8(l8 - 27ull);
-                                            if (t403 == l31) goto L235;
-                                            l31 = l30 & 255u;
-                                            const u32 t404 = load8(l8 - 26ull);
-                                            if (l31 == t404) goto L235;
-                                            const u32 t405 = load8(l8 - 25ull);
-                                            if (t405 == l31) goto L235;
-                                            l31 = l30 & 255u;
-                                            const u32 t406 = load8(l8 - 24ull);
-                                            if (l31 == t406) goto L235;
-                                            const u32 t407 = load8(l8 - 23ull);
-                                            if (t407 == l31) goto L235;
-                                            l31 = l30 & 255u;
-                                            const u32 t408 = load8(l8 - 22ull);
-                                            if (l31 == t408) goto L235;
-                                            const u32 t409 = load8(l8 - 21ull);
-                                            if (t409 == l31) goto L235;
-                                            l31 = l30 & 255u;
-                                            const u32 t410 = load8(l8 - 20ull);
-                                            if (l31 == t410) goto L235;
-                                            const u32 t411 = load8(l8 - 19ull);
-                                            if (t411 == l31) goto L235;
-                                            l31 = l30 & 255u;
-                                            const u32 t412 = load8(l8 - 18ull);
-                                            if (l31 == t412) goto L235;
-                                            const u32 t413 = load8(l8 - 17ull);
-                                            if (t413 == l31) goto L235;
-                                            l31 = l30 & 255u;
-                                            const u32 t414 = load8(l8 - 16ull);
-                                            if (l31 == t414) goto L235;
-                                            const u32 t415 = load8(l8 - 15ull);
-                                            if (t415 == l31) goto L235;
-                                            l31 = l30 & 255u;
-                                            const u32 t416 = load8(l8 - 14ull);
-                                            if (l31 == t416) goto L235;
-                                            const u32 t417 = load8(l8 - 13ull);
-                                            if (t417 == l31) goto L235;
-                                            l31 = l30 & 255u;
-                                            const u32 t418 = load8(l8 - 12ull);
-                                            if (l31 == t418) goto L235;
-                                            const u32 t419 = load8(l8 - 11ull);
-                                            if (t419 == l31) goto L235;
-                                            l31 = l30 & 255u;
-                                            const u32 t420 = load8(l8 - 10ull);
-                                            if (l31 == t420) goto L235;
-                                            const u32 t421 = load8(l8 - 9ull);
-                                            if (t421 == l31) goto L235;
-                                            l31 = l30 & 255u;
-                                            const u32 t422 = load8(l8 - 8ull);
-                                            if (l31 == t422) goto L235;
-                                            const u32 t423 = load8(l8 - 7ull);
-                                            if (t423 == l31) goto L235;
-                                            l31 = l30 & 255u;
-                                            const u32 t424 = load8(l8 - 6ull);
-                                            if (l31 == t424) goto L235;
-                                            const u32 t425 = load8(l8 - 5ull);
-                                            if (t425 == l31) goto L235;
-                                            l31 = l30 & 255u;
-                                            const u32 t426 = load8(l8 - 4ull);
-                                            if (l31 == t426) goto L235;
-                                            const u32 t427 = load8(l8 - 3ull);
-                                            if (t427 == l31) goto L235;
-                                            l31 = l30 & 255u;
-                                            const u32 t428 = load8(l8 - 2ull);
-                                            if (l31 == t428) goto L235;
-                                            const u32 t429 = load8(l8 - 1ull);
-                                            if (t429 == l31) goto L235;
+                                            const u32 t399 = load8(l8 - 32ull);
+                                            if (l32 == t399) goto L236;
+                                            const u32 t400 = load8(l8 - 31ull);
+                                            if (t400 == l32) goto L236;
+                                            l32 = l31 & 255u;
+                                            const u32 t401 = load8(l8 - 30ull);
+                                            if (l32 == t401) goto L236;
+                                            const u32 t402 = load8(l8 - 29ull);
+                                            if (t402 == l32) goto L236;
+                                            l32 = l31 & 255u;
+                                            const u32 t403 = load8(l8 - 28ull);
+                                            if (l32 == t403) goto L236;
+                                            const u32 t404 = load8(l8 - 27ull);
+                                            if (t404 == l32) goto L236;
+                                            l32 = l31 & 255u;
+                                            const u32 t405 = load8(l8 - 26ull);
+                                            if (l32 == t405) goto L236;
+                                            const u32 t406 = load8(l8 - 25ull);
+                                            if (t406 == l32) goto L236;
+                                            l32 = l31 & 255u;
+                                            const u32 t407 = load8(l8 - 24ull);
+                                            if (l32 == t407) goto L236;
+                                            const u32 t408 = load8(l8 - 23ull);
+                                            if (t408 == l32) goto L236;
+                                            l32 = l31 & 255u;
+                                            const u32 t409 = load8(l8 - 22ull);
+                                            if (l32 == t409) goto L236;
+                                            const u32 t410 = load8(l8 - 21ull);
+                                            if (t410 == l32) goto L236;
+                                            l32 = l31 & 255u;
+                                            const u32 t411 = load8(l8 - 20ull);
+                                            if (l32 == t411) goto L236;
+                                            const u32 t412 = load8(l8 - 19ull);
+                                            if (t412 == l32) goto L236;
+                                            l32 = l31 & 255u;
+                                            const u32 t413 = load8(l8 - 18ull);
+                                            if (l32 == t413) goto L236;
+                                            const u32 t414 = load8(l8 - 17ull);
+                                            if (t414 == l32) goto L236;
+                                            l32 = l31 & 255u;
+                                            const u32 t415 = load8(l8 - 16ull);
+                                            if (l32 == t415) goto L236;
+                                            const u32 t416 = load8(l8 - 15ull);
+                                            if (t416 == l32) goto L236;
+                                            l32 = l31 & 255u;
+                                            const u32 t417 = load8(l8 - 14ull);
+                                            if (l32 == t417) goto L236;
+                                            const u32 t418 = load8(l8 - 13ull);
+                                            if (t418 == l32) goto L236;
+                                            l32 = l31 & 255u;
+                                            const u32 t419 = load8(l8 - 12ull);
+                                            if (l32 == t419) goto L236;
+                                            const u32 t420 = load8(l8 - 11ull);
+                                            if (t420 == l32) goto L236;
+                                            l32 = l31 & 255u;
+                                            const u32 t421 = load8(l8 - 10ull);
+                                            if (l32 == t421) goto L236;
+                                            const u32 t422 = load8(l8 - 9ull);
+                                            if (t422 == l32) goto L236;
+                                            l32 = l31 & 255u;
+                                            const u32 t423 = load8(l8 - 8ull);
+                                            if (l32 == t423) goto L236;
+                                            const u32 t424 = load8(l8 - 7ull);
+                                            if (t424 == l32) goto L236;
+                                            l32 = l31 & 255u;
+                                            const u32 t425 = load8(l8 - 6ull);
+                                            if (l32 == t425) goto L236;
+                                            const u32 t426 = load8(l8 - 5ull);
+                                            if (t426 == l32) goto L236;
+                                            l32 = l31 & 255u;
+                                            const u32 t427 = load8(l8 - 4ull);
+                                            if (l32 == t427) goto L236;
+                                            const u32 t428 = load8(l8 - 3ull);
+                                            if (t428 == l32) goto L236;
+                                            l32 = l31 & 255u;
+                                            const u32 t429 = load8(l8 - 2ull);
+                                            if (l32 == t429) goto L236;
+                                            const u32 t430 = load8(l8 - 1ull);
+                                            if (t430 == l32) goto L236;
                                         }
-                                        L238:;
-                                        const u32 t430 = load32(l9 + 24ull);
-                                        const u32 t431 = load32(l9 + 20ull);
-                                        const u32 t432 = load32(l9 + 16ull);
-                                        const u64 t433 = load32(l9 + 8ull);
-                                        if ((l15 + (u64)((t430 + (t431 + t432)))) > (t433 + 1ull)) goto L236;
-                                        l45 = 7u;
+                                        L239:;
+                                        const u32 t431 = load32(l9 + 24ull);
+                                        const u32 t432 = load32(l9 + 20ull);
+                                        const u32 t433 = load32(l9 + 16ull);
+                                        const u64 t434 = load32(l9 + 8ull);
+                                        if ((l15 + (u64)((t431 + (t432 + t433)))) > (t434 + 1ull)) goto L237;
+                                        l46 = 7u;
                                         goto L3;
                                     }
-                                    L237:;
-                                    if ((l15 == 0) == 0) goto L236;
-                                    l45 = 7u;
+                                    L238:;
+                                    if ((l15 == 0) == 0) goto L237;
+                                    l46 = 7u;
                                     goto L3;
                                 }
-                                L236:;
-                                const u64 t434 = load64(l10 + 80u);
-                                const u64 t435 = load64(l10 + 88u);
-                                v234 = t434 - t435; goto L234;
+                                L237:;
+                                const u64 t435 = load64(l10 + 80u);
+                                const u64 t436 = load64(l10 + 88u);
+                                v235 = t435 - t436; goto L235;
                             }
-                            L235:;
-                            if (l29 == 0) goto L233;
-                            const u64 t436 = load64(l10 + 80u);
-                            const u64 t437 = load64(l10 + 88u);
-                            v234 = t436 - t437;
+                            L236:;
+                            if (l30 == 0) goto L234;
+                            const u64 t437 = load64(l10 + 80u);
+                            const u64 t438 = load64(l10 + 88u);
+                            v235 = t437 - t438;
                         }
-                        L234:;
-                        l8 = v234;
-                        if ((1u << (l32 & 31)) & 33553399u) goto L233;
-                        const u32 t438 = load32(l9 + 24ull);
-                        l29 = t438;
-                        if (l29 == 0) goto L233;
-                        const u64 t439 = load64(l9);
-                        l0 = t439;
-                        const u32 t440 = load32(l9 + 28ull);
-                        const u32 t441 = load8((l0 + ((u64)(t440 - l29) << 3)) + 1ull);
-                        if (t441 != 41u) goto L233;
-                        const u32 t442 = load32(l9 + 32ull);
-                        l29 = t442;
-                        if (l29 == 0) goto L233;
-                        const u32 t443 = load32(l9 + 60ull);
-                        l31 = t443;
-                        const u32 t444 = load32(l9 + 20ull);
-                        l37 = t444;
-                        if (((l32 & 255u) != 10u) & ((u64)l37 <= l8)) goto L233;
-                        l32 = 0u;
+                        L235:;
+                        l8 = v235;
+                        if ((1u << (l33 & 31)) & 33553399u) goto L234;
+                        const u32 t439 = load32(l9 + 24ull);
+                        l30 = t439;
+                        if (l30 == 0) goto L234;
+                        const u64 t440 = load64(l9);
+                        l0 = t440;
+                        const u32 t441 = load32(l9 + 28ull);
+                        const u32 t442 = load8((l0 + ((u64)(t441 - l30) << 3)) + 1ull);
+                        if (t442 != 41u) goto L234;
+                        const u32 t443 = load32(l9 + 32ull);
+                        l30 = t443;
+                        if (l30 == 0) goto L234;
+                        const u32 t444 = load32(l9 + 60ull);
+                        l32 = t444;
+                        const u32 t445 = load32(l9 + 20ull);
+                        l38 = t445;
+                        if (((l33 & 255u) != 10u) & ((u64)l38 <= l8)) goto L234;
+                        l33 = 0u;
                         store8(l10 + 160u, (u8)0u);
                         store64(l10 + 152u, 0ull);
                         store64(l10 + 144u, 0ull);
-                        store32(l10 + 216u, l31);
-                        store32(l10 + 212u, l37);
-                        store32(l10 + 208u, l29);
+                        store32(l10 + 216u, l32);
+                        store32(l10 + 212u, l38);
+                        store32(l10 + 208u, l30);
                         store32(l10 + 220u, 0u);
                         functions_arguments_Arguments_next(stack, l10 + 64ull, l10 + 208ull, l9);
-                        const u32 t445 = load32(l9 + 16ull);
-                        l29 = t445;
-                        const u32 t446 = load32(l10 + 68u);
-                        l31 = t446;
-                        const u32 t447 = load32(l10 + 64u);
-                        l37 = t447;
+                        const u32 t446 = load32(l9 + 16ull);
+                        l30 = t446;
+                        const u32 t447 = load32(l10 + 68u);
+                        l32 = t447;
+                        const u32 t448 = load32(l10 + 64u);
+                        l38 = t448;
                         store8(l10 + 170u, (u8)0u);
                         store16(l10 + 168u, (u16)0u);
                         {
-                            l14 = (u64)(l29 + l37);
-                            if (((u64)(l29 + l31) - l14) == 2ull) {
+                            l14 = (u64)(l30 + l38);
+                            if (((u64)(l30 + l32) - l14) == 2ull) {
                                 l14 = l0 + (l14 << 3);
                                 functions_function_function_of(stack, l10 + 168ull, l14, l14 + 8ull);
-                                const u32 t450 = load8(l10 + 169u);
-                                l37 = t450;
-                                const u32 t451 = load8(l10 + 168u);
-                                l31 = t451;
-                                const u64 t452 = load64(l10 + 216u);
-                                store64(l19 + 8u, t452);
-                                const u64 t453 = load64(l10 + 208u);
-                                store64(l19, t453);
-                                const u64 t454 = load64(l19);
-                                store64(l10 + 248u, t454);
-                                const u64 t455 = load64(l19 + 8u);
-                                store64(l10 + 256u, t455);
+                                const u32 t451 = load8(l10 + 169u);
+                                l38 = t451;
+                                const u32 t452 = load8(l10 + 168u);
+                                l32 = t452;
+                                const u64 t453 = load64(l10 + 216u);
+                                store64(l19 + 8u, t453);
+                                const u64 t454 = load64(l10 + 208u);
+                                store64(l19, t454);
+                                const u64 t455 = load64(l19);
+                                store64(l10 + 248u, t455);
+                                const u64 t456 = load64(l19 + 8u);
+                                store64(l10 + 256u, t456);
                                 functions_arguments_Arguments_next(stack, l10 + 48ull, l10 + 248ull, l9);
-                                if (l31 == 0) goto L448;
-                                const u32 t456 = load32(l10 + 52u);
-                                l31 = t456;
-                                const u32 t457 = load32(l10 + 48u);
-                                l30 = t457;
-                                if ((1u << (l37 & 31)) & 33553399u) goto L448;
-                                if (l37 == 3u) {
-                                    l32 = l31 - l30;
-                                    goto L448;
+                                if (l32 == 0) goto L449;
+                                const u32 t457 = load32(l10 + 52u);
+                                l32 = t457;
+                                const u32 t458 = load32(l10 + 48u);
+                                l31 = t458;
+                                if ((1u << (l38 & 31)) & 33553399u) goto L449;
+                                if (l38 == 3u) {
+                                    l33 = l32 - l31;
+                                    goto L449;
                                 }
                                 store64(l10 + 200u, 0ull);
                                 store64(l10 + 192u, 0ull);
@@ -22540,149 +22543,149 @@ static void engine_turn(u64 stack, u64 l0, u64 l1, u64 l2, u64 l3, u64 l4, u64 l
                                 store64(l10 + 168u, 0ull);
                                 {
                                     {
-                                        u32 v461;
+                                        u32 v462;
                                         {
-                                            const u32 t462 = load32(l9 + 40ull);
-                                            l32 = t462;
-                                            if (l32 >= 8u) {
-                                                forms_work_Work_find_among_more(stack, l10 + 32ull, l9, l30, l31);
-                                                const u32 t464 = load32(l10 + 36u);
-                                                l32 = t464;
-                                                const u32 t465 = load8(l10 + 32u);
-                                                v461 = t465; goto L461;
+                                            const u32 t463 = load32(l9 + 40ull);
+                                            l33 = t463;
+                                            if (l33 >= 8u) {
+                                                forms_work_Work_find_among_more(stack, l10 + 32ull, l9, l31, l32);
+                                                const u32 t465 = load32(l10 + 36u);
+                                                l33 = t465;
+                                                const u32 t466 = load8(l10 + 32u);
+                                                v462 = t466; goto L462;
                                             }
                                             {
-                                                if (l32 == 0) goto L466;
-                                                const u64 t467 = load32(l0 + 4ull);
-                                                l15 = (u64)(l29 + l31);
-                                                l14 = (u64)(l29 + l30);
-                                                if (t467 != (l15 - l14)) goto L466;
+                                                if (l33 == 0) goto L467;
+                                                const u64 t468 = load32(l0 + 4ull);
+                                                l15 = (u64)(l30 + l32);
+                                                l14 = (u64)(l30 + l31);
+                                                if (t468 != (l15 - l14)) goto L467;
                                                 l2 = 17ull - (l14 << 3);
                                                 l14 = (l15 ^ 18446744073709551615ull) + l14;
                                                 l0 = l0 + (l15 << 3);
-                                                L468:;
+                                                L469:;
                                                 {
                                                     l14 = l14 + 1ull;
-                                                    if (l14 == 0) goto L460;
+                                                    if (l14 == 0) goto L461;
                                                     l15 = l0 - 7ull;
                                                     l12 = l0 + l2;
                                                     l0 = l0 - 8ull;
-                                                    const u32 t469 = load8(l12);
-                                                    const u32 t470 = load8(l15);
-                                                    if (t469 == t470) goto L468;
+                                                    const u32 t470 = load8(l12);
+                                                    const u32 t471 = load8(l15);
+                                                    if (t470 == t471) goto L469;
                                                 }
                                             }
-                                            L466:;
-                                            forms_work_Work_find_among_few(stack, l10 + 40ull, l9, l30, l31);
-                                            const u32 t471 = load32(l10 + 44u);
-                                            l32 = t471;
-                                            const u32 t472 = load8(l10 + 40u);
-                                            v461 = t472;
+                                            L467:;
+                                            forms_work_Work_find_among_few(stack, l10 + 40ull, l9, l31, l32);
+                                            const u32 t472 = load32(l10 + 44u);
+                                            l33 = t472;
+                                            const u32 t473 = load8(l10 + 40u);
+                                            v462 = t473;
                                         }
-                                        L461:;
-                                        if ((v461 & 255u) == 1u) goto L459;
-                                        l32 = 0u;
-                                        goto L448;
+                                        L462:;
+                                        if ((v462 & 255u) == 1u) goto L460;
+                                        l33 = 0u;
+                                        goto L449;
                                     }
-                                    L460:;
+                                    L461:;
                                     store64(l9 + 44ull, 0ull);
-                                    l32 = 0u;
+                                    l33 = 0u;
                                 }
-                                L459:;
-                                forms_work_Work_stored(stack, l10 + 168ull, l9, l32);
-                                const u64 t473 = load64(l10 + 192u);
-                                l15 = t473;
+                                L460:;
+                                forms_work_Work_stored(stack, l10 + 168ull, l9, l33);
+                                const u64 t474 = load64(l10 + 192u);
+                                l15 = t474;
                                 l12 = l15 & 4294967295ull;
                                 if (l12 == 0) {
-                                    l32 = 3u;
-                                    goto L448;
+                                    l33 = 3u;
+                                    goto L449;
                                 }
-                                const u64 t475 = load64(l10 + 184u);
-                                l14 = t475;
-                                l32 = 3u;
+                                const u64 t476 = load64(l10 + 184u);
+                                l14 = t476;
+                                l33 = 3u;
                                 l0 = 0ull;
-                                L476:;
+                                L477:;
                                 {
-                                    u32 v477;
+                                    u32 v478;
                                     {
                                         {
                                             {
                                                 {
                                                     if (l0 < l15) {
                                                         l2 = 0ull;
-                                                        const u64 t482 = load8(l14);
-                                                        switch ((u32)t482 - 1u) {
-                                                        case 0: goto L478;
-                                                        case 1: goto L478;
-                                                        case 2: goto L479;
-                                                        case 3: goto L478;
-                                                        default: goto L480;
+                                                        const u64 t483 = load8(l14);
+                                                        switch ((u32)t483 - 1u) {
+                                                        case 0: goto L479;
+                                                        case 1: goto L479;
+                                                        case 2: goto L480;
+                                                        case 3: goto L479;
+                                                        default: goto L481;
                                                         }
                                                     }
-                                                    v477 = 0u; goto L477;
+                                                    v478 = 0u; goto L478;
                                                 }
-                                                L480:;
-                                                v477 = 1u; goto L477;
+                                                L481:;
+                                                v478 = 1u; goto L478;
                                             }
-                                            L479:;
-                                            const u64 t483 = load32(l14 + 4ull);
-                                            l2 = t483;
+                                            L480:;
+                                            const u64 t484 = load32(l14 + 4ull);
+                                            l2 = t484;
                                         }
-                                        L478:;
-                                        const u64 t484 = itoa_integer_write_unsigned(stack, l2, l10 + 208ull);
-                                        v477 = 42u - (u32)t484;
+                                        L479:;
+                                        const u64 t485 = itoa_integer_write_unsigned(stack, l2, l10 + 208ull);
+                                        v478 = 42u - (u32)t485;
                                     }
-                                    L477:;
-                                    l29 = v477;
+                                    L478:;
+                                    l30 = v478;
                                     l14 = l14 + 8ull;
-                                    l32 = l29 + l32;
+                                    l33 = l30 + l33;
                                     l0 = l0 + 1ull;
-                                    if (l12 != l0) goto L476;
+                                    if (l12 != l0) goto L477;
                                 }
-                                goto L448;
+                                goto L449;
                             }
-                            const u64 t485 = load64(l10 + 216u);
-                            store64(l19 + 8u, t485);
-                            const u64 t486 = load64(l10 + 208u);
-                            store64(l19, t486);
-                            const u64 t487 = load64(l19);
-                            store64(l10 + 248u, t487);
-                            const u64 t488 = load64(l19 + 8u);
-                            store64(l10 + 256u, t488);
+                            const u64 t486 = load64(l10 + 216u);
+                            store64(l19 + 8u, t486);
+                            const u64 t487 = load64(l10 + 208u);
+                            store64(l19, t487);
+                            const u64 t488 = load64(l19);
+                            store64(l10 + 248u, t488);
+                            const u64 t489 = load64(l19 + 8u);
+                            store64(l10 + 256u, t489);
                             functions_arguments_Arguments_next(stack, l10 + 56ull, l10 + 248ull, l9);
                         }
-                        L448:;
-                        l0 = (u64)l32;
-                        if (l8 >= l0) goto L233;
-                        l45 = 8u;
+                        L449:;
+                        l0 = (u64)l33;
+                        if (l8 >= l0) goto L234;
+                        l46 = 8u;
                         l5 = l0;
                         goto L3;
                     }
-                    L233:;
-                    l29 = 1u;
+                    L234:;
+                    l30 = 1u;
                     {
-                        const u32 t490 = load8(l9 + 84ull);
-                        if (t490 == 1u) {
-                            const u32 t492 = load8(l9 + 85ull);
-                            l32 = t492;
-                            goto L489;
+                        const u32 t491 = load8(l9 + 84ull);
+                        if (t491 == 1u) {
+                            const u32 t493 = load8(l9 + 85ull);
+                            l33 = t493;
+                            goto L490;
                         }
-                        const u64 t493 = load64(l9 + 72ull);
-                        l8 = t493;
-                        const u64 t494 = load64(l9 + 64ull);
-                        if (l8 == t494) {
+                        const u64 t494 = load64(l9 + 72ull);
+                        l8 = t494;
+                        const u64 t495 = load64(l9 + 64ull);
+                        if (l8 == t495) {
                             store16(l9 + 84ull, (u16)769u);
-                            l32 = 3u;
-                            goto L489;
+                            l33 = 3u;
+                            goto L490;
                         }
-                        const u32 t496 = load32(l9 + 16ull);
-                        l37 = t496;
+                        const u32 t497 = load32(l9 + 16ull);
+                        l38 = t497;
                         l0 = l9 + 20ull;
                         {
                             {
                                 {
                                     {
-                                        u32 v501;
+                                        u32 v502;
                                         {
                                             {
                                                 {
@@ -22694,72 +22697,72 @@ static void engine_turn(u64 stack, u64 l0, u64 l1, u64 l2, u64 l3, u64 l4, u64 l
                                                                         {
                                                                             {
                                                                                 {
-                                                                                    const u32 t512 = load32(l9 + 24ull);
-                                                                                    l29 = t512;
-                                                                                    if (l29) {
-                                                                                        const u32 t514 = load32(l0);
-                                                                                        l44 = t514;
-                                                                                        l30 = l44 + l37;
-                                                                                        const u32 t515 = load32(l9 + 60ull);
-                                                                                        l41 = t515;
-                                                                                        const u64 t516 = load64(l9);
-                                                                                        l0 = t516;
-                                                                                        const u32 t517 = load32(l9 + 28ull);
-                                                                                        const u32 t518 = load8((l0 + ((u64)(t517 - l29) << 3)) + 1ull);
-                                                                                        l32 = t518;
-                                                                                        if (l32 == 41u) {
-                                                                                            const u32 t520 = load32(l9 + 32ull);
-                                                                                            l34 = t520;
-                                                                                            if (l34) goto L511;
-                                                                                            store32(l9 + 24ull, l29 - 1u);
-                                                                                            goto L508;
+                                                                                    const u32 t513 = load32(l9 + 24ull);
+                                                                                    l30 = t513;
+                                                                                    if (l30) {
+                                                                                        const u32 t515 = load32(l0);
+                                                                                        l45 = t515;
+                                                                                        l31 = l45 + l38;
+                                                                                        const u32 t516 = load32(l9 + 60ull);
+                                                                                        l42 = t516;
+                                                                                        const u64 t517 = load64(l9);
+                                                                                        l0 = t517;
+                                                                                        const u32 t518 = load32(l9 + 28ull);
+                                                                                        const u32 t519 = load8((l0 + ((u64)(t518 - l30) << 3)) + 1ull);
+                                                                                        l33 = t519;
+                                                                                        if (l33 == 41u) {
+                                                                                            const u32 t521 = load32(l9 + 32ull);
+                                                                                            l35 = t521;
+                                                                                            if (l35) goto L512;
+                                                                                            store32(l9 + 24ull, l30 - 1u);
+                                                                                            goto L509;
                                                                                         }
                                                                                         store32(l10 + 144u, 0u);
-                                                                                        store32(l10 + 208u, l41);
+                                                                                        store32(l10 + 208u, l42);
                                                                                         {
                                                                                             {
                                                                                                 {
                                                                                                     {
-                                                                                                        switch (l32 - 13u) {
-                                                                                                        case 0: goto L521;
-                                                                                                        case 22: goto L523;
-                                                                                                        case 27: goto L510;
-                                                                                                        case 31: goto L524;
-                                                                                                        default: goto L522;
+                                                                                                        switch (l33 - 13u) {
+                                                                                                        case 0: goto L522;
+                                                                                                        case 22: goto L524;
+                                                                                                        case 27: goto L511;
+                                                                                                        case 31: goto L525;
+                                                                                                        default: goto L523;
                                                                                                         }
                                                                                                     }
-                                                                                                    L524:;
+                                                                                                    L525:;
                                                                                                     (void)core_scan_begin_argument(stack, l9, 1ull, l10 + 208ull, 0u);
-                                                                                                    goto L509;
+                                                                                                    goto L510;
                                                                                                 }
-                                                                                                L523:;
+                                                                                                L524:;
                                                                                                 (void)core_scan_number_sign(stack, l9, 1ull, l10 + 208ull, 0u);
-                                                                                                goto L509;
+                                                                                                goto L510;
                                                                                             }
-                                                                                            L522:;
-                                                                                            if (((l32 - 9u) & 255u) < 2u) goto L521;
+                                                                                            L523:;
+                                                                                            if (((l33 - 9u) & 255u) < 2u) goto L522;
                                                                                             (void)core_scan_add_characters(stack, l9, 1ull, l10 + 208ull, l10 + 144ull);
-                                                                                            goto L509;
+                                                                                            goto L510;
                                                                                         }
-                                                                                        L521:;
-                                                                                        store32(l9 + 24ull, l29 - 1u);
-                                                                                        goto L509;
+                                                                                        L522:;
+                                                                                        store32(l9 + 24ull, l30 - 1u);
+                                                                                        goto L510;
                                                                                     }
                                                                                     store32(l9 + 32ull, 0u);
                                                                                     store32(l0, 0u);
-                                                                                    l29 = 11u;
-                                                                                    const u32 t528 = load32(l9 + 28ull);
-                                                                                    l32 = t528;
-                                                                                    if ((l32 - l37) <= 10u) {
-                                                                                        const u32 t530 = space_space_Space_try_claim_spare(stack, l9, 11ull);
-                                                                                        if (t530 == 0) goto L500;
-                                                                                        const u32 t531 = load32(l9 + 24ull);
-                                                                                        l29 = t531 + 11u;
-                                                                                        const u32 t532 = load32(l9 + 28ull);
-                                                                                        l32 = t532;
+                                                                                    l30 = 11u;
+                                                                                    const u32 t529 = load32(l9 + 28ull);
+                                                                                    l33 = t529;
+                                                                                    if ((l33 - l38) <= 10u) {
+                                                                                        const u32 t531 = space_space_Space_try_claim_spare(stack, l9, 11ull);
+                                                                                        if (t531 == 0) goto L501;
+                                                                                        const u32 t532 = load32(l9 + 24ull);
+                                                                                        l30 = t532 + 11u;
+                                                                                        const u32 t533 = load32(l9 + 28ull);
+                                                                                        l33 = t533;
                                                                                     }
-                                                                                    const u64 t533 = load64(l9);
-                                                                                    l8 = t533 + ((u64)(l32 - l29) << 3);
+                                                                                    const u64 t534 = load64(l9);
+                                                                                    l8 = t534 + ((u64)(l33 - l30) << 3);
                                                                                     store64(l8 + 56u, 0ull);
                                                                                     store64(l8 + 48u, 0ull);
                                                                                     store64(l8 + 40u, 0ull);
@@ -22782,312 +22785,312 @@ static void engine_turn(u64 stack, u64 l0, u64 l1, u64 l2, u64 l3, u64 l4, u64 l
                                                                                     store8(l8 + 17ull, (u8)112u);
                                                                                     store8(l8 + 9ull, (u8)40u);
                                                                                     store8(l8 + 1ull, (u8)35u);
-                                                                                    store32(l9 + 24ull, l29);
-                                                                                    const u32 t534 = load32(l9 + 20ull);
-                                                                                    l31 = t534;
-                                                                                    const u32 t535 = load32(l9 + 16ull);
-                                                                                    v501 = l31 + (t535 + l29); goto L501;
+                                                                                    store32(l9 + 24ull, l30);
+                                                                                    const u32 t535 = load32(l9 + 20ull);
+                                                                                    l32 = t535;
+                                                                                    const u32 t536 = load32(l9 + 16ull);
+                                                                                    v502 = l32 + (t536 + l30); goto L502;
                                                                                 }
-                                                                                L511:;
-                                                                                l29 = l29 - 1u;
-                                                                                store32(l9 + 24ull, l29);
+                                                                                L512:;
+                                                                                l30 = l30 - 1u;
+                                                                                store32(l9 + 24ull, l30);
                                                                                 store64(l10 + 264u, 0ull);
                                                                                 store64(l10 + 144u, 0ull);
                                                                                 store64(l10 + 152u, 0ull);
                                                                                 store64(l10 + 248u, 0ull);
                                                                                 store64(l10 + 256u, 0ull);
-                                                                                l31 = l34 - 1u;
-                                                                                const u32 t536 = load8((l0 + ((u64)(l31 + l37) << 3)) + 1ull);
-                                                                                l32 = t536;
+                                                                                l32 = l35 - 1u;
+                                                                                const u32 t537 = load8((l0 + ((u64)(l32 + l38) << 3)) + 1ull);
+                                                                                l33 = t537;
                                                                                 store8(l10 + 210u, (u8)0u);
                                                                                 store16(l10 + 208u, (u16)0u);
                                                                                 {
-                                                                                    l8 = (u64)(l34 + l37);
-                                                                                    l14 = (u64)l30 - l8;
-                                                                                    if (l14 < 2ull) goto L537;
+                                                                                    l8 = (u64)(l35 + l38);
+                                                                                    l14 = (u64)l31 - l8;
+                                                                                    if (l14 < 2ull) goto L538;
                                                                                     l8 = l0 + (l8 << 3);
                                                                                     if (l14 != 2ull) {
-                                                                                        const u32 t539 = load8(l8 + 16ull);
-                                                                                        if (t539 != 2u) goto L537;
+                                                                                        const u32 t540 = load8(l8 + 16ull);
+                                                                                        if (t540 != 2u) goto L538;
                                                                                     }
                                                                                     functions_function_function_of(stack, l10 + 208ull, l8, l8 + 8ull);
-                                                                                    const u32 t540 = load8(l10 + 208u);
-                                                                                    if (t540 != 1u) goto L537;
-                                                                                    l32 = l32 == 0;
-                                                                                    l42 = l34 + 3u;
+                                                                                    const u32 t541 = load8(l10 + 208u);
+                                                                                    if (t541 != 1u) goto L538;
+                                                                                    l33 = l33 == 0;
+                                                                                    l43 = l35 + 3u;
                                                                                     {
                                                                                         {
                                                                                             {
                                                                                                 {
                                                                                                     {
                                                                                                         {
-                                                                                                            const u32 t547 = load8(l10 + 209u);
-                                                                                                            l40 = t547;
-                                                                                                            switch (l40 - 1u) {
-                                                                                                            case 0: goto L546;
-                                                                                                            case 1: goto L543;
-                                                                                                            case 2: goto L545;
-                                                                                                            case 3: goto L543;
-                                                                                                            case 4: goto L543;
-                                                                                                            case 5: goto L543;
-                                                                                                            case 6: goto L543;
-                                                                                                            case 7: goto L543;
-                                                                                                            case 8: goto L543;
-                                                                                                            case 9: goto L544;
-                                                                                                            case 10: goto L543;
-                                                                                                            case 11: goto L543;
-                                                                                                            case 12: goto L543;
-                                                                                                            case 13: goto L543;
-                                                                                                            case 14: goto L543;
-                                                                                                            case 15: goto L543;
-                                                                                                            case 16: goto L543;
-                                                                                                            case 17: goto L543;
-                                                                                                            case 18: goto L543;
-                                                                                                            case 19: goto L543;
-                                                                                                            case 20: goto L543;
-                                                                                                            case 21: goto L543;
-                                                                                                            case 22: goto L543;
-                                                                                                            case 23: goto L543;
-                                                                                                            default: goto L542;
+                                                                                                            const u32 t548 = load8(l10 + 209u);
+                                                                                                            l41 = t548;
+                                                                                                            switch (l41 - 1u) {
+                                                                                                            case 0: goto L547;
+                                                                                                            case 1: goto L544;
+                                                                                                            case 2: goto L546;
+                                                                                                            case 3: goto L544;
+                                                                                                            case 4: goto L544;
+                                                                                                            case 5: goto L544;
+                                                                                                            case 6: goto L544;
+                                                                                                            case 7: goto L544;
+                                                                                                            case 8: goto L544;
+                                                                                                            case 9: goto L545;
+                                                                                                            case 10: goto L544;
+                                                                                                            case 11: goto L544;
+                                                                                                            case 12: goto L544;
+                                                                                                            case 13: goto L544;
+                                                                                                            case 14: goto L544;
+                                                                                                            case 15: goto L544;
+                                                                                                            case 16: goto L544;
+                                                                                                            case 17: goto L544;
+                                                                                                            case 18: goto L544;
+                                                                                                            case 19: goto L544;
+                                                                                                            case 20: goto L544;
+                                                                                                            case 21: goto L544;
+                                                                                                            case 22: goto L544;
+                                                                                                            case 23: goto L544;
+                                                                                                            default: goto L543;
                                                                                                             }
                                                                                                         }
-                                                                                                        L546:;
+                                                                                                        L547:;
                                                                                                         l1 = l10 + 264ull;
                                                                                                         l0 = l9;
-                                                                                                        l14 = l10 + 112ull;
+                                                                                                        l12 = l10 + 112ull;
                                                                                                         l2 = stack - 16ull;
                                                                                                         stack = l2;
-                                                                                                        u32 v548;
+                                                                                                        u32 v549;
                                                                                                         {
                                                                                                             {
                                                                                                                 {
-                                                                                                                    l35 = 4u;
-                                                                                                                    const u32 t551 = load8(l14 + 17ull);
-                                                                                                                    if (t551) { v548 = 1u; goto L548; }
+                                                                                                                    l36 = 4u;
+                                                                                                                    const u32 t552 = load8(l12 + 17ull);
+                                                                                                                    if (t552) { v549 = 1u; goto L549; }
                                                                                                                     {
-                                                                                                                        const u64 t553 = load64(l14 + 8u);
-                                                                                                                        l15 = t553;
+                                                                                                                        const u64 t554 = load64(l12 + 8u);
+                                                                                                                        l15 = t554;
                                                                                                                         if (l15 == 0) {
-                                                                                                                            const u32 t555 = load8(l14 + 16ull);
-                                                                                                                            if (t555) goto L552;
-                                                                                                                            store8(l14 + 17ull, (u8)1u);
-                                                                                                                            v548 = 1u; goto L548;
+                                                                                                                            const u32 t556 = load8(l12 + 16ull);
+                                                                                                                            if (t556) goto L553;
+                                                                                                                            store8(l12 + 17ull, (u8)1u);
+                                                                                                                            v549 = 1u; goto L549;
                                                                                                                         }
-                                                                                                                        store64(l14 + 8u, l15 - 1ull);
-                                                                                                                        const u64 t556 = load64(l14);
-                                                                                                                        l15 = t556;
-                                                                                                                        store64(l14, l15 + 1ull);
-                                                                                                                        const u32 t557 = load8(l15);
-                                                                                                                        l35 = t557;
+                                                                                                                        store64(l12 + 8u, l15 - 1ull);
+                                                                                                                        const u64 t557 = load64(l12);
+                                                                                                                        l15 = t557;
+                                                                                                                        store64(l12, l15 + 1ull);
+                                                                                                                        const u32 t558 = load8(l15);
+                                                                                                                        l36 = t558;
                                                                                                                         store64(l2 + 8u, 0ull);
-                                                                                                                        store8(l2 + 9u, (u8)l35);
-                                                                                                                        const u32 t558 = load32(l0 + 28ull);
-                                                                                                                        l14 = l0 + 20ull;
-                                                                                                                        const u32 t559 = load32(l14);
-                                                                                                                        l33 = t559;
-                                                                                                                        const u32 t560 = load32(l0 + 16ull);
-                                                                                                                        l38 = l33 + t560;
-                                                                                                                        const u32 t561 = load32(l0 + 24ull);
-                                                                                                                        if (t558 != (l38 + t561)) {
+                                                                                                                        store8(l2 + 9u, (u8)l36);
+                                                                                                                        const u32 t559 = load32(l0 + 28ull);
+                                                                                                                        l12 = l0 + 20ull;
+                                                                                                                        const u32 t560 = load32(l12);
+                                                                                                                        l34 = t560;
+                                                                                                                        const u32 t561 = load32(l0 + 16ull);
+                                                                                                                        l39 = l34 + t561;
+                                                                                                                        const u32 t562 = load32(l0 + 24ull);
+                                                                                                                        if (t559 != (l39 + t562)) {
                                                                                                                             l15 = l0 + 32ull;
-                                                                                                                            const u32 t563 = load32(l15);
-                                                                                                                            l32 = t563;
-                                                                                                                            const u64 t564 = load64(l0);
-                                                                                                                            l0 = t564 + ((u64)l38 << 3);
+                                                                                                                            const u32 t564 = load32(l15);
+                                                                                                                            l33 = t564;
+                                                                                                                            const u64 t565 = load64(l0);
+                                                                                                                            l0 = t565 + ((u64)l39 << 3);
                                                                                                                             store8(l0, (u8)0u);
                                                                                                                             store32(l0 + 4ull, 0u);
-                                                                                                                            store8(l0 + 1ull, (u8)l35);
-                                                                                                                            store32(l14, l33 + 1u);
-                                                                                                                            store32(l15, l32);
-                                                                                                                            goto L549;
+                                                                                                                            store8(l0 + 1ull, (u8)l36);
+                                                                                                                            store32(l12, l34 + 1u);
+                                                                                                                            store32(l15, l33);
+                                                                                                                            goto L550;
                                                                                                                         }
-                                                                                                                        const u32 t565 = space_space_Space_push_over_spare(stack, l0, l2 + 8ull);
-                                                                                                                        if (t565) goto L549;
-                                                                                                                        l35 = 0u;
-                                                                                                                        v548 = 0u; goto L548;
+                                                                                                                        const u32 t566 = space_space_Space_push_over_spare(stack, l0, l2 + 8ull);
+                                                                                                                        if (t566) goto L550;
+                                                                                                                        l36 = 0u;
+                                                                                                                        v549 = 0u; goto L549;
                                                                                                                     }
-                                                                                                                    L552:;
-                                                                                                                    l14 = l14 + 24ull;
-                                                                                                                    const u64 t566 = load64(l14);
-                                                                                                                    store64(l14, t566 + 1ull);
-                                                                                                                    v548 = 4u; goto L548;
+                                                                                                                    L553:;
+                                                                                                                    l12 = l12 + 24ull;
+                                                                                                                    const u64 t567 = load64(l12);
+                                                                                                                    store64(l12, t567 + 1ull);
+                                                                                                                    v549 = 4u; goto L549;
                                                                                                                 }
                                                                                                                 trap();
                                                                                                             }
-                                                                                                            L549:;
-                                                                                                            l35 = 1u;
-                                                                                                            v548 = 0u;
+                                                                                                            L550:;
+                                                                                                            l36 = 1u;
+                                                                                                            v549 = 0u;
                                                                                                         }
-                                                                                                        L548:;
-                                                                                                        l33 = v548;
-                                                                                                        store8(l1, (u8)l35);
+                                                                                                        L549:;
+                                                                                                        l34 = v549;
+                                                                                                        store8(l1, (u8)l36);
                                                                                                         store32(l1 + 4ull, 0u);
-                                                                                                        store8(l1 + 1ull, (u8)l33);
+                                                                                                        store8(l1 + 1ull, (u8)l34);
                                                                                                         stack = l2 + 16ull;
-                                                                                                        goto L541;
+                                                                                                        goto L542;
                                                                                                     }
-                                                                                                    L545:;
+                                                                                                    L546:;
                                                                                                     store16(l24, (u16)0u);
                                                                                                     store8(l24 + 2u, (u8)0u);
-                                                                                                    store8(l10 + 156u, (u8)l32);
-                                                                                                    store32(l10 + 152u, l41);
-                                                                                                    store32(l10 + 148u, l44);
-                                                                                                    store32(l10 + 144u, l42);
-                                                                                                    l14 = l10 + 264ull;
+                                                                                                    store8(l10 + 156u, (u8)l33);
+                                                                                                    store32(l10 + 152u, l42);
+                                                                                                    store32(l10 + 148u, l45);
+                                                                                                    store32(l10 + 144u, l43);
+                                                                                                    l12 = l10 + 264ull;
                                                                                                     l1 = l9;
-                                                                                                    l8 = l10 + 144ull;
-                                                                                                    l16 = l10 + 72ull;
+                                                                                                    l11 = l10 + 144ull;
+                                                                                                    l8 = l10 + 72ull;
                                                                                                     l2 = stack - 32ull;
                                                                                                     stack = l2;
                                                                                                     {
                                                                                                         l0 = l2;
                                                                                                         {
-                                                                                                            const u64 t569 = load64(l8 + 8u);
-                                                                                                            store64(l0 + 24u, t569);
-                                                                                                            const u64 t570 = load64(l8);
-                                                                                                            store64(l0 + 16u, t570);
+                                                                                                            const u64 t570 = load64(l11 + 8u);
+                                                                                                            store64(l0 + 24u, t570);
+                                                                                                            const u64 t571 = load64(l11);
+                                                                                                            store64(l0 + 16u, t571);
                                                                                                             functions_arguments_Arguments_next(stack, l0 + 8ull, l0 + 16ull, l1);
-                                                                                                            l32 = 3u;
-                                                                                                            u32 v571;
+                                                                                                            l33 = 3u;
+                                                                                                            u32 v572;
                                                                                                             {
-                                                                                                                const u32 t572 = load32(l0 + 12u);
-                                                                                                                l33 = t572;
-                                                                                                                const u32 t573 = load32(l0 + 8u);
-                                                                                                                l38 = t573;
-                                                                                                                if (l33 == l38) { v571 = 0u; goto L571; }
-                                                                                                                const u64 t574 = load64(l1);
-                                                                                                                const u32 t575 = load32(l1 + 16ull);
-                                                                                                                const u32 t576 = l38;
-                                                                                                                l38 = t575;
-                                                                                                                l11 = (u64)(t576 + l38);
-                                                                                                                l8 = t574 + (l11 << 3);
+                                                                                                                const u32 t573 = load32(l0 + 12u);
+                                                                                                                l34 = t573;
+                                                                                                                const u32 t574 = load32(l0 + 8u);
+                                                                                                                l39 = t574;
+                                                                                                                if (l34 == l39) { v572 = 0u; goto L572; }
+                                                                                                                const u64 t575 = load64(l1);
+                                                                                                                const u32 t576 = load32(l1 + 16ull);
+                                                                                                                const u32 t577 = l39;
+                                                                                                                l39 = t576;
+                                                                                                                l14 = (u64)(t577 + l39);
+                                                                                                                l11 = t575 + (l14 << 3);
                                                                                                                 {
-                                                                                                                    l15 = (u64)(l33 + l38);
-                                                                                                                    l1 = l15 - l11;
+                                                                                                                    l15 = (u64)(l34 + l39);
+                                                                                                                    l1 = l15 - l14;
                                                                                                                     if (l1 <= 15ull) {
                                                                                                                         {
-                                                                                                                            L580:;
+                                                                                                                            L581:;
                                                                                                                             {
-                                                                                                                                l33 = 0u;
-                                                                                                                                const u32 t581 = load8(l8);
-                                                                                                                                if (t581 == 0) {
-                                                                                                                                    const u32 t583 = load8(l8 + 1ull);
-                                                                                                                                    l33 = t583;
+                                                                                                                                l34 = 0u;
+                                                                                                                                const u32 t582 = load8(l11);
+                                                                                                                                if (t582 == 0) {
+                                                                                                                                    const u32 t584 = load8(l11 + 1ull);
+                                                                                                                                    l34 = t584;
                                                                                                                                 }
                                                                                                                                 {
-                                                                                                                                    l2 = l16 + 16ull;
-                                                                                                                                    const u64 t585 = load64(l2);
-                                                                                                                                    l11 = t585;
-                                                                                                                                    const u64 t586 = load64(l16 + 8ull);
-                                                                                                                                    if (l11 < t586) {
-                                                                                                                                        const u64 t588 = load64(l16);
-                                                                                                                                        store8(t588 + l11, (u8)l33);
-                                                                                                                                        const u64 t589 = load64(l2);
-                                                                                                                                        store64(l2, t589 + 1ull);
-                                                                                                                                        goto L584;
+                                                                                                                                    l2 = l8 + 16ull;
+                                                                                                                                    const u64 t586 = load64(l2);
+                                                                                                                                    l14 = t586;
+                                                                                                                                    const u64 t587 = load64(l8 + 8ull);
+                                                                                                                                    if (l14 < t587) {
+                                                                                                                                        const u64 t589 = load64(l8);
+                                                                                                                                        store8(t589 + l14, (u8)l34);
+                                                                                                                                        const u64 t590 = load64(l2);
+                                                                                                                                        store64(l2, t590 + 1ull);
+                                                                                                                                        goto L585;
                                                                                                                                     }
-                                                                                                                                    l2 = l16 + 24ull;
-                                                                                                                                    const u32 t590 = load8(l2);
-                                                                                                                                    if (t590 == 1u) goto L579;
-                                                                                                                                    store8(l16 + 25ull, (u8)l33);
+                                                                                                                                    l2 = l8 + 24ull;
+                                                                                                                                    const u32 t591 = load8(l2);
+                                                                                                                                    if (t591 == 1u) goto L580;
+                                                                                                                                    store8(l8 + 25ull, (u8)l34);
                                                                                                                                     store8(l2, (u8)1u);
                                                                                                                                 }
-                                                                                                                                L584:;
-                                                                                                                                l8 = l8 + 8ull;
+                                                                                                                                L585:;
+                                                                                                                                l11 = l11 + 8ull;
                                                                                                                                 l1 = l1 - 1ull;
-                                                                                                                                if ((l1 == 0) == 0) goto L580;
+                                                                                                                                if ((l1 == 0) == 0) goto L581;
                                                                                                                             }
-                                                                                                                            v571 = 0u; goto L571;
+                                                                                                                            v572 = 0u; goto L572;
                                                                                                                         }
-                                                                                                                        L579:;
-                                                                                                                        l16 = l16 + 32ull;
-                                                                                                                        const u64 t591 = load64(l16);
-                                                                                                                        store64(l16, t591 + 1ull);
-                                                                                                                        goto L577;
+                                                                                                                        L580:;
+                                                                                                                        l8 = l8 + 32ull;
+                                                                                                                        const u64 t592 = load64(l8);
+                                                                                                                        store64(l8, t592 + 1ull);
+                                                                                                                        goto L578;
                                                                                                                     }
-                                                                                                                    l2 = l16 + 16ull;
-                                                                                                                    const u64 t592 = load64(l2);
-                                                                                                                    const u64 t593 = load64(l16);
-                                                                                                                    const u64 t594 = load64(l16 + 8ull);
-                                                                                                                    const u64 t595 = c_filling_put_characters(stack, l8, l1, t592, t593, t594);
-                                                                                                                    l12 = t595;
-                                                                                                                    const u64 t596 = load64(l2);
-                                                                                                                    const u64 t597 = l2;
-                                                                                                                    l2 = l12 + t596;
-                                                                                                                    store64(t597, l2);
-                                                                                                                    if (l1 == l12) { v571 = 0u; goto L571; }
-                                                                                                                    l8 = l8 + (l12 << 3);
-                                                                                                                    l1 = (l11 + l12) - l15;
+                                                                                                                    l2 = l8 + 16ull;
+                                                                                                                    const u64 t593 = load64(l2);
+                                                                                                                    const u64 t594 = load64(l8);
+                                                                                                                    const u64 t595 = load64(l8 + 8ull);
+                                                                                                                    const u64 t596 = c_filling_put_characters(stack, l11, l1, t593, t594, t595);
+                                                                                                                    l16 = t596;
+                                                                                                                    const u64 t597 = load64(l2);
+                                                                                                                    const u64 t598 = l2;
+                                                                                                                    l2 = l16 + t597;
+                                                                                                                    store64(t598, l2);
+                                                                                                                    if (l1 == l16) { v572 = 0u; goto L572; }
+                                                                                                                    l11 = l11 + (l16 << 3);
+                                                                                                                    l1 = (l14 + l16) - l15;
                                                                                                                     {
-                                                                                                                        L599:;
+                                                                                                                        L600:;
                                                                                                                         {
-                                                                                                                            l33 = 0u;
-                                                                                                                            const u32 t600 = load8(l8);
-                                                                                                                            if (t600 == 0) {
-                                                                                                                                const u32 t602 = load8(l8 + 1ull);
-                                                                                                                                l33 = t602;
+                                                                                                                            l34 = 0u;
+                                                                                                                            const u32 t601 = load8(l11);
+                                                                                                                            if (t601 == 0) {
+                                                                                                                                const u32 t603 = load8(l11 + 1ull);
+                                                                                                                                l34 = t603;
                                                                                                                             }
                                                                                                                             {
-                                                                                                                                const u64 t604 = load64(l16 + 8ull);
-                                                                                                                                if (t604 > l2) {
-                                                                                                                                    const u64 t606 = load64(l16);
-                                                                                                                                    store8(t606 + l2, (u8)l33);
-                                                                                                                                    l2 = l16 + 16ull;
-                                                                                                                                    const u64 t607 = load64(l2);
-                                                                                                                                    const u64 t608 = l2;
-                                                                                                                                    l2 = t607 + 1ull;
-                                                                                                                                    store64(t608, l2);
-                                                                                                                                    goto L603;
+                                                                                                                                const u64 t605 = load64(l8 + 8ull);
+                                                                                                                                if (t605 > l2) {
+                                                                                                                                    const u64 t607 = load64(l8);
+                                                                                                                                    store8(t607 + l2, (u8)l34);
+                                                                                                                                    l2 = l8 + 16ull;
+                                                                                                                                    const u64 t608 = load64(l2);
+                                                                                                                                    const u64 t609 = l2;
+                                                                                                                                    l2 = t608 + 1ull;
+                                                                                                                                    store64(t609, l2);
+                                                                                                                                    goto L604;
                                                                                                                                 }
-                                                                                                                                l11 = l16 + 24ull;
-                                                                                                                                const u32 t609 = load8(l11);
-                                                                                                                                if (t609 == 1u) goto L598;
-                                                                                                                                store8(l16 + 25ull, (u8)l33);
-                                                                                                                                store8(l11, (u8)1u);
+                                                                                                                                l14 = l8 + 24ull;
+                                                                                                                                const u32 t610 = load8(l14);
+                                                                                                                                if (t610 == 1u) goto L599;
+                                                                                                                                store8(l8 + 25ull, (u8)l34);
+                                                                                                                                store8(l14, (u8)1u);
                                                                                                                             }
-                                                                                                                            L603:;
-                                                                                                                            l8 = l8 + 8ull;
+                                                                                                                            L604:;
+                                                                                                                            l11 = l11 + 8ull;
                                                                                                                             l1 = l1 + 1ull;
-                                                                                                                            if ((l1 == 0) == 0) goto L599;
+                                                                                                                            if ((l1 == 0) == 0) goto L600;
                                                                                                                         }
-                                                                                                                        v571 = 0u; goto L571;
+                                                                                                                        v572 = 0u; goto L572;
                                                                                                                     }
-                                                                                                                    L598:;
-                                                                                                                    l16 = l16 + 32ull;
-                                                                                                                    const u64 t610 = load64(l16);
-                                                                                                                    store64(l16, t610 + 1ull);
+                                                                                                                    L599:;
+                                                                                                                    l8 = l8 + 32ull;
+                                                                                                                    const u64 t611 = load64(l8);
+                                                                                                                    store64(l8, t611 + 1ull);
                                                                                                                 }
-                                                                                                                L577:;
-                                                                                                                l32 = 4u;
-                                                                                                                v571 = 5u;
+                                                                                                                L578:;
+                                                                                                                l33 = 4u;
+                                                                                                                v572 = 5u;
                                                                                                             }
-                                                                                                            L571:;
-                                                                                                            l33 = v571;
-                                                                                                            store8(l14, (u8)l32);
-                                                                                                            store32(l14 + 4ull, 0u);
-                                                                                                            store8(l14 + 1ull, (u8)l33);
+                                                                                                            L572:;
+                                                                                                            l34 = v572;
+                                                                                                            store8(l12, (u8)l33);
+                                                                                                            store32(l12 + 4ull, 0u);
+                                                                                                            store8(l12 + 1ull, (u8)l34);
                                                                                                             stack = l0 + 32ull;
-                                                                                                            goto L567;
+                                                                                                            goto L568;
                                                                                                         }
                                                                                                         trap();
                                                                                                     }
-                                                                                                    L567:;
-                                                                                                    goto L541;
+                                                                                                    L568:;
+                                                                                                    goto L542;
                                                                                                 }
-                                                                                                L544:;
+                                                                                                L545:;
                                                                                                 store16(l25, (u16)0u);
                                                                                                 store8(l25 + 2u, (u8)0u);
-                                                                                                store8(l10 + 260u, (u8)l32);
-                                                                                                store32(l10 + 256u, l41);
-                                                                                                store32(l10 + 252u, l44);
-                                                                                                store32(l10 + 248u, l42);
+                                                                                                store8(l10 + 260u, (u8)l33);
+                                                                                                store32(l10 + 256u, l42);
+                                                                                                store32(l10 + 252u, l45);
+                                                                                                store32(l10 + 248u, l43);
                                                                                                 l15 = l10 + 264ull;
                                                                                                 l0 = l9;
-                                                                                                l11 = l10 + 248ull;
-                                                                                                l12 = l10 + 72ull;
-                                                                                                l16 = stack - 80ull;
-                                                                                                stack = l16;
-                                                                                                u32 v611;
+                                                                                                l14 = l10 + 248ull;
+                                                                                                l16 = l10 + 72ull;
+                                                                                                l8 = stack - 80ull;
+                                                                                                stack = l8;
+                                                                                                u32 v612;
                                                                                                 {
                                                                                                     {
                                                                                                         {
@@ -23095,226 +23098,226 @@ static void engine_turn(u64 stack, u64 l0, u64 l1, u64 l2, u64 l3, u64 l4, u64 l
                                                                                                                 {
                                                                                                                     {
                                                                                                                         {
-                                                                                                                            const u64 t618 = load64(l11 + 8u);
-                                                                                                                            store64(l16 + 32u, t618);
-                                                                                                                            const u64 t619 = load64(l11);
-                                                                                                                            store64(l16 + 24u, t619);
-                                                                                                                            functions_arguments_Arguments_next(stack, l16 + 16ull, l16 + 24ull, l0);
-                                                                                                                            const u32 t620 = load32(l16 + 20u);
-                                                                                                                            l38 = t620;
-                                                                                                                            const u32 t621 = load32(l16 + 16u);
-                                                                                                                            l33 = t621;
-                                                                                                                            store64(l16 + 72u, 0ull);
-                                                                                                                            store64(l16 + 64u, 0ull);
-                                                                                                                            store64(l16 + 56u, 0ull);
-                                                                                                                            store64(l16 + 48u, 0ull);
-                                                                                                                            store64(l16 + 40u, 0ull);
-                                                                                                                            u32 v622;
+                                                                                                                            const u64 t619 = load64(l14 + 8u);
+                                                                                                                            store64(l8 + 32u, t619);
+                                                                                                                            const u64 t620 = load64(l14);
+                                                                                                                            store64(l8 + 24u, t620);
+                                                                                                                            functions_arguments_Arguments_next(stack, l8 + 16ull, l8 + 24ull, l0);
+                                                                                                                            const u32 t621 = load32(l8 + 20u);
+                                                                                                                            l39 = t621;
+                                                                                                                            const u32 t622 = load32(l8 + 16u);
+                                                                                                                            l34 = t622;
+                                                                                                                            store64(l8 + 72u, 0ull);
+                                                                                                                            store64(l8 + 64u, 0ull);
+                                                                                                                            store64(l8 + 56u, 0ull);
+                                                                                                                            store64(l8 + 48u, 0ull);
+                                                                                                                            store64(l8 + 40u, 0ull);
+                                                                                                                            u32 v623;
                                                                                                                             {
-                                                                                                                                const u32 t623 = load32(l0 + 40ull);
-                                                                                                                                l32 = t623;
-                                                                                                                                if (l32 >= 8u) {
-                                                                                                                                    forms_work_Work_find_among_more(stack, l16, l0, l33, l38);
-                                                                                                                                    const u32 t625 = load32(l16 + 4u);
-                                                                                                                                    l33 = t625;
-                                                                                                                                    const u32 t626 = load8(l16);
-                                                                                                                                    v622 = t626; goto L622;
+                                                                                                                                const u32 t624 = load32(l0 + 40ull);
+                                                                                                                                l33 = t624;
+                                                                                                                                if (l33 >= 8u) {
+                                                                                                                                    forms_work_Work_find_among_more(stack, l8, l0, l34, l39);
+                                                                                                                                    const u32 t626 = load32(l8 + 4u);
+                                                                                                                                    l34 = t626;
+                                                                                                                                    const u32 t627 = load8(l8);
+                                                                                                                                    v623 = t627; goto L623;
                                                                                                                                 }
                                                                                                                                 {
-                                                                                                                                    if (l32 == 0) goto L627;
-                                                                                                                                    const u64 t628 = load64(l0);
-                                                                                                                                    l14 = t628;
-                                                                                                                                    const u64 t629 = load32(l14 + 4ull);
-                                                                                                                                    const u32 t630 = load32(l0 + 16ull);
-                                                                                                                                    l32 = t630;
-                                                                                                                                    l11 = (u64)(l32 + l38);
-                                                                                                                                    l8 = (u64)(l32 + l33);
-                                                                                                                                    if (t629 != (l11 - l8)) goto L627;
-                                                                                                                                    l2 = 17ull - (l8 << 3);
-                                                                                                                                    l8 = (l11 ^ 18446744073709551615ull) + l8;
-                                                                                                                                    l11 = l14 + (l11 << 3);
-                                                                                                                                    L631:;
+                                                                                                                                    if (l33 == 0) goto L628;
+                                                                                                                                    const u64 t629 = load64(l0);
+                                                                                                                                    l12 = t629;
+                                                                                                                                    const u64 t630 = load32(l12 + 4ull);
+                                                                                                                                    const u32 t631 = load32(l0 + 16ull);
+                                                                                                                                    l33 = t631;
+                                                                                                                                    l14 = (u64)(l33 + l39);
+                                                                                                                                    l11 = (u64)(l33 + l34);
+                                                                                                                                    if (t630 != (l14 - l11)) goto L628;
+                                                                                                                                    l2 = 17ull - (l11 << 3);
+                                                                                                                                    l11 = (l14 ^ 18446744073709551615ull) + l11;
+                                                                                                                                    l14 = l12 + (l14 << 3);
+                                                                                                                                    L632:;
                                                                                                                                     {
-                                                                                                                                        l8 = l8 + 1ull;
-                                                                                                                                        if (l8 == 0) goto L616;
-                                                                                                                                        l14 = l11 - 7ull;
-                                                                                                                                        l1 = l2 + l11;
-                                                                                                                                        l11 = l11 - 8ull;
-                                                                                                                                        const u32 t632 = load8(l1);
-                                                                                                                                        const u32 t633 = load8(l14);
-                                                                                                                                        if (t632 == t633) goto L631;
+                                                                                                                                        l11 = l11 + 1ull;
+                                                                                                                                        if (l11 == 0) goto L617;
+                                                                                                                                        l12 = l14 - 7ull;
+                                                                                                                                        l1 = l2 + l14;
+                                                                                                                                        l14 = l14 - 8ull;
+                                                                                                                                        const u32 t633 = load8(l1);
+                                                                                                                                        const u32 t634 = load8(l12);
+                                                                                                                                        if (t633 == t634) goto L632;
                                                                                                                                     }
                                                                                                                                 }
-                                                                                                                                L627:;
-                                                                                                                                forms_work_Work_find_among_few(stack, l16 + 8ull, l0, l33, l38);
-                                                                                                                                const u32 t634 = load32(l16 + 12u);
-                                                                                                                                l33 = t634;
-                                                                                                                                const u32 t635 = load8(l16 + 8u);
-                                                                                                                                v622 = t635;
+                                                                                                                                L628:;
+                                                                                                                                forms_work_Work_find_among_few(stack, l8 + 8ull, l0, l34, l39);
+                                                                                                                                const u32 t635 = load32(l8 + 12u);
+                                                                                                                                l34 = t635;
+                                                                                                                                const u32 t636 = load8(l8 + 8u);
+                                                                                                                                v623 = t636;
                                                                                                                             }
-                                                                                                                            L622:;
-                                                                                                                            if ((v622 & 255u) != 1u) goto L614;
-                                                                                                                            goto L615;
+                                                                                                                            L623:;
+                                                                                                                            if ((v623 & 255u) != 1u) goto L615;
+                                                                                                                            goto L616;
                                                                                                                         }
                                                                                                                         trap();
                                                                                                                     }
-                                                                                                                    L616:;
+                                                                                                                    L617:;
                                                                                                                     store64(l0 + 44ull, 0ull);
-                                                                                                                    l33 = 0u;
+                                                                                                                    l34 = 0u;
                                                                                                                 }
-                                                                                                                L615:;
-                                                                                                                forms_work_Work_stored(stack, l16 + 40ull, l0, l33);
-                                                                                                                const u64 t636 = load64(l16 + 64u);
-                                                                                                                l11 = t636;
-                                                                                                                const u32 t637 = load32(l16 + 72u);
-                                                                                                                l38 = t637;
-                                                                                                                const u32 t638 = core_display_show_items2(stack, l16 + 40ull, 0u, l38, l12);
-                                                                                                                if (t638 & 255u) goto L612;
-                                                                                                                l0 = l12 + 16ull;
-                                                                                                                const u64 t639 = load64(l0);
-                                                                                                                l8 = t639;
-                                                                                                                l14 = l12 + 8ull;
-                                                                                                                const u64 t640 = load64(l14);
-                                                                                                                if (l8 >= t640) {
-                                                                                                                    l11 = l12 + 24ull;
-                                                                                                                    const u32 t642 = load8(l11);
-                                                                                                                    if (t642 == 1u) goto L613;
-                                                                                                                    store16(l11, (u16)15361u);
-                                                                                                                    goto L613;
+                                                                                                                L616:;
+                                                                                                                forms_work_Work_stored(stack, l8 + 40ull, l0, l34);
+                                                                                                                const u64 t637 = load64(l8 + 64u);
+                                                                                                                l14 = t637;
+                                                                                                                const u32 t638 = load32(l8 + 72u);
+                                                                                                                l39 = t638;
+                                                                                                                const u32 t639 = core_display_show_items2(stack, l8 + 40ull, 0u, l39, l16);
+                                                                                                                if (t639 & 255u) goto L613;
+                                                                                                                l0 = l16 + 16ull;
+                                                                                                                const u64 t640 = load64(l0);
+                                                                                                                l11 = t640;
+                                                                                                                l12 = l16 + 8ull;
+                                                                                                                const u64 t641 = load64(l12);
+                                                                                                                if (l11 >= t641) {
+                                                                                                                    l14 = l16 + 24ull;
+                                                                                                                    const u32 t643 = load8(l14);
+                                                                                                                    if (t643 == 1u) goto L614;
+                                                                                                                    store16(l14, (u16)15361u);
+                                                                                                                    goto L614;
                                                                                                                 }
-                                                                                                                const u64 t643 = load64(l12);
-                                                                                                                store8(t643 + l8, (u8)60u);
-                                                                                                                const u64 t644 = load64(l0);
-                                                                                                                l8 = t644 + 1ull;
-                                                                                                                store64(l0, l8);
+                                                                                                                const u64 t644 = load64(l16);
+                                                                                                                store8(t644 + l11, (u8)60u);
+                                                                                                                const u64 t645 = load64(l0);
+                                                                                                                l11 = t645 + 1ull;
+                                                                                                                store64(l0, l11);
                                                                                                                 {
-                                                                                                                    const u64 t646 = load64(l14);
-                                                                                                                    l0 = t646;
-                                                                                                                    if (l0 <= l8) {
-                                                                                                                        l14 = l12 + 24ull;
-                                                                                                                        const u32 t648 = load8(l14);
-                                                                                                                        if (t648 == 1u) goto L613;
-                                                                                                                        store16(l14, (u16)24065u);
-                                                                                                                        goto L645;
+                                                                                                                    const u64 t647 = load64(l12);
+                                                                                                                    l0 = t647;
+                                                                                                                    if (l0 <= l11) {
+                                                                                                                        l12 = l16 + 24ull;
+                                                                                                                        const u32 t649 = load8(l12);
+                                                                                                                        if (t649 == 1u) goto L614;
+                                                                                                                        store16(l12, (u16)24065u);
+                                                                                                                        goto L646;
                                                                                                                     }
-                                                                                                                    const u64 t649 = load64(l12);
-                                                                                                                    store8(t649 + l8, (u8)94u);
-                                                                                                                    l8 = l12 + 16ull;
-                                                                                                                    const u64 t650 = load64(l8);
-                                                                                                                    const u64 t651 = l8;
-                                                                                                                    l8 = t650 + 1ull;
-                                                                                                                    store64(t651, l8);
-                                                                                                                    const u64 t652 = load64(l12 + 8ull);
-                                                                                                                    l0 = t652;
+                                                                                                                    const u64 t650 = load64(l16);
+                                                                                                                    store8(t650 + l11, (u8)94u);
+                                                                                                                    l11 = l16 + 16ull;
+                                                                                                                    const u64 t651 = load64(l11);
+                                                                                                                    const u64 t652 = l11;
+                                                                                                                    l11 = t651 + 1ull;
+                                                                                                                    store64(t652, l11);
+                                                                                                                    const u64 t653 = load64(l16 + 8ull);
+                                                                                                                    l0 = t653;
                                                                                                                 }
-                                                                                                                L645:;
+                                                                                                                L646:;
                                                                                                                 {
-                                                                                                                    if (l0 <= l8) {
-                                                                                                                        l8 = l12 + 24ull;
-                                                                                                                        const u32 t655 = load8(l8);
-                                                                                                                        if (t655 == 1u) goto L613;
-                                                                                                                        store16(l8, (u16)15873u);
-                                                                                                                        goto L653;
+                                                                                                                    if (l0 <= l11) {
+                                                                                                                        l11 = l16 + 24ull;
+                                                                                                                        const u32 t656 = load8(l11);
+                                                                                                                        if (t656 == 1u) goto L614;
+                                                                                                                        store16(l11, (u16)15873u);
+                                                                                                                        goto L654;
                                                                                                                     }
-                                                                                                                    const u64 t656 = load64(l12);
-                                                                                                                    store8(t656 + l8, (u8)62u);
-                                                                                                                    l8 = l12 + 16ull;
-                                                                                                                    const u64 t657 = load64(l8);
-                                                                                                                    store64(l8, t657 + 1ull);
+                                                                                                                    const u64 t657 = load64(l16);
+                                                                                                                    store8(t657 + l11, (u8)62u);
+                                                                                                                    l11 = l16 + 16ull;
+                                                                                                                    const u64 t658 = load64(l11);
+                                                                                                                    store64(l11, t658 + 1ull);
                                                                                                                 }
-                                                                                                                L653:;
-                                                                                                                const u32 t658 = core_display_show_items2(stack, l16 + 40ull, l38, (u32)l11, l12);
-                                                                                                                if (t658 & 255u) goto L612;
+                                                                                                                L654:;
+                                                                                                                const u32 t659 = core_display_show_items2(stack, l8 + 40ull, l39, (u32)l14, l16);
+                                                                                                                if (t659 & 255u) goto L613;
                                                                                                             }
-                                                                                                            L614:;
-                                                                                                            l33 = 3u;
-                                                                                                            v611 = 0u; goto L611;
+                                                                                                            L615:;
+                                                                                                            l34 = 3u;
+                                                                                                            v612 = 0u; goto L612;
                                                                                                         }
-                                                                                                        L613:;
-                                                                                                        l11 = l12 + 32ull;
-                                                                                                        const u64 t659 = load64(l11);
-                                                                                                        store64(l11, t659 + 1ull);
+                                                                                                        L614:;
+                                                                                                        l14 = l16 + 32ull;
+                                                                                                        const u64 t660 = load64(l14);
+                                                                                                        store64(l14, t660 + 1ull);
                                                                                                     }
-                                                                                                    L612:;
-                                                                                                    l33 = 4u;
-                                                                                                    v611 = 5u;
+                                                                                                    L613:;
+                                                                                                    l34 = 4u;
+                                                                                                    v612 = 5u;
                                                                                                 }
-                                                                                                L611:;
-                                                                                                l38 = v611;
-                                                                                                store8(l15, (u8)l33);
+                                                                                                L612:;
+                                                                                                l39 = v612;
+                                                                                                store8(l15, (u8)l34);
                                                                                                 store32(l15 + 4ull, 0u);
-                                                                                                store8(l15 + 1ull, (u8)l38);
-                                                                                                stack = l16 + 80ull;
-                                                                                                goto L541;
+                                                                                                store8(l15 + 1ull, (u8)l39);
+                                                                                                stack = l8 + 80ull;
+                                                                                                goto L542;
                                                                                             }
-                                                                                            L543:;
-                                                                                            const u32 t660 = load8(l10 + 210u);
-                                                                                            l36 = t660;
-                                                                                            l39 = 0u;
+                                                                                            L544:;
+                                                                                            const u32 t661 = load8(l10 + 210u);
+                                                                                            l37 = t661;
+                                                                                            l40 = 0u;
                                                                                             store16(l26, (u16)0u);
                                                                                             store8(l26 + 2u, (u8)0u);
-                                                                                            store8(l10 + 180u, (u8)l32);
-                                                                                            store32(l10 + 176u, l41);
-                                                                                            store32(l10 + 172u, l44);
-                                                                                            store32(l10 + 168u, l42);
+                                                                                            store8(l10 + 180u, (u8)l33);
+                                                                                            store32(l10 + 176u, l42);
+                                                                                            store32(l10 + 172u, l45);
+                                                                                            store32(l10 + 168u, l43);
                                                                                             store64(l10 + 272u, 0ull);
                                                                                             {
-                                                                                                if ((l40 - 5u) < 20u) goto L661;
-                                                                                                l32 = 0u;
+                                                                                                if ((l41 - 5u) < 20u) goto L662;
+                                                                                                l33 = 0u;
                                                                                                 {
-                                                                                                    switch (l40 - 3u) {
-                                                                                                    case 0: goto L661;
-                                                                                                    case 1: goto L503;
-                                                                                                    default: goto L662;
+                                                                                                    switch (l41 - 3u) {
+                                                                                                    case 0: goto L662;
+                                                                                                    case 1: goto L504;
+                                                                                                    default: goto L663;
                                                                                                     }
                                                                                                 }
-                                                                                                L662:;
+                                                                                                L663:;
                                                                                                 l0 = l10 + 272ull;
                                                                                                 l1 = l10 + 168ull;
                                                                                                 l2 = stack - 32ull;
                                                                                                 stack = l2;
                                                                                                 {
                                                                                                     {
-                                                                                                        const u64 t665 = load64(l1 + 8u);
-                                                                                                        store64(l2 + 24u, t665);
-                                                                                                        const u64 t666 = load64(l1);
-                                                                                                        store64(l2 + 16u, t666);
+                                                                                                        const u64 t666 = load64(l1 + 8u);
+                                                                                                        store64(l2 + 24u, t666);
+                                                                                                        const u64 t667 = load64(l1);
+                                                                                                        store64(l2 + 16u, t667);
                                                                                                         functions_arguments_Arguments_next(stack, l2 + 8ull, l2 + 16ull, l9);
-                                                                                                        const u32 t667 = load32(l2 + 8u);
-                                                                                                        l32 = t667;
-                                                                                                        const u32 t668 = load32(l2 + 12u);
-                                                                                                        if (l32 != t668) {
-                                                                                                            const u64 t670 = load64(l9);
-                                                                                                            const u32 t671 = load32(l9 + 16ull);
-                                                                                                            l1 = t670 + ((u64)(t671 + l32) << 3);
-                                                                                                            const u32 t672 = load8(l1);
-                                                                                                            const u64 t673 = l22;
-                                                                                                            u32 v674;
-                                                                                                            if (t672) {
-                                                                                                                v674 = 0u;
+                                                                                                        const u32 t668 = load32(l2 + 8u);
+                                                                                                        l33 = t668;
+                                                                                                        const u32 t669 = load32(l2 + 12u);
+                                                                                                        if (l33 != t669) {
+                                                                                                            const u64 t671 = load64(l9);
+                                                                                                            const u32 t672 = load32(l9 + 16ull);
+                                                                                                            l1 = t671 + ((u64)(t672 + l33) << 3);
+                                                                                                            const u32 t673 = load8(l1);
+                                                                                                            const u64 t674 = l22;
+                                                                                                            u32 v675;
+                                                                                                            if (t673) {
+                                                                                                                v675 = 0u;
                                                                                                             } else {
-                                                                                                                const u32 t675 = load8(l1 + 1ull);
-                                                                                                                v674 = t675;
+                                                                                                                const u32 t676 = load8(l1 + 1ull);
+                                                                                                                v675 = t676;
                                                                                                             }
-                                                                                                            store8(t673, (u8)v674);
+                                                                                                            store8(t674, (u8)v675);
                                                                                                         }
                                                                                                         store16(l0, (u16)3u);
                                                                                                         store32(l0 + 4ull, 0u);
                                                                                                         stack = l2 + 32ull;
-                                                                                                        goto L663;
+                                                                                                        goto L664;
                                                                                                     }
                                                                                                     trap();
                                                                                                 }
-                                                                                                L663:;
-                                                                                                const u32 t676 = load32(l10 + 276u);
-                                                                                                l39 = t676;
-                                                                                                const u32 t677 = load8(l10 + 273u);
-                                                                                                l32 = t677;
-                                                                                                const u32 t678 = load8(l10 + 272u);
-                                                                                                l40 = t678;
-                                                                                                goto L503;
+                                                                                                L664:;
+                                                                                                const u32 t677 = load32(l10 + 276u);
+                                                                                                l40 = t677;
+                                                                                                const u32 t678 = load8(l10 + 273u);
+                                                                                                l33 = t678;
+                                                                                                const u32 t679 = load8(l10 + 272u);
+                                                                                                l41 = t679;
+                                                                                                goto L504;
                                                                                             }
-                                                                                            L661:;
+                                                                                            L662:;
                                                                                             store64(l10 + 280u, 0ull);
                                                                                             {
                                                                                                 {
@@ -23336,52 +23339,52 @@ static void engine_turn(u64 stack, u64 l0, u64 l1, u64 l2, u64 l3, u64 l4, u64 l
                                                                                                                                                                 {
                                                                                                                                                                     {
                                                                                                                                                                         {
-                                                                                                                                                                            switch (l40 - 5u) {
-                                                                                                                                                                            case 0: goto L685;
-                                                                                                                                                                            case 1: goto L684;
-                                                                                                                                                                            case 2: goto L682;
-                                                                                                                                                                            case 3: goto L681;
-                                                                                                                                                                            case 4: goto L680;
-                                                                                                                                                                            case 6: goto L683;
-                                                                                                                                                                            case 7: goto L690;
-                                                                                                                                                                            case 8: goto L689;
-                                                                                                                                                                            case 9: goto L688;
-                                                                                                                                                                            case 10: goto L687;
-                                                                                                                                                                            case 11: goto L686;
-                                                                                                                                                                            case 12: goto L698;
-                                                                                                                                                                            case 13: goto L697;
-                                                                                                                                                                            case 14: goto L696;
-                                                                                                                                                                            case 15: goto L695;
-                                                                                                                                                                            case 16: goto L694;
-                                                                                                                                                                            case 17: goto L693;
-                                                                                                                                                                            case 18: goto L692;
-                                                                                                                                                                            case 19: goto L691;
-                                                                                                                                                                            default: goto L679;
+                                                                                                                                                                            switch (l41 - 5u) {
+                                                                                                                                                                            case 0: goto L686;
+                                                                                                                                                                            case 1: goto L685;
+                                                                                                                                                                            case 2: goto L683;
+                                                                                                                                                                            case 3: goto L682;
+                                                                                                                                                                            case 4: goto L681;
+                                                                                                                                                                            case 6: goto L684;
+                                                                                                                                                                            case 7: goto L691;
+                                                                                                                                                                            case 8: goto L690;
+                                                                                                                                                                            case 9: goto L689;
+                                                                                                                                                                            case 10: goto L688;
+                                                                                                                                                                            case 11: goto L687;
+                                                                                                                                                                            case 12: goto L699;
+                                                                                                                                                                            case 13: goto L698;
+                                                                                                                                                                            case 14: goto L697;
+                                                                                                                                                                            case 15: goto L696;
+                                                                                                                                                                            case 16: goto L695;
+                                                                                                                                                                            case 17: goto L694;
+                                                                                                                                                                            case 18: goto L693;
+                                                                                                                                                                            case 19: goto L692;
+                                                                                                                                                                            default: goto L680;
                                                                                                                                                                             }
                                                                                                                                                                         }
-                                                                                                                                                                        L698:;
+                                                                                                                                                                        L699:;
                                                                                                                                                                         functions_comparing_equal(stack, l10 + 280ull, l9, l10 + 168ull);
-                                                                                                                                                                        goto L504;
+                                                                                                                                                                        goto L505;
                                                                                                                                                                     }
-                                                                                                                                                                    L697:;
+                                                                                                                                                                    L698:;
                                                                                                                                                                     functions_comparing_greater(stack, l10 + 280ull, l9, l10 + 168ull);
-                                                                                                                                                                    goto L504;
+                                                                                                                                                                    goto L505;
                                                                                                                                                                 }
-                                                                                                                                                                L696:;
-                                                                                                                                                                functions_arithmetic_arithmetic(stack, l10 + 280ull, l9, l36, l10 + 168ull);
-                                                                                                                                                                goto L504;
+                                                                                                                                                                L697:;
+                                                                                                                                                                functions_arithmetic_arithmetic(stack, l10 + 280ull, l9, l37, l10 + 168ull);
+                                                                                                                                                                goto L505;
                                                                                                                                                             }
-                                                                                                                                                            L695:;
+                                                                                                                                                            L696:;
                                                                                                                                                             functions_bit_strings_union(stack, l10 + 280ull, l9, l10 + 168ull);
-                                                                                                                                                            goto L504;
+                                                                                                                                                            goto L505;
                                                                                                                                                         }
-                                                                                                                                                        L694:;
+                                                                                                                                                        L695:;
                                                                                                                                                         functions_bit_strings_intersection(stack, l10 + 280ull, l9, l10 + 168ull);
-                                                                                                                                                        goto L504;
+                                                                                                                                                        goto L505;
                                                                                                                                                     }
-                                                                                                                                                    L693:;
+                                                                                                                                                    L694:;
                                                                                                                                                     l15 = l10 + 280ull;
-                                                                                                                                                    l14 = l10 + 168ull;
+                                                                                                                                                    l12 = l10 + 168ull;
                                                                                                                                                     l0 = stack - 64ull;
                                                                                                                                                     stack = l0;
                                                                                                                                                     {
@@ -23389,605 +23392,605 @@ static void engine_turn(u64 stack, u64 l0, u64 l1, u64 l2, u64 l3, u64 l4, u64 l
                                                                                                                                                         {
                                                                                                                                                             store64(l1 + 32u, 0ull);
                                                                                                                                                             store64(l1 + 56u, 0ull);
-                                                                                                                                                            const u64 t701 = load64(l14);
-                                                                                                                                                            store64(l1 + 40u, t701);
-                                                                                                                                                            const u64 t702 = load64(l14 + 8u);
-                                                                                                                                                            store64(l1 + 48u, t702);
+                                                                                                                                                            const u64 t702 = load64(l12);
+                                                                                                                                                            store64(l1 + 40u, t702);
+                                                                                                                                                            const u64 t703 = load64(l12 + 8u);
+                                                                                                                                                            store64(l1 + 48u, t703);
                                                                                                                                                             functions_arguments_Arguments_next(stack, l1 + 8ull, l1 + 40ull, l9);
-                                                                                                                                                            const u32 t703 = load32(l9 + 16ull);
-                                                                                                                                                            l33 = t703;
-                                                                                                                                                            const u32 t704 = load32(l1 + 8u);
-                                                                                                                                                            l35 = t704;
-                                                                                                                                                            const u32 t705 = load32(l1 + 12u);
-                                                                                                                                                            l38 = t705;
-                                                                                                                                                            l14 = (u64)(l33 + l38);
-                                                                                                                                                            l0 = (u64)(l33 + l35) - l14;
-                                                                                                                                                            const u64 t706 = load64(l9);
-                                                                                                                                                            l14 = (t706 + (l14 << 3)) - 8ull;
-                                                                                                                                                            l32 = l38;
-                                                                                                                                                            L707:;
+                                                                                                                                                            const u32 t704 = load32(l9 + 16ull);
+                                                                                                                                                            l34 = t704;
+                                                                                                                                                            const u32 t705 = load32(l1 + 8u);
+                                                                                                                                                            l36 = t705;
+                                                                                                                                                            const u32 t706 = load32(l1 + 12u);
+                                                                                                                                                            l39 = t706;
+                                                                                                                                                            l12 = (u64)(l34 + l39);
+                                                                                                                                                            l0 = (u64)(l34 + l36) - l12;
+                                                                                                                                                            const u64 t707 = load64(l9);
+                                                                                                                                                            l12 = (t707 + (l12 << 3)) - 8ull;
+                                                                                                                                                            l33 = l39;
+                                                                                                                                                            L708:;
                                                                                                                                                             {
                                                                                                                                                                 {
-                                                                                                                                                                    l33 = l32;
-                                                                                                                                                                    if (l0 == 0) goto L708;
-                                                                                                                                                                    const u32 t709 = load8(l14);
-                                                                                                                                                                    if (t709) goto L708;
+                                                                                                                                                                    l34 = l33;
+                                                                                                                                                                    if (l0 == 0) goto L709;
+                                                                                                                                                                    const u32 t710 = load8(l12);
+                                                                                                                                                                    if (t710) goto L709;
                                                                                                                                                                     l0 = l0 + 1ull;
-                                                                                                                                                                    l32 = l33 - 1u;
-                                                                                                                                                                    l2 = l14 + 1ull;
-                                                                                                                                                                    l14 = l14 - 8ull;
-                                                                                                                                                                    const u32 t710 = load8(l2);
-                                                                                                                                                                    if ((t710 & 248u) == 48u) goto L707;
+                                                                                                                                                                    l33 = l34 - 1u;
+                                                                                                                                                                    l2 = l12 + 1ull;
+                                                                                                                                                                    l12 = l12 - 8ull;
+                                                                                                                                                                    const u32 t711 = load8(l2);
+                                                                                                                                                                    if ((t711 & 248u) == 48u) goto L708;
                                                                                                                                                                 }
-                                                                                                                                                                L708:;
+                                                                                                                                                                L709:;
                                                                                                                                                             }
-                                                                                                                                                            store32(l1 + 28u, l38);
-                                                                                                                                                            store32(l1 + 24u, l33);
+                                                                                                                                                            store32(l1 + 28u, l39);
+                                                                                                                                                            store32(l1 + 24u, l34);
                                                                                                                                                             store32(l1 + 20u, 2u);
-                                                                                                                                                            functions_bit_strings_give_bits(stack, l1 + 56ull, l9, l35, l33, l1 + 20ull);
-                                                                                                                                                            const u32 t711 = load16(l1 + 56u);
-                                                                                                                                                            store16(l15, (u16)t711);
-                                                                                                                                                            const u32 t712 = load32(l1 + 60u);
-                                                                                                                                                            store32(l15 + 4ull, t712);
+                                                                                                                                                            functions_bit_strings_give_bits(stack, l1 + 56ull, l9, l36, l34, l1 + 20ull);
+                                                                                                                                                            const u32 t712 = load16(l1 + 56u);
+                                                                                                                                                            store16(l15, (u16)t712);
+                                                                                                                                                            const u32 t713 = load32(l1 + 60u);
+                                                                                                                                                            store32(l15 + 4ull, t713);
                                                                                                                                                             stack = l1 + 64ull;
-                                                                                                                                                            goto L699;
+                                                                                                                                                            goto L700;
                                                                                                                                                         }
                                                                                                                                                         trap();
                                                                                                                                                     }
-                                                                                                                                                    L699:;
-                                                                                                                                                    goto L504;
+                                                                                                                                                    L700:;
+                                                                                                                                                    goto L505;
                                                                                                                                                 }
-                                                                                                                                                L692:;
+                                                                                                                                                L693:;
                                                                                                                                                 functions_bit_strings_shift(stack, l10 + 280ull, l9, l10 + 168ull);
-                                                                                                                                                goto L504;
+                                                                                                                                                goto L505;
                                                                                                                                             }
-                                                                                                                                            L691:;
+                                                                                                                                            L692:;
                                                                                                                                             functions_bit_strings_rotate(stack, l10 + 280ull, l9, l10 + 168ull);
-                                                                                                                                            goto L504;
+                                                                                                                                            goto L505;
                                                                                                                                         }
-                                                                                                                                        L690:;
+                                                                                                                                        L691:;
                                                                                                                                         functions_form_parts_call_segment(stack, l10 + 280ull, l9, l10 + 168ull);
-                                                                                                                                        goto L504;
+                                                                                                                                        goto L505;
                                                                                                                                     }
-                                                                                                                                    L689:;
+                                                                                                                                    L690:;
                                                                                                                                     functions_form_parts_call_character(stack, l10 + 280ull, l9, l10 + 168ull);
-                                                                                                                                    goto L504;
+                                                                                                                                    goto L505;
                                                                                                                                 }
-                                                                                                                                L688:;
+                                                                                                                                L689:;
                                                                                                                                 functions_form_parts_call_number(stack, l10 + 280ull, l9, l10 + 168ull);
-                                                                                                                                goto L504;
+                                                                                                                                goto L505;
                                                                                                                             }
-                                                                                                                            L687:;
+                                                                                                                            L688:;
                                                                                                                             functions_form_parts_initial_part(stack, l10 + 280ull, l9, l10 + 168ull);
-                                                                                                                            goto L504;
+                                                                                                                            goto L505;
                                                                                                                         }
-                                                                                                                        L686:;
+                                                                                                                        L687:;
                                                                                                                         functions_form_parts_call_restore(stack, l10 + 280ull, l9, l10 + 168ull);
-                                                                                                                        goto L504;
+                                                                                                                        goto L505;
                                                                                                                     }
-                                                                                                                    L685:;
+                                                                                                                    L686:;
                                                                                                                     functions_form_calls_define_string(stack, l10 + 280ull, l9, l10 + 168ull);
-                                                                                                                    goto L504;
+                                                                                                                    goto L505;
                                                                                                                 }
-                                                                                                                L684:;
+                                                                                                                L685:;
                                                                                                                 functions_form_calls_segment_string(stack, l10 + 280ull, l9, l10 + 168ull);
-                                                                                                                goto L504;
+                                                                                                                goto L505;
                                                                                                             }
-                                                                                                            L683:;
-                                                                                                            const u64 t713 = load64(l10 + 176u);
-                                                                                                            store64(l10 + 216u, t713);
-                                                                                                            const u64 t714 = load64(l10 + 168u);
-                                                                                                            store64(l10 + 208u, t714);
-                                                                                                            const u32 t715 = load8(l10 + 220u);
-                                                                                                            l39 = t715;
+                                                                                                            L684:;
+                                                                                                            const u64 t714 = load64(l10 + 176u);
+                                                                                                            store64(l10 + 216u, t714);
+                                                                                                            const u64 t715 = load64(l10 + 168u);
+                                                                                                            store64(l10 + 208u, t715);
+                                                                                                            const u32 t716 = load8(l10 + 220u);
+                                                                                                            l40 = t716;
                                                                                                             functions_arguments_Arguments_next(stack, l10 + 24ull, l10 + 208ull, l9);
-                                                                                                            const u32 t716 = load32(l10 + 28u);
-                                                                                                            l32 = t716;
-                                                                                                            const u32 t717 = load32(l10 + 24u);
-                                                                                                            l41 = t717;
-                                                                                                            u32 v718;
+                                                                                                            const u32 t717 = load32(l10 + 28u);
+                                                                                                            l33 = t717;
+                                                                                                            const u32 t718 = load32(l10 + 24u);
+                                                                                                            l42 = t718;
+                                                                                                            u32 v719;
                                                                                                             {
-                                                                                                                const u32 t719 = load32(l9 + 40ull);
-                                                                                                                l40 = t719;
-                                                                                                                if (l40 >= 8u) {
-                                                                                                                    forms_work_Work_find_among_more(stack, l10 + 8ull, l9, l41, l32);
-                                                                                                                    const u32 t721 = load32(l10 + 12u);
-                                                                                                                    l41 = t721;
-                                                                                                                    const u32 t722 = load8(l10 + 8u);
-                                                                                                                    v718 = t722; goto L718;
+                                                                                                                const u32 t720 = load32(l9 + 40ull);
+                                                                                                                l41 = t720;
+                                                                                                                if (l41 >= 8u) {
+                                                                                                                    forms_work_Work_find_among_more(stack, l10 + 8ull, l9, l42, l33);
+                                                                                                                    const u32 t722 = load32(l10 + 12u);
+                                                                                                                    l42 = t722;
+                                                                                                                    const u32 t723 = load8(l10 + 8u);
+                                                                                                                    v719 = t723; goto L719;
                                                                                                                 }
                                                                                                                 {
-                                                                                                                    if (l40 == 0) goto L723;
-                                                                                                                    const u64 t724 = load32(l0 + 4ull);
-                                                                                                                    l8 = (u64)(l32 + l37);
-                                                                                                                    l14 = (u64)(l37 + l41);
-                                                                                                                    if (t724 != (l8 - l14)) goto L723;
+                                                                                                                    if (l41 == 0) goto L724;
+                                                                                                                    const u64 t725 = load32(l0 + 4ull);
+                                                                                                                    l8 = (u64)(l33 + l38);
+                                                                                                                    l14 = (u64)(l38 + l42);
+                                                                                                                    if (t725 != (l8 - l14)) goto L724;
                                                                                                                     l12 = 17ull - (l14 << 3);
                                                                                                                     l14 = (l8 ^ 18446744073709551615ull) + l14;
                                                                                                                     l8 = l0 + (l8 << 3);
-                                                                                                                    L725:;
+                                                                                                                    L726:;
                                                                                                                     {
                                                                                                                         l14 = l14 + 1ull;
-                                                                                                                        if (l14 == 0) goto L507;
+                                                                                                                        if (l14 == 0) goto L508;
                                                                                                                         l0 = l8 - 7ull;
                                                                                                                         l15 = l8 + l12;
                                                                                                                         l8 = l8 - 8ull;
-                                                                                                                        const u32 t726 = load8(l15);
-                                                                                                                        const u32 t727 = load8(l0);
-                                                                                                                        if (t726 == t727) goto L725;
+                                                                                                                        const u32 t727 = load8(l15);
+                                                                                                                        const u32 t728 = load8(l0);
+                                                                                                                        if (t727 == t728) goto L726;
                                                                                                                     }
                                                                                                                 }
-                                                                                                                L723:;
-                                                                                                                forms_work_Work_find_among_few(stack, l10 + 16ull, l9, l41, l32);
-                                                                                                                const u32 t728 = load32(l10 + 20u);
-                                                                                                                l41 = t728;
-                                                                                                                const u32 t729 = load8(l10 + 16u);
-                                                                                                                v718 = t729;
+                                                                                                                L724:;
+                                                                                                                forms_work_Work_find_among_few(stack, l10 + 16ull, l9, l42, l33);
+                                                                                                                const u32 t729 = load32(l10 + 20u);
+                                                                                                                l42 = t729;
+                                                                                                                const u32 t730 = load8(l10 + 16u);
+                                                                                                                v719 = t730;
                                                                                                             }
-                                                                                                            L718:;
-                                                                                                            if ((v718 & 255u) != 1u) goto L506;
-                                                                                                            goto L505;
+                                                                                                            L719:;
+                                                                                                            if ((v719 & 255u) != 1u) goto L507;
+                                                                                                            goto L506;
                                                                                                         }
-                                                                                                        L682:;
+                                                                                                        L683:;
                                                                                                         functions_form_calls_delete_definition(stack, l10 + 280ull, l9, l10 + 168ull);
-                                                                                                        goto L504;
+                                                                                                        goto L505;
                                                                                                     }
-                                                                                                    L681:;
+                                                                                                    L682:;
                                                                                                     functions_form_calls_delete_all(stack, l10 + 280ull, l9);
-                                                                                                    goto L504;
+                                                                                                    goto L505;
                                                                                                 }
-                                                                                                L680:;
+                                                                                                L681:;
                                                                                                 functions_form_calls_list_names(stack, l10 + 280ull, l9, l10 + 168ull);
-                                                                                                goto L504;
+                                                                                                goto L505;
                                                                                             }
-                                                                                            L679:;
+                                                                                            L680:;
                                                                                             store8(l10 + 280u, (u8)1u);
-                                                                                            goto L504;
+                                                                                            goto L505;
                                                                                         }
-                                                                                        L542:;
-                                                                                        l14 = l10 + 264ull;
+                                                                                        L543:;
+                                                                                        l12 = l10 + 264ull;
                                                                                         l0 = l9;
-                                                                                        const u32 t730 = load8(l9 + 56ull);
-                                                                                        l36 = t730;
-                                                                                        l8 = l10 + 112ull;
-                                                                                        l12 = stack - 16ull;
-                                                                                        stack = l12;
+                                                                                        const u32 t731 = load8(l9 + 56ull);
+                                                                                        l37 = t731;
+                                                                                        l11 = l10 + 112ull;
+                                                                                        l16 = stack - 16ull;
+                                                                                        stack = l16;
                                                                                         {
                                                                                             {
                                                                                                 l2 = l0 + 20ull;
-                                                                                                const u32 t733 = load32(l2);
-                                                                                                l35 = t733;
-                                                                                                devices_slice_source_SliceSourceSource_take_held(stack, l8, l36, l0);
-                                                                                                const u64 t734 = l14;
-                                                                                                u32 v735;
+                                                                                                const u32 t734 = load32(l2);
+                                                                                                l36 = t734;
+                                                                                                devices_slice_source_SliceSourceSource_take_held(stack, l11, l37, l0);
+                                                                                                const u64 t735 = l12;
+                                                                                                u32 v736;
                                                                                                 {
                                                                                                     {
                                                                                                         {
-                                                                                                            const u32 t738 = load8(l8 + 17ull);
-                                                                                                            if (t738) goto L737;
-                                                                                                            L739:;
+                                                                                                            const u32 t739 = load8(l11 + 17ull);
+                                                                                                            if (t739) goto L738;
+                                                                                                            L740:;
                                                                                                             {
-                                                                                                                const u64 t740 = load64(l8 + 8u);
-                                                                                                                l11 = t740;
-                                                                                                                if (l11 == 0) {
-                                                                                                                    const u32 t742 = load8(l8 + 16ull);
-                                                                                                                    if (t742) goto L736;
-                                                                                                                    store8(l8 + 17ull, (u8)1u);
-                                                                                                                    goto L737;
+                                                                                                                const u64 t741 = load64(l11 + 8u);
+                                                                                                                l14 = t741;
+                                                                                                                if (l14 == 0) {
+                                                                                                                    const u32 t743 = load8(l11 + 16ull);
+                                                                                                                    if (t743) goto L737;
+                                                                                                                    store8(l11 + 17ull, (u8)1u);
+                                                                                                                    goto L738;
                                                                                                                 }
-                                                                                                                store64(l8 + 8u, l11 - 1ull);
-                                                                                                                const u64 t743 = load64(l8);
-                                                                                                                l11 = t743;
-                                                                                                                store64(l8, l11 + 1ull);
-                                                                                                                const u32 t744 = load8(l11);
-                                                                                                                l40 = t744;
-                                                                                                                if (l40 == l36) {
-                                                                                                                    l40 = 0u;
-                                                                                                                    v735 = 1u; goto L735;
+                                                                                                                store64(l11 + 8u, l14 - 1ull);
+                                                                                                                const u64 t744 = load64(l11);
+                                                                                                                l14 = t744;
+                                                                                                                store64(l11, l14 + 1ull);
+                                                                                                                const u32 t745 = load8(l14);
+                                                                                                                l41 = t745;
+                                                                                                                if (l41 == l37) {
+                                                                                                                    l41 = 0u;
+                                                                                                                    v736 = 1u; goto L736;
                                                                                                                 }
-                                                                                                                store64(l12 + 8u, 0ull);
-                                                                                                                store8(l12 + 9u, (u8)l40);
+                                                                                                                store64(l16 + 8u, 0ull);
+                                                                                                                store8(l16 + 9u, (u8)l41);
                                                                                                                 {
-                                                                                                                    const u32 t747 = load32(l0 + 28ull);
-                                                                                                                    l11 = l0 + 20ull;
-                                                                                                                    const u32 t748 = load32(l11);
-                                                                                                                    l33 = t748;
-                                                                                                                    const u32 t749 = load32(l0 + 16ull);
-                                                                                                                    l38 = l33 + t749;
-                                                                                                                    const u32 t750 = load32(l0 + 24ull);
-                                                                                                                    if (t747 == (l38 + t750)) {
-                                                                                                                        const u32 t752 = space_space_Space_push_over_spare(stack, l0, l12 + 8ull);
-                                                                                                                        if (t752) goto L746;
-                                                                                                                        l40 = 0u;
-                                                                                                                        v735 = 0u; goto L735;
+                                                                                                                    const u32 t748 = load32(l0 + 28ull);
+                                                                                                                    l14 = l0 + 20ull;
+                                                                                                                    const u32 t749 = load32(l14);
+                                                                                                                    l34 = t749;
+                                                                                                                    const u32 t750 = load32(l0 + 16ull);
+                                                                                                                    l39 = l34 + t750;
+                                                                                                                    const u32 t751 = load32(l0 + 24ull);
+                                                                                                                    if (t748 == (l39 + t751)) {
+                                                                                                                        const u32 t753 = space_space_Space_push_over_spare(stack, l0, l16 + 8ull);
+                                                                                                                        if (t753) goto L747;
+                                                                                                                        l41 = 0u;
+                                                                                                                        v736 = 0u; goto L736;
                                                                                                                     }
                                                                                                                     l1 = l0 + 32ull;
-                                                                                                                    const u32 t753 = load32(l1);
-                                                                                                                    l32 = t753;
-                                                                                                                    const u64 t754 = load64(l0);
-                                                                                                                    l15 = t754 + ((u64)l38 << 3);
+                                                                                                                    const u32 t754 = load32(l1);
+                                                                                                                    l33 = t754;
+                                                                                                                    const u64 t755 = load64(l0);
+                                                                                                                    l15 = t755 + ((u64)l39 << 3);
                                                                                                                     store8(l15, (u8)0u);
                                                                                                                     store32(l15 + 4ull, 0u);
-                                                                                                                    store8(l15 + 1ull, (u8)l40);
-                                                                                                                    store32(l11, l33 + 1u);
-                                                                                                                    store32(l1, l32);
+                                                                                                                    store8(l15 + 1ull, (u8)l41);
+                                                                                                                    store32(l14, l34 + 1u);
+                                                                                                                    store32(l1, l33);
                                                                                                                 }
-                                                                                                                L746:;
-                                                                                                                devices_slice_source_SliceSourceSource_take_held(stack, l8, l36, l0);
-                                                                                                                const u32 t755 = load8(l8 + 17ull);
-                                                                                                                if (t755 == 0) goto L739;
+                                                                                                                L747:;
+                                                                                                                devices_slice_source_SliceSourceSource_take_held(stack, l11, l37, l0);
+                                                                                                                const u32 t756 = load8(l11 + 17ull);
+                                                                                                                if (t756 == 0) goto L740;
                                                                                                             }
                                                                                                         }
-                                                                                                        L737:;
-                                                                                                        const u32 t756 = load32(l2);
-                                                                                                        l40 = t756 == l35;
-                                                                                                        v735 = l40 ? 4u : 1u; goto L735;
+                                                                                                        L738:;
+                                                                                                        const u32 t757 = load32(l2);
+                                                                                                        l41 = t757 == l36;
+                                                                                                        v736 = l41 ? 4u : 1u; goto L736;
                                                                                                     }
-                                                                                                    L736:;
-                                                                                                    l0 = l8 + 24ull;
-                                                                                                    const u64 t757 = load64(l0);
-                                                                                                    store64(l0, t757 + 1ull);
-                                                                                                    l40 = 4u;
-                                                                                                    v735 = 4u;
+                                                                                                    L737:;
+                                                                                                    l0 = l11 + 24ull;
+                                                                                                    const u64 t758 = load64(l0);
+                                                                                                    store64(l0, t758 + 1ull);
+                                                                                                    l41 = 4u;
+                                                                                                    v736 = 4u;
                                                                                                 }
-                                                                                                L735:;
-                                                                                                store8(t734, (u8)v735);
-                                                                                                store32(l14 + 4ull, 0u);
-                                                                                                store8(l14 + 1ull, (u8)l40);
-                                                                                                stack = l12 + 16ull;
-                                                                                                goto L731;
+                                                                                                L736:;
+                                                                                                store8(t735, (u8)v736);
+                                                                                                store32(l12 + 4ull, 0u);
+                                                                                                store8(l12 + 1ull, (u8)l41);
+                                                                                                stack = l16 + 16ull;
+                                                                                                goto L732;
                                                                                             }
                                                                                             trap();
                                                                                         }
-                                                                                        L731:;
+                                                                                        L732:;
                                                                                     }
-                                                                                    L541:;
-                                                                                    const u32 t758 = load32(l10 + 268u);
-                                                                                    l39 = t758;
-                                                                                    const u32 t759 = load8(l10 + 265u);
-                                                                                    l32 = t759;
-                                                                                    const u32 t760 = load8(l10 + 264u);
-                                                                                    l40 = t760;
-                                                                                    goto L503;
+                                                                                    L542:;
+                                                                                    const u32 t759 = load32(l10 + 268u);
+                                                                                    l40 = t759;
+                                                                                    const u32 t760 = load8(l10 + 265u);
+                                                                                    l33 = t760;
+                                                                                    const u32 t761 = load8(l10 + 264u);
+                                                                                    l41 = t761;
+                                                                                    goto L504;
                                                                                 }
-                                                                                L537:;
-                                                                                l39 = 0u;
-                                                                                goto L502;
+                                                                                L538:;
+                                                                                l40 = 0u;
+                                                                                goto L503;
                                                                             }
-                                                                            L510:;
+                                                                            L511:;
                                                                             core_scan_protect(stack, l9);
                                                                         }
-                                                                        L509:;
-                                                                        const u64 t761 = load64(l9 + 72ull);
-                                                                        l8 = t761;
-                                                                        const u32 t762 = load32(l9 + 20ull);
-                                                                        l44 = t762;
+                                                                        L510:;
+                                                                        const u64 t762 = load64(l9 + 72ull);
+                                                                        l8 = t762;
+                                                                        const u32 t763 = load32(l9 + 20ull);
+                                                                        l45 = t763;
                                                                     }
-                                                                    L508:;
+                                                                    L509:;
                                                                     store64(l9 + 72ull, l8 + 1ull);
-                                                                    store32(l9 + 60ull, l44);
+                                                                    store32(l9 + 60ull, l45);
                                                                     l8 = l9 + 80ull;
-                                                                    l29 = l29 + l30;
-                                                                    const u32 t763 = load32(l8);
-                                                                    l32 = t763;
-                                                                    store32(l8, (l29 > l32) ? l29 : l32);
-                                                                    l29 = 0u;
-                                                                    l32 = 0u;
-                                                                    goto L489;
+                                                                    l30 = l30 + l31;
+                                                                    const u32 t764 = load32(l8);
+                                                                    l33 = t764;
+                                                                    store32(l8, (l30 > l33) ? l30 : l33);
+                                                                    l30 = 0u;
+                                                                    l33 = 0u;
+                                                                    goto L490;
                                                                 }
-                                                                L507:;
+                                                                L508:;
                                                                 store64(l9 + 44ull, 0ull);
-                                                                l41 = 0u;
-                                                                goto L505;
+                                                                l42 = 0u;
+                                                                goto L506;
                                                             }
-                                                            L506:;
+                                                            L507:;
                                                             store32(l10 + 284u, 0u);
                                                             store16(l10 + 280u, (u16)1u);
-                                                            goto L504;
+                                                            goto L505;
                                                         }
-                                                        L505:;
-                                                        const u32 t764 = load32(l10 + 212u);
-                                                        l32 = t764;
-                                                        const u32 t765 = load32(l10 + 208u);
-                                                        l40 = t765;
+                                                        L506:;
+                                                        const u32 t765 = load32(l10 + 212u);
+                                                        l33 = t765;
+                                                        const u32 t766 = load32(l10 + 208u);
+                                                        l41 = t766;
                                                         {
                                                             {
                                                                 {
                                                                     {
                                                                         {
-                                                                            if ((l39 & 1u) == 0) goto L770;
-                                                                            if (l32 >= l40) goto L770;
-                                                                            const u32 t771 = load32(l9 + 44ull);
-                                                                            const u32 t772 = load32(l9 + 48ull);
-                                                                            const u32 t773 = store_form_cells_place_of(stack, l9, t771, t772, l41);
-                                                                            l42 = t773;
-                                                                            const u64 t774 = load64(l9);
-                                                                            l14 = t774;
-                                                                            l8 = l14 + ((u64)l42 << 3);
-                                                                            const u32 t775 = load32(l8 + 12ull);
-                                                                            l33 = t775;
-                                                                            const u32 t776 = load32(l8 + 20ull);
-                                                                            l36 = t776;
-                                                                            l39 = l33 - l36;
-                                                                            if (l39 == 0) {
-                                                                                l39 = 0u;
-                                                                                goto L766;
+                                                                            if ((l40 & 1u) == 0) goto L771;
+                                                                            if (l33 >= l41) goto L771;
+                                                                            const u32 t772 = load32(l9 + 44ull);
+                                                                            const u32 t773 = load32(l9 + 48ull);
+                                                                            const u32 t774 = store_form_cells_place_of(stack, l9, t772, t773, l42);
+                                                                            l43 = t774;
+                                                                            const u64 t775 = load64(l9);
+                                                                            l14 = t775;
+                                                                            l8 = l14 + ((u64)l43 << 3);
+                                                                            const u32 t776 = load32(l8 + 12ull);
+                                                                            l34 = t776;
+                                                                            const u32 t777 = load32(l8 + 20ull);
+                                                                            l37 = t777;
+                                                                            l40 = l34 - l37;
+                                                                            if (l40 == 0) {
+                                                                                l40 = 0u;
+                                                                                goto L767;
                                                                             }
-                                                                            const u32 t778 = load32(l8 + 4ull);
-                                                                            l38 = (l42 + t778) + 3u;
-                                                                            l42 = l36 + l38;
+                                                                            const u32 t779 = load32(l8 + 4ull);
+                                                                            l39 = (l43 + t779) + 3u;
+                                                                            l43 = l37 + l39;
                                                                             {
-                                                                                const u32 t780 = load32(l9 + 28ull);
-                                                                                l36 = t780;
-                                                                                const u32 t781 = load32(l9 + 20ull);
-                                                                                const u32 t782 = load32(l9 + 24ull);
-                                                                                l35 = t782;
-                                                                                const u32 t783 = load32(l9 + 16ull);
-                                                                                if (l39 <= (l36 - (t781 + (l35 + t783)))) {
-                                                                                    l15 = (u64)l39;
-                                                                                    l12 = (u64)l42;
+                                                                                const u32 t781 = load32(l9 + 28ull);
+                                                                                l37 = t781;
+                                                                                const u32 t782 = load32(l9 + 20ull);
+                                                                                const u32 t783 = load32(l9 + 24ull);
+                                                                                l36 = t783;
+                                                                                const u32 t784 = load32(l9 + 16ull);
+                                                                                if (l40 <= (l37 - (t782 + (l36 + t784)))) {
+                                                                                    l15 = (u64)l40;
+                                                                                    l12 = (u64)l43;
                                                                                     {
                                                                                         {
-                                                                                            if (l39 >= 8u) {
-                                                                                                if (l39 == 8u) goto L785;
+                                                                                            if (l40 >= 8u) {
+                                                                                                if (l40 == 8u) goto L786;
                                                                                                 l8 = l14 + (l12 << 3);
                                                                                                 l0 = l15;
-                                                                                                goto L786;
+                                                                                                goto L787;
                                                                                             }
-                                                                                            if (l39 >= 4u) {
+                                                                                            if (l40 >= 4u) {
                                                                                                 l8 = l14 + (l12 << 3);
-                                                                                                const u32 t789 = load8(l8 + 24ull);
-                                                                                                const u32 t790 = load8(l8 + 16ull);
-                                                                                                const u32 t791 = load8(l8 + 8ull);
-                                                                                                const u32 t792 = load8(l8);
-                                                                                                if (((t789 + t790) | (t791 + t792)) & 255u) goto L770;
+                                                                                                const u32 t790 = load8(l8 + 24ull);
+                                                                                                const u32 t791 = load8(l8 + 16ull);
+                                                                                                const u32 t792 = load8(l8 + 8ull);
+                                                                                                const u32 t793 = load8(l8);
+                                                                                                if (((t790 + t791) | (t792 + t793)) & 255u) goto L771;
                                                                                                 l0 = l14 + ((l12 + l15) << 3);
-                                                                                                const u32 t793 = load8(l0 - 8ull);
-                                                                                                const u32 t794 = load8(l0 - 16ull);
-                                                                                                const u32 t795 = load8(l0 - 24ull);
+                                                                                                const u32 t794 = load8(l0 - 8ull);
+                                                                                                const u32 t795 = load8(l0 - 16ull);
+                                                                                                const u32 t796 = load8(l0 - 24ull);
                                                                                                 l0 = l0 - 32ull;
-                                                                                                const u32 t796 = load8(l0);
-                                                                                                if (((t793 + t794) | (t795 + t796)) & 255u) goto L770;
-                                                                                                l32 = l35 + l39;
-                                                                                                l12 = (u64)(l36 - l32);
+                                                                                                const u32 t797 = load8(l0);
+                                                                                                if (((t794 + t795) | (t796 + t797)) & 255u) goto L771;
+                                                                                                l33 = l36 + l40;
+                                                                                                l12 = (u64)(l37 - l33);
                                                                                                 core_slice_edits_slice_T_copy_from_slice(stack, l14 + (l12 << 3), l8, 4ull);
                                                                                                 core_slice_edits_slice_T_copy_from_slice(stack, (((l12 + l15) << 3) + l14) - 32ull, l0, 4ull);
-                                                                                                goto L767;
+                                                                                                goto L768;
                                                                                             }
                                                                                             l8 = l14 + (l12 << 3);
-                                                                                            const u32 t797 = load8(l8);
-                                                                                            l42 = t797;
-                                                                                            if (l39 == 1u) goto L779;
-                                                                                            const u32 t798 = load8(l8 + 8ull);
-                                                                                            if (t798 | (l42 & 255u)) goto L770;
+                                                                                            const u32 t798 = load8(l8);
+                                                                                            l43 = t798;
+                                                                                            if (l40 == 1u) goto L780;
+                                                                                            const u32 t799 = load8(l8 + 8ull);
+                                                                                            if (t799 | (l43 & 255u)) goto L771;
                                                                                             l0 = l14 + ((l12 + l15) << 3);
-                                                                                            const u32 t799 = load8(l0 - 8ull);
+                                                                                            const u32 t800 = load8(l0 - 8ull);
                                                                                             l0 = l0 - 16ull;
-                                                                                            const u32 t800 = load8(l0);
-                                                                                            if (t799 | t800) goto L770;
-                                                                                            l32 = l35 + l39;
-                                                                                            l12 = (u64)(l36 - l32);
+                                                                                            const u32 t801 = load8(l0);
+                                                                                            if (t800 | t801) goto L771;
+                                                                                            l33 = l36 + l40;
+                                                                                            l12 = (u64)(l37 - l33);
                                                                                             core_slice_edits_slice_T_copy_from_slice(stack, l14 + (l12 << 3), l8, 2ull);
                                                                                             core_slice_edits_slice_T_copy_from_slice(stack, (((l12 + l15) << 3) + l14) - 16ull, l0, 2ull);
-                                                                                            goto L767;
+                                                                                            goto L768;
                                                                                         }
-                                                                                        L786:;
-                                                                                        L801:;
+                                                                                        L787:;
+                                                                                        L802:;
                                                                                         {
-                                                                                            const u32 t802 = load8(l8 + 56ull);
-                                                                                            const u32 t803 = load8(l8 + 48ull);
-                                                                                            const u32 t804 = load8(l8 + 40ull);
-                                                                                            const u32 t805 = load8(l8 + 32ull);
-                                                                                            const u32 t806 = load8(l8 + 24ull);
-                                                                                            const u32 t807 = load8(l8 + 16ull);
-                                                                                            const u32 t808 = load8(l8 + 8ull);
-                                                                                            const u32 t809 = load8(l8);
-                                                                                            if (t802 | ((t803 + (t804 + (t805 + (t806 + (t807 + (t808 + t809)))))) & 255u)) goto L770;
+                                                                                            const u32 t803 = load8(l8 + 56ull);
+                                                                                            const u32 t804 = load8(l8 + 48ull);
+                                                                                            const u32 t805 = load8(l8 + 40ull);
+                                                                                            const u32 t806 = load8(l8 + 32ull);
+                                                                                            const u32 t807 = load8(l8 + 24ull);
+                                                                                            const u32 t808 = load8(l8 + 16ull);
+                                                                                            const u32 t809 = load8(l8 + 8ull);
+                                                                                            const u32 t810 = load8(l8);
+                                                                                            if (t803 | ((t804 + (t805 + (t806 + (t807 + (t808 + (t809 + t810)))))) & 255u)) goto L771;
                                                                                             l8 = l8 + 64ull;
                                                                                             l0 = l0 - 8ull;
-                                                                                            if (l0 >= 9ull) goto L801;
+                                                                                            if (l0 >= 9ull) goto L802;
                                                                                         }
                                                                                     }
-                                                                                    L785:;
+                                                                                    L786:;
                                                                                     l0 = l12 + l15;
                                                                                     l8 = l14 + (l0 << 3);
-                                                                                    const u32 t810 = load8(l8 - 56ull);
-                                                                                    const u32 t811 = load8(l8 - 64ull);
-                                                                                    const u32 t812 = load8(l8 - 48ull);
-                                                                                    const u32 t813 = load8(l8 - 40ull);
-                                                                                    const u32 t814 = load8(l8 - 32ull);
-                                                                                    const u32 t815 = load8(l8 - 24ull);
-                                                                                    const u32 t816 = load8(l8 - 16ull);
-                                                                                    const u32 t817 = load8(l8 - 8ull);
-                                                                                    if ((((((((t810 + t811) + t812) + t813) + t814) + t815) + t816) & 255u) | t817) goto L770;
-                                                                                    l32 = l35 + l39;
-                                                                                    l2 = (u64)(l36 - l32);
-                                                                                    if (l39 > 24u) goto L769;
-                                                                                    if (l39 != 8u) {
+                                                                                    const u32 t811 = load8(l8 - 56ull);
+                                                                                    const u32 t812 = load8(l8 - 64ull);
+                                                                                    const u32 t813 = load8(l8 - 48ull);
+                                                                                    const u32 t814 = load8(l8 - 40ull);
+                                                                                    const u32 t815 = load8(l8 - 32ull);
+                                                                                    const u32 t816 = load8(l8 - 24ull);
+                                                                                    const u32 t817 = load8(l8 - 16ull);
+                                                                                    const u32 t818 = load8(l8 - 8ull);
+                                                                                    if ((((((((t811 + t812) + t813) + t814) + t815) + t816) + t817) & 255u) | t818) goto L771;
+                                                                                    l33 = l36 + l40;
+                                                                                    l2 = (u64)(l37 - l33);
+                                                                                    if (l40 > 24u) goto L770;
+                                                                                    if (l40 != 8u) {
                                                                                         l1 = l14 - 64ull;
                                                                                         l8 = l1 + (l0 << 3);
                                                                                         l0 = l1 + ((l2 + l15) << 3);
-                                                                                        L819:;
+                                                                                        L820:;
                                                                                         {
                                                                                             core_slice_edits_slice_T_copy_from_slice(stack, l0, l8, 8ull);
                                                                                             l8 = l8 - 64ull;
                                                                                             l0 = l0 - 64ull;
                                                                                             l15 = l15 - 8ull;
-                                                                                            if (l15 > 8ull) goto L819;
+                                                                                            if (l15 > 8ull) goto L820;
                                                                                         }
                                                                                     }
                                                                                     core_slice_edits_slice_T_copy_from_slice(stack, l14 + (l2 << 3), l14 + (l12 << 3), 8ull);
-                                                                                    store32(l9 + 24ull, l32);
-                                                                                    goto L766;
+                                                                                    store32(l9 + 24ull, l33);
+                                                                                    goto L767;
                                                                                 }
-                                                                                store_item_copies_load_items_over_spare(stack, l10, l9, l42, l33 + l38);
-                                                                                const u32 t820 = load8(l10);
-                                                                                if (t820 != 1u) goto L770;
-                                                                                const u32 t821 = load32(l10 + 4u);
-                                                                                l39 = t821;
-                                                                                goto L766;
+                                                                                store_item_copies_load_items_over_spare(stack, l10, l9, l43, l34 + l39);
+                                                                                const u32 t821 = load8(l10);
+                                                                                if (t821 != 1u) goto L771;
+                                                                                const u32 t822 = load32(l10 + 4u);
+                                                                                l40 = t822;
+                                                                                goto L767;
                                                                             }
-                                                                            L779:;
-                                                                            if ((l42 & 255u) == 0) goto L768;
+                                                                            L780:;
+                                                                            if ((l43 & 255u) == 0) goto L769;
                                                                         }
-                                                                        L770:;
-                                                                        const u32 t822 = forms_work_Work_fill_body(stack, l9, l41, l40, l32);
-                                                                        l32 = t822;
+                                                                        L771:;
+                                                                        const u32 t823 = forms_work_Work_fill_body(stack, l9, l42, l41, l33);
+                                                                        l33 = t823;
                                                                         store32(l10 + 284u, 0u);
                                                                         store8(l10 + 281u, (u8)0u);
-                                                                        store8(l10 + 280u, (u8)l32);
-                                                                        goto L504;
+                                                                        store8(l10 + 280u, (u8)l33);
+                                                                        goto L505;
                                                                     }
-                                                                    L769:;
+                                                                    L770:;
                                                                     space_copies_copy_long(stack, l14, l12, l0, l2);
-                                                                    goto L767;
+                                                                    goto L768;
                                                                 }
-                                                                L768:;
-                                                                l32 = l35 + 1u;
-                                                                l0 = l14 + ((u64)(l36 - l32) << 3);
+                                                                L769:;
+                                                                l33 = l36 + 1u;
+                                                                l0 = l14 + ((u64)(l37 - l33) << 3);
                                                                 store8(l0, (u8)0u);
-                                                                const u32 t823 = load32(l8 + 4ull);
-                                                                store32(l0 + 4ull, t823);
-                                                                const u32 t824 = load8(l8 + 1ull);
-                                                                store8(l0 + 1ull, (u8)t824);
+                                                                const u32 t824 = load32(l8 + 4ull);
+                                                                store32(l0 + 4ull, t824);
+                                                                const u32 t825 = load8(l8 + 1ull);
+                                                                store8(l0 + 1ull, (u8)t825);
                                                             }
-                                                            L767:;
-                                                            store32(l9 + 24ull, l32);
+                                                            L768:;
+                                                            store32(l9 + 24ull, l33);
                                                         }
-                                                        L766:;
-                                                        store32(l10 + 284u, l39);
+                                                        L767:;
+                                                        store32(l10 + 284u, l40);
                                                         store16(l10 + 280u, (u16)2u);
                                                     }
-                                                    L504:;
-                                                    const u32 t825 = load32(l10 + 284u);
-                                                    l39 = t825;
-                                                    const u32 t826 = load8(l10 + 281u);
-                                                    l32 = t826;
-                                                    const u32 t827 = load8(l10 + 280u);
-                                                    l40 = t827;
+                                                    L505:;
+                                                    const u32 t826 = load32(l10 + 284u);
+                                                    l40 = t826;
+                                                    const u32 t827 = load8(l10 + 281u);
+                                                    l33 = t827;
+                                                    const u32 t828 = load8(l10 + 280u);
+                                                    l41 = t828;
                                                 }
-                                                L503:;
+                                                L504:;
                                                 {
-                                                    switch ((u32)(((u64)l40 & 255ull)) - 1u) {
-                                                    case 0: goto L828;
-                                                    case 1: goto L502;
-                                                    case 2: goto L502;
-                                                    case 3: goto L499;
-                                                    default: goto L500;
+                                                    switch ((u32)(((u64)l41 & 255ull)) - 1u) {
+                                                    case 0: goto L829;
+                                                    case 1: goto L503;
+                                                    case 2: goto L503;
+                                                    case 3: goto L500;
+                                                    default: goto L501;
                                                     }
                                                 }
-                                                L828:;
+                                                L829:;
                                                 l8 = l9 + 20ull;
-                                                const u32 t829 = load32(l8);
-                                                l32 = t829;
-                                                core_delivery_deliver(stack, l9, l31, l44);
                                                 const u32 t830 = load32(l8);
-                                                l31 = t830;
-                                                v501 = l32 + (l29 + l37); goto L501;
+                                                l33 = t830;
+                                                core_delivery_deliver(stack, l9, l32, l45);
+                                                const u32 t831 = load32(l8);
+                                                l32 = t831;
+                                                v502 = l33 + (l30 + l38); goto L502;
                                             }
-                                            L502:;
-                                            l37 = l29 + l30;
-                                            const u64 t831 = load64(l9);
-                                            const u64 t832 = load32(l9 + 16ull);
-                                            l8 = t831 + (t832 << 3);
+                                            L503:;
+                                            l38 = l30 + l31;
+                                            const u64 t832 = load64(l9);
+                                            const u64 t833 = load32(l9 + 16ull);
+                                            l8 = t832 + (t833 << 3);
                                             {
-                                                const u32 t834 = load32(l9 + 32ull);
-                                                l29 = t834;
-                                                if (l34 == l29) {
-                                                    const u32 t836 = load32((l8 + ((u64)l31 << 3)) + 4ull);
-                                                    l29 = t836;
-                                                    l32 = l29 ? (l34 - l29) : 0u;
-                                                    goto L833;
+                                                const u32 t835 = load32(l9 + 32ull);
+                                                l30 = t835;
+                                                if (l35 == l30) {
+                                                    const u32 t837 = load32((l8 + ((u64)l32 << 3)) + 4ull);
+                                                    l30 = t837;
+                                                    l33 = l30 ? (l35 - l30) : 0u;
+                                                    goto L834;
                                                 }
-                                                if (l29 <= l31) {
-                                                    l32 = l29;
-                                                    goto L833;
+                                                if (l30 <= l32) {
+                                                    l33 = l30;
+                                                    goto L834;
                                                 }
-                                                L838:;
+                                                L839:;
                                                 {
-                                                    const u32 t839 = load32((l8 + ((u64)(l29 - 1u) << 3)) + 4ull);
-                                                    l32 = t839;
-                                                    l29 = l29 - l32;
-                                                    l32 = l32 ? l29 : 0u;
-                                                    if (l31 < l32) goto L838;
+                                                    const u32 t840 = load32((l8 + ((u64)(l30 - 1u) << 3)) + 4ull);
+                                                    l33 = t840;
+                                                    l30 = l30 - l33;
+                                                    l33 = l33 ? l30 : 0u;
+                                                    if (l32 < l33) goto L839;
                                                 }
                                             }
-                                            L833:;
-                                            store32(l9 + 20ull, l31);
-                                            store32(l9 + 32ull, l32);
-                                            v501 = l37 + l39;
+                                            L834:;
+                                            store32(l9 + 20ull, l32);
+                                            store32(l9 + 32ull, l33);
+                                            v502 = l38 + l40;
                                         }
-                                        L501:;
-                                        l29 = v501;
-                                        store32(l9 + 60ull, l31);
-                                        l31 = 0u;
+                                        L502:;
+                                        l30 = v502;
+                                        store32(l9 + 60ull, l32);
                                         l32 = 0u;
-                                        goto L498;
+                                        l33 = 0u;
+                                        goto L499;
                                     }
-                                    L500:;
-                                    const u32 t840 = load32(l9 + 20ull);
-                                    store32(l9 + 60ull, t840);
-                                    l32 = 2u;
-                                    goto L497;
+                                    L501:;
+                                    const u32 t841 = load32(l9 + 20ull);
+                                    store32(l9 + 60ull, t841);
+                                    l33 = 2u;
+                                    goto L498;
                                 }
-                                L499:;
-                                const u32 t841 = load32(l9 + 20ull);
-                                l29 = t841;
-                                store32(l9 + 60ull, l29);
-                                const u32 t842 = load32(l9 + 24ull);
-                                const u32 t843 = load32(l9 + 16ull);
-                                l29 = t842 + (l29 + t843);
-                                l31 = 1u;
-                                l37 = 1u << (l32 & 31);
-                                if (l37 & 3u) goto L498;
-                                if (l37 & 12u) goto L497;
+                                L500:;
+                                const u32 t842 = load32(l9 + 20ull);
+                                l30 = t842;
+                                store32(l9 + 60ull, l30);
+                                const u32 t843 = load32(l9 + 24ull);
+                                const u32 t844 = load32(l9 + 16ull);
+                                l30 = t843 + (l30 + t844);
+                                l32 = 1u;
+                                l38 = 1u << (l33 & 31);
+                                if (l38 & 3u) goto L499;
+                                if (l38 & 12u) goto L498;
                                 l8 = l9 + 80ull;
-                                const u32 t844 = load32(l8);
-                                l31 = t844;
-                                store32(l8, (l29 > l31) ? l29 : l31);
-                                goto L497;
+                                const u32 t845 = load32(l8);
+                                l32 = t845;
+                                store32(l8, (l30 > l32) ? l30 : l32);
+                                goto L498;
                             }
-                            L498:;
+                            L499:;
                             l8 = l9 + 72ull;
-                            const u64 t845 = load64(l8);
-                            store64(l8, t845 + 1ull);
+                            const u64 t846 = load64(l8);
+                            store64(l8, t846 + 1ull);
                             l8 = l9 + 80ull;
-                            const u32 t846 = load32(l8);
-                            l37 = t846;
-                            store32(l8, (l29 > l37) ? l29 : l37);
-                            l29 = 0u;
-                            if (l31 == 0) goto L489;
+                            const u32 t847 = load32(l8);
+                            l38 = t847;
+                            store32(l8, (l30 > l38) ? l30 : l38);
+                            l30 = 0u;
+                            if (l32 == 0) goto L490;
                         }
-                        L497:;
-                        store8(l9 + 85ull, (u8)l32);
-                        l29 = 1u;
+                        L498:;
+                        store8(l9 + 85ull, (u8)l33);
+                        l30 = 1u;
                         store8(l9 + 84ull, (u8)1u);
                     }
-                    L489:;
-                    if ((l29 & 255u) == 0) {
+                    L490:;
+                    if ((l30 & 255u) == 0) {
                         l4 = l4 + 1ull;
                         if (l4 >= l7) goto L3;
                         goto L5;
                     }
                 }
-                l45 = (l32 & 255u) + 1u;
+                l46 = (l33 & 255u) + 1u;
             }
             L3:;
-            const u32 t848 = load32(l9 + 80ull);
-            l29 = t848;
-            const u64 t849 = load64(l9 + 72ull);
-            l9 = t849;
-            const u64 t850 = load64(l10 + 88u);
-            l7 = t850;
-            const u64 t851 = load64(l10 + 120u);
-            l4 = t851;
+            const u32 t849 = load32(l9 + 80ull);
+            l30 = t849;
+            const u64 t850 = load64(l9 + 72ull);
+            l9 = t850;
+            const u64 t851 = load64(l10 + 88u);
+            l7 = t851;
+            const u64 t852 = load64(l10 + 120u);
+            l4 = t852;
             store64(l20 + 32u, l5);
             l4 = l3 - l4;
             store64(l20 + 24u, (l3 < l4) ? 0ull : l4);
             store64(l20 + 16u, l7);
             store64(l20 + 8u, l9);
-            store32(l20 + 4u, l29);
-            store32(l20, l45);
+            store32(l20 + 4u, l30);
+            store32(l20, l46);
             stack = l10 + 288ull;
             goto L1;
         }

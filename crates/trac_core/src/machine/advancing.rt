@@ -66,7 +66,7 @@ impl<'a> Machine<'a> {
             steps: self.steps,
             peak: self.peak,
         };
-        let to = go_alone(&mut self.work, &mut self.meta, at, most);
+        let to = go_alone(&mut self.work, &mut self.meta, self.plain, at, most);
         self.steps = to.steps;
         self.peak = to.peak;
         self.fate = to.fate;
@@ -76,10 +76,12 @@ impl<'a> Machine<'a> {
 }
 
 /// Makes at most `most` steps that touch no device, of a run that isn't over and has these counters.
-/// They are single values here, so that they need not stand in memory.
+/// They are single values here, so that they need not stand in memory. From the plain place on no
+/// comma mark stands in the neutral string.
 #[inline(never)]
-fn go_alone(work: &mut Work, meta: &mut u8, at: Counters, most: u64) -> Advance
+fn go_alone(work: &mut Work, meta: &mut u8, plain: u32, at: Counters, most: u64) -> Advance
     requires sound { IsSound work.old }
+    requires plain { IsPlainFrom plain work.old.neutral }
     requires steps { at.steps ≤ at.allowance }
     requires peak { at.peak ≤ work.old.room }
     ensures advanced { let old = running work.old meta.old at in
@@ -96,7 +98,7 @@ fn go_alone(work: &mut Work, meta: &mut u8, at: Counters, most: u64) -> Advance
     let mut left = reach;
     let mut peak = at.peak;
     let mut need = work.used();
-    let mut plain = work.neutral_len();
+    let mut plain = plain;
     let mut long = 0;
     while left > 0 {
         match scan_steps(work, left, &mut plain, &mut long) {
