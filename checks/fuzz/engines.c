@@ -20,9 +20,10 @@ typedef struct {
 
 static view see_proved(void) {
     const trac_machine *const m = &proved.machine;
-    view seen = {{trac_rule(m), trac_awaits(m), trac_meta(m), (uint32_t)trac_form_count(m), (uint32_t)trac_part(m, 0),
-                  (uint32_t)trac_part(m, 1), (uint32_t)trac_part(m, 2), (uint32_t)trac_part(m, 3), (uint32_t)trac_takes(m),
-                  (uint32_t)trac_drops(m), (uint32_t)trac_steps_to_call(m, FROM)}, {0}, {0}, {0}};
+    view seen = {{trac_rule(m), trac_awaits(m), trac_meta(m), (uint32_t)trac_form_count(m),
+                  (uint32_t)trac_part(m, 0), (uint32_t)trac_part(m, 1), (uint32_t)trac_part(m, 2),
+                  (uint32_t)trac_part(m, 3), (uint32_t)trac_takes(m), (uint32_t)trac_drops(m),
+                  (uint32_t)trac_steps_to_call(m, FROM)}, {0}, {0}, {0}};
     (void)trac_neutral_part(m, FROM, seen.neutral, MOST_ITEMS);
     (void)trac_active_part(m, seen.numbers[8], seen.active, MOST_ITEMS);
     (void)trac_calls(m, seen.calls, MOST_ITEMS);

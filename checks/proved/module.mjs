@@ -78,7 +78,8 @@ async function wrongLooks(script) {
             neutralPart: [0, 2, neutral.length + 1].every(
                 (from) => String(looked.neutralPart(from, 3)) === String(neutral.subarray(from, from + 3))),
             activePart: String(looked.activePart(1)) === String(active.subarray(1)),
-            calls: looked.callCount() === marks.length && String(looked.calls(2)) === String(marks.reverse().slice(0, 2)),
+            calls: looked.callCount() === marks.length
+                && String(looked.calls(2)) === String(marks.reverse().slice(0, 2)),
             stepsToCall: looked.stepsToCall(1) === Math.min(1, ahead),
         };
         const told = looked.turn(given, { ended: true, most: 1 });
