@@ -72,13 +72,13 @@ class Interruptions(unittest.TestCase):
         words = [PROGRAM, '--report']
         plain, lines = traced(words)
         self.assertEqual(plain, (b'hello', 'trac: 29 steps, peak 19 cells\n', 0))
-        # behind the write of the script are that of the line, and of its line feed where that is one of its own
-        for at in range(2, 2 + sum(line.startswith('write(2,') for line in lines)):
-            for more in (0, LIBRARY - 1):
-                with self.subTest(at=at, more=more):
-                    got, lines = traced(words, f'write:error=EINTR:when={at}..{at + more}')
-                    self.assertEqual(got, plain)
-                    self.assertEqual(injected(lines, 'write(2,'), 1 + more)
+        self.assertEqual(sum(line.startswith('write(2,') for line in lines), 1)
+        for more in (0, LIBRARY - 1):
+            with self.subTest(more=more):
+                # the first write is that of the script
+                got, lines = traced(words, f'write:error=EINTR:when=2..{2 + more}')
+                self.assertEqual(got, plain)
+                self.assertEqual(injected(lines, 'write(2,'), 1 + more)
 
     def test_another_error_is_a_failure(self):
         first = first_read(traced([PROGRAM])[1])

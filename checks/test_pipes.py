@@ -21,11 +21,12 @@ def limited():
 
 
 def calls(script, *words, program=PROGRAM):
-    """The reads of standard input and the writes to standard output: for each its kind, and how many bytes."""
+    """The reads of standard input, and the writes to standard output and standard error: for each its kind, and how
+    many bytes."""
     with tempfile.NamedTemporaryFile('r', errors='replace') as said:
         subprocess.run(['strace', '-o', said.name, '-e', 'trace=read,write', program, *words], input=script,
                        stdout=subprocess.DEVNULL, stderr=subprocess.DEVNULL, timeout=60, check=False)
-        return re.findall(r'^(read\(0|write\(1),.* = (\d+)$', said.read(), re.MULTILINE)
+        return re.findall(r'^(read\(0|write\([12]),.* = (\d+)$', said.read(), re.MULTILINE)
 
 
 class Session:
@@ -119,6 +120,12 @@ class Streams(unittest.TestCase):
         script = b"#(ps,hello)'#(ps,#(rs))'abc'#(ps," + b'x' * 8000 + b")#(ps,y)#(ps,)'"
         written = [int(length) for call, length in calls(script) if call == 'write(1']
         self.assertEqual(written, [5, 3, 8000, 1])
+
+    def test_each_line_on_standard_error_is_one_write(self):
+        lines = [b'trac: 8 steps, peak 11 cells\n', b'trac: workspace of 18 cells full at step 9\n']
+        written = [int(length) for call, length in calls(b"#(ps,hello)'", '--report', '--cells', '18')
+                   if call == 'write(2']
+        self.assertEqual(written, [len(line) for line in lines])
 
     def test_it_reads_so_much_at_a_time_and_no_more_than_it_needs(self):
         script = b"#(hl)'" + b'x' * 20000

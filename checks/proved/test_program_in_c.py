@@ -135,6 +135,11 @@ class Beside(unittest.TestCase):
             with self.subTest(words=words):
                 self.same(lambda program: run(program, HELLO, *words))
 
+    def test_lines_on_standard_error(self):
+        for words in (['--report'], ['--cells', '18'], ['--steps', '9', '--report'], ['--cells', '16777216']):
+            with self.subTest(words=words):
+                self.same(lambda program: calls(HELLO, *words, program=program))
+
     def test_reads_and_writes(self):
         # of prints that the proved program's buffer holds; it writes longer ones in parts
         for script in (HELLO, b"#(ps,#(rs))'abc'#(ps,#(rc))x", b"#(ps,a)#(ps,b)'" * 2000, b"#(ds,A,b)'" * 5000,

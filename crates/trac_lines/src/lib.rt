@@ -2,7 +2,7 @@
 //! and their exit statuses. All of it is this processor's own choice.
 #![tactic(auto)]
 
-ghost use Rattle.std.specs.Prelude.{◌≡◌, ◌+◌, ◌≤◌, ◌++◌, ◌∷◌, [], List, ℕ, length, take, true};
+ghost use Rattle.std.specs.Prelude.{◌≡◌, ◌+◌, ◌≤◌, ◌++◌, ◌∷◌, [], List, ℕ, length, take, slice_get, Some, true};
 ghost use Rattle.std.specs.Prelude.{decimal, OnOk};
 ghost use Rattle.std.specs.Io.KnownBytes.{Appends};
 ghost use Rattle.trac_lines.specs.Lines.{fault_text, is_one_line, memory_text, report_text};
@@ -21,7 +21,9 @@ use trac_words::Settings;
 /// A line of at most 80 bytes, without a line feed.
 #[derive(Drop)]
 pub struct Line {
-    bytes: [u8; 80],
+    // The line, with a line feed behind it.
+    bytes: [u8; 81],
+    // The length of the line, without its line feed.
     len: usize,
 }
 
@@ -30,17 +32,18 @@ impl Model for Line {
 
     ghost view = { λ line. take line.len line.bytes };
 
-    ghost invariant = { λ line. (line.len ≤ 80) × (is_one_line (take line.len line.bytes) ≡ true) };
+    ghost invariant = { λ line. (line.len ≤ 80)
+        × (is_one_line (take line.len line.bytes) ≡ true)
+        × (slice_get line.bytes line.len ≡ Some 10) };
 }
 
-/// Writes a line and a line feed, to standard error or to what stands in its place. An error is the
-/// writer's; the programs ignore it, since they have no place left to report it.
+/// Writes a line and a line feed at once, to standard error or to what stands in its place. An error is
+/// the writer's; the programs ignore it, since they have no place left to report it.
 pub fn write_line<W: Write>(errors: &mut W, line: &Line) -> io::Result<()>
     ensures { OnOk result (Appends (W.contents errors.old) (W.contents errors.new)
         (line.now ++ 10 ∷ [])) }
 {
-    errors.write_all(line.as_bytes())?;
-    errors.write_all(b"\n")
+    errors.write_all(line.with_line_feed())
 }
 
 impl Line {
@@ -49,7 +52,7 @@ impl Line {
         ensures { result ≡ [] }
     {
         Line {
-            bytes: [0; 80],
+            bytes: [b'\n'; 81],
             len: 0,
         }
     }
@@ -63,6 +66,13 @@ impl Line {
         &self.bytes[..self.len]
     }
 
+    // The bytes of the line, and a line feed.
+    fn with_line_feed(&self) -> &[u8]
+        ensures { result.now ≡ self.now ++ 10 ∷ [] }
+    {
+        &self.bytes[..self.len + 1]
+    }
+
     // Appends a text without a line feed, which must fit.
     fn push(&mut self, text: &[u8])
         requires fits { length self.old + length text.now ≤ 80 }
@@ -72,6 +82,7 @@ impl Line {
     {
         let end = self.len + text.len();
         self.bytes[self.len..end].copy_from_slice(text);
+        self.bytes[end] = b'\n';
         self.len = end;
     }
 
