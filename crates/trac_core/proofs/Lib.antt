@@ -19,4 +19,5 @@ pub mod Printed
 pub mod PlainEnds
 pub mod OrdinaryBlocks
 pub mod ArgumentRuns
+pub mod OpenCalls
 mod Words

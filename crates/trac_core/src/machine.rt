@@ -24,11 +24,13 @@ use trac_space::Cell;
 
 pub(crate) mod advancing;
 pub(crate) mod closing;
+pub(crate) mod open_calls;
 pub(crate) mod printing;
 pub(crate) mod session;
 pub(crate) mod view;
 
 pub use advancing::Progress;
+pub use open_calls::OpenCall;
 pub use session::Awaits;
 pub use view::ScanningRule;
 
