@@ -1,3 +1,2 @@
-pub mod LastMarks
 pub mod NextArgument
 mod Words

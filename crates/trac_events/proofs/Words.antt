@@ -5,10 +5,9 @@ pub use Rattle.std.proofs.lemmas.List.Elements.{All-append}
 pub use Rattle.std.proofs.lemmas.List.Sums.{count_by_more_no, count_by_more_yes}
 pub use Rattle.std.specs.List.{list_all, position_or_len}
 pub use Rattle.std.specs.Prelude.{MatchOption, count_by}
-pub use Rattle.trac_events.specs.Calls.{IsInnermost, argument_of}
+pub use Rattle.trac_events.specs.Calls.{argument_of}
 pub use Rattle.trac_events.specs.Changes.{is_same}
 pub use Rattle.trac_events.specs.Places.{behind_layout, behind_text}
-pub use Rattle.trac_events.specs.declared.call.OpenCall.{OpenCall}
 pub use Rattle.trac_functions.specs.Flat.{mode_of}
 pub use Rattle.trac_language.specs.declared.mode.Mode.{Mode}
 pub use Rattle.trac_space.specs.Calls.{IsLastCall}

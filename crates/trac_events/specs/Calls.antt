@@ -1,40 +1,28 @@
 -- Open calls and their arguments.
 use Rattle.std.specs.Prelude.{◌≡◌, ℕ, zero, suc, ◌+◌, ◌-◌, ◌&&◌, ◌||◌, Bool, true, false}
-use Rattle.std.specs.Prelude.{Option, None, Some, MatchOption, List, [], length, take, drop}
-use Rattle.std.specs.Prelude.{count_by, min, nat_lt, if◌then◌else◌}
+use Rattle.std.specs.Prelude.{Option, None, Some, List, [], length, take, drop}
+use Rattle.std.specs.Prelude.{min, nat_lt, if◌then◌else◌}
 use Rattle.std.specs.List.{position_or_len}
 use Rattle.trac_language.specs.Rule.{rule}
 use Rattle.trac_language.specs.State.{size}
 use Rattle.trac_space.specs.declared.cell.Cell.{Cell}
-use Rattle.trac_space.specs.Cells.{is_call, is_comma, NoCall}
-use Rattle.trac_space.specs.Calls.{IsLastCall}
+use Rattle.trac_space.specs.Cells.{is_comma}
 use Rattle.trac_space.specs.Texts.{text_of_cells}
-use Rattle.trac_functions.specs.Flat.{mode_at, neutral_of}
+use Rattle.trac_functions.specs.Flat.{neutral_of}
 use Rattle.trac_core.specs.Machine.{MachineState}
+use Rattle.trac_core.specs.OpenCalls.{innermost_of}
 use Rattle.trac_core.specs.View.{dropped, neutral_in, row_of}
 use Rattle.trac_core.specs.Session.{awaited, next_function}
+use Rattle.trac_core.specs.declared.machine.open_calls.OpenCall.{OpenCall}
 use Rattle.trac_core.specs.declared.machine.session.Awaits.{Awaits}
 use Rattle.trac_core.specs.declared.machine.session.Awaits.TheVariants.{Nothing, Text, Byte}
 use Rattle.trac_core.specs.declared.machine.view.ScanningRule.{ScanningRule}
 use Rattle.trac_core.specs.declared.machine.view.ScanningRule.TheVariants as row
 use Rattle.trac_events.specs.declared.before.Before.{Before}
-use Rattle.trac_events.specs.declared.call.OpenCall.{OpenCall}
-
--- the call is the innermost one: its mark is the last, and the
--- calls around it are those whose marks stand before
-pub record IsInnermost (neutral : List Cell) (call : OpenCall) : Type 0 where
-  pub last : IsLastCall neutral call.mark
-  pub mode : call.mode ≡ mode_at neutral call.mark
-  pub depth : call.depth ≡ count_by is_call (take call.mark neutral)
 
 -- the cells behind the mark at a place
 abbrev pub behind_mark : List Cell → ℕ → List Cell
 behind_mark neutral mark = drop (mark + 1) neutral
-
--- the cells are those behind the last mark
-abbrev pub IsBehindLastMark : (neutral arguments : List Cell) → Type 0
-IsBehindLastMark neutral arguments =
-    (mark : ℕ) × (IsLastCall neutral mark × (arguments ≡ behind_mark neutral mark))
 
 -- argument k of these cells, from 0, which comma marks part
 abbrev pub argument_of : List Cell → ℕ → List Cell
@@ -52,17 +40,15 @@ abbrev pub ends_call : ScanningRule → Bool
 ends_call row.EndOfCall = true
 ends_call _ = false
 
--- the innermost call of a machine, by the cells of its neutral string; none where it isn't looked for
-abbrev pub SeenCall : Bool → MachineState → Option OpenCall → Type 0
-SeenCall true m call = (neutral : List Cell) × ((neutral_of neutral ≡ neutral_in m.memory)
-    × MatchOption call (NoCall neutral) (IsInnermost neutral))
-SeenCall false m call = call ≡ None
+-- the innermost call of a machine; none where it isn't looked for
+abbrev pub seen_call : Bool → MachineState → Option OpenCall
+seen_call true m = innermost_of (neutral_in m.memory)
+seen_call false m = None
 
--- the call that the next step performs is looked for where that is asked for or reads
-abbrev pub SeesCall : MachineState → Bool → Option OpenCall → Type 0
-SeesCall m asked call =
-    SeenCall (ends_call (row_of (rule m.memory.active))
-    && (asked || reads (awaited (next_function m)))) m call
+-- whether the call that the next step performs is looked for: where that is asked for or reads
+abbrev pub looks_at_call : MachineState → Bool → Bool
+looks_at_call m asked =
+    ends_call (row_of (rule m.memory.active)) && (asked || reads (awaited (next_function m)))
 
 -- how many of the cells of an active string stand before those that were left of one that had so many
 -- cells before its first was taken away
@@ -85,7 +71,7 @@ IsSeen m asked before = (before.done ≡ m.steps)
     × (before.active ≡ length m.memory.active)
     × (before.meta ≡ m.memory.meta)
     × (before.drops ≡ dropped (rule m.memory.active) (length m.memory.active))
-    × SeesCall m asked before.call
+    × (before.call ≡ seen_call (looks_at_call m asked) m)
 
 -- the value of the call that was seen, by the cells of a machine's strings; null where none was seen
 abbrev pub SeesValue : MachineState → Option OpenCall → ℕ → List Cell → Type 0

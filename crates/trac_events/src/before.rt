@@ -2,8 +2,7 @@
 ghost use Rattle.std.specs.Prelude.{◌≡◌};
 ghost use Rattle.trac_events.specs.Calls.{IsSeen, SeesValue, ends_call, reads, value_behind};
 
-use crate::call::{OpenCall, innermost};
-use trac_core::{Awaits, Machine, ScanningRule};
+use trac_core::{Awaits, Machine, OpenCall, ScanningRule};
 use trac_space::Cell;
 
 /// What you can see of a machine before a step.
@@ -36,7 +35,7 @@ impl Before {
         let rule = machine.next_rule();
         let awaits = machine.awaits();
         let call = if ends_call(rule) && (with_call || reads(awaits)) {
-            innermost(machine.neutral())
+            machine.innermost_call()
         } else {
             None
         };

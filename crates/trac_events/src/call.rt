@@ -1,61 +1,24 @@
 //! Open calls and their arguments.
-ghost use Rattle.std.specs.Prelude.{◌≡◌, ◌+◌, MatchOption, drop};
+ghost use Rattle.std.specs.Prelude.{◌≡◌, ◌+◌, drop};
 ghost use Rattle.std.specs.List.{position_or_len};
 ghost use Rattle.trac_language.specs.Function.{function_named};
-ghost use Rattle.trac_space.specs.Cells.{NoCall, is_call, is_comma};
+ghost use Rattle.trac_space.specs.Cells.{is_comma};
 ghost use Rattle.trac_space.specs.Texts.{text_of_cells};
-ghost use Rattle.trac_events.specs.Calls.{IsBehindLastMark, IsInnermost, argument_of, behind_mark};
+ghost use Rattle.trac_events.specs.Calls.{argument_of, behind_mark};
 ghost use Rattle.trac_events.specs.Changes.{pointer_of};
 
 use crate::change::pointer_of;
 use trac_core::Machine;
 use trac_functions::function::function_named;
 use trac_language::Function;
-use trac_space::{Cell, Mode};
+use trac_space::Cell;
 
-/// A call that is open.
-#[derive(Clone, Copy, Debug, PartialEq, Eq)]
-pub struct OpenCall {
-    pub mode: Mode,
-    /// The place of its mark in the neutral string, in cells from 0.
-    pub mark: usize,
-    /// How many calls are open around it.
-    pub depth: usize,
-}
-
-/// The innermost open call in a neutral string. None if no call is open.
-pub fn innermost(neutral: &[Cell]) -> Option<OpenCall>
-    ensures { MatchOption result (NoCall neutral.now) (IsInnermost neutral.now) }
+/// The cells behind the mark of an open call, which stands at this place of a neutral string: its arguments,
+/// with a comma mark between two. Those of a call around the innermost one end where the next mark stands.
+pub fn arguments_of(neutral: &[Cell], mark: usize) -> &[Cell]
+    ensures { result.now ≡ behind_mark neutral.now mark }
 {
-    let mut found = None;
-    let mut depth = 0;
-    for (mark, cell) in neutral.iter().enumerate() {
-        if let Cell::Call(mode, _) = *cell {
-            found = Some(OpenCall { mode, mark, depth });
-            depth += 1;
-        }
-    }
-    found
-}
-
-/// The cells behind the mark of an open call: its arguments, with a comma mark between two.
-pub fn arguments_of(neutral: &[Cell], call: OpenCall) -> &[Cell]
-    ensures { result.now ≡ behind_mark neutral.now call.mark }
-{
-    behind(neutral, call.mark)
-}
-
-/// The arguments of the innermost open call in a neutral string. None if no call is open.
-pub fn arguments_at_end(neutral: &[Cell]) -> Option<&[Cell]>
-    ensures { MatchOption result (NoCall neutral.now) (λ arguments.
-        IsBehindLastMark neutral.now arguments.now) }
-{
-    for mark in (0..neutral.len()).rev() {
-        if let Cell::Call(_, _) = neutral[mark] {
-            return Some(&neutral[mark + 1..]);
-        }
-    }
-    None
+    behind(neutral, mark)
 }
 
 /// An argument of a call, counted from 0, which is the name of its function. Null if the call has no such

@@ -9,6 +9,6 @@ mod change;
 mod place;
 
 pub use before::{Before, value_behind};
-pub use call::{Named, OpenCall, argument, arguments_at_end, arguments_of, innermost};
+pub use call::{Named, argument, arguments_of};
 pub use change::{Touched, find_form, is_same, pointer_of, touched_by};
 pub use place::{Place, Reading};

@@ -15,10 +15,9 @@ use crate::lines::{Step, head, push, push_byte, push_end};
 use crate::oddities::oddity_of;
 use crate::views::Views;
 use std::alloc::{AllocError, Global};
-use trac_core::{Awaits, Cell, Fate, Machine, Report};
+use trac_core::{Awaits, Cell, Fate, Machine, OpenCall, Report};
 use trac_events::{
-    Before, Named, OpenCall, Reading, Touched, argument, arguments_of, find_form, pointer_of,
-    touched_by,
+    Before, Named, Reading, Touched, argument, arguments_of, find_form, pointer_of, touched_by,
 };
 
 /// The lines of the views of a run, and what they are made from.
@@ -93,7 +92,7 @@ impl Shown {
         ensures views { self.new.views ≡ self.old.views }
         ensures peak { self.new.peak ≡ self.old.peak }
     {
-        let arguments = arguments_of(machine.neutral(), call);
+        let arguments = arguments_of(machine.neutral(), call.mark);
         let named = Named::new(machine, arguments);
         self.named = named;
         self.arguments.clear();

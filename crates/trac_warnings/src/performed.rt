@@ -10,7 +10,7 @@ use crate::origin::Origin;
 use crate::warning::{Suspicion, Warning};
 use std::alloc::{AllocError, Global};
 use trac_core::{Item, Machine, StoredForm};
-use trac_events::{argument, arguments_at_end, find_form};
+use trac_events::{argument, find_form};
 use trac_functions::function::function_named;
 use trac_language::Function;
 use trac_space::{Cell, character_of};

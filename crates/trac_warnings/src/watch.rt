@@ -14,7 +14,7 @@ use crate::warning::{Suspicion, Warning};
 use std::alloc::{AllocError, Global};
 use std::collections::BTreeMap;
 use trac_core::{Awaits, Machine, ScanningRule};
-use trac_events::{Before, argument, arguments_at_end, is_same, pointer_of};
+use trac_events::{Before, argument, arguments_of, is_same, pointer_of};
 use trac_functions::function::function_named;
 use trac_language::Function;
 use trac_space::{Cell, character_of};
@@ -149,15 +149,10 @@ impl Watch {
         if self.is_stray(before.active) {
             warn(&mut self.warnings, self.alloc, Suspicion::NoCall, here, &[])?;
         }
-        let neutral = machine.neutral();
-        let Some(arguments) = arguments_at_end(neutral) else {
+        let Some(mark) = machine.call_mark(0) else {
             return Ok(());
         };
-        let outer = neutral
-            .len()
-            .saturating_sub(arguments.len())
-            .saturating_sub(1);
-        let around = arguments_at_end(&neutral[..outer]).unwrap_or(&[]);
+        let arguments = arguments_of(machine.neutral(), mark);
         let begin = self.calls.last().copied().unwrap_or(here);
         self.arguments.extend_from_slice(arguments)?;
         self.value = self.origin_of_form(machine, begin)?;
@@ -166,7 +161,7 @@ impl Watch {
             arguments,
             begin,
             places: places_of(&self.commas, arguments),
-            around,
+            around: arguments_around(machine, mark),
             is_inside,
             input,
         };
@@ -567,6 +562,16 @@ impl Watch {
             }
         }
         Ok(())
+    }
+}
+
+// The arguments so far of the call around the innermost one, whose mark stands at this place; null if no
+// call is open around it.
+fn arguments_around<'m>(machine: &'m Machine, mark: usize) -> &'m [Cell] {
+    let neutral = machine.neutral();
+    match machine.call_mark(1) {
+        Some(outer) => arguments_of(&neutral[..mark.min(neutral.len())], outer),
+        None => &[],
     }
 }
 

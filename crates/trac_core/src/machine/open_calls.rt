@@ -20,17 +20,17 @@ pub struct OpenCall {
 }
 
 impl<'a> Machine<'a> {
-    /// The innermost open call, the one that a right parenthesis performs. None if no call is open. It
-    /// goes from the mark of one open call to that of the next, and over no text.
+    /// The innermost open call: the one that the next right parenthesis performs. None if no call is open.
+    /// Looks at the mark of each open call and at no text. This processor's own choice.
     pub fn innermost_call(&self) -> Option<OpenCall>
         ensures { result ≡ innermost_of (neutral_in self.now.memory) }
     {
         innermost_of(&self.work)
     }
 
-    /// The place in the neutral string, in cells from 0, of the mark of an open call: that of the innermost
-    /// for 0, that of the one around it for 1, and so on. None if fewer calls are open. It goes from the
-    /// mark of one open call to that of the next, as many as `number`, and over no text.
+    /// The place of the mark of an open call in the neutral string, in cells from 0. The innermost call has
+    /// the number 0, the one around it the number 1, and so on. None if no open call has the number. Looks
+    /// at the marks of the calls up to this one and at no text. This processor's own choice.
     pub fn call_mark(&self, number: u32) -> Option<usize>
         ensures { result ≡ mark_of number (neutral_in self.now.memory) }
     {
