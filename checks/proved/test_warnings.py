@@ -165,6 +165,13 @@ class Warnings(unittest.TestCase):
             costs.append(instructions([TRACER, *WORDS], script))
         self.assertLess(costs[1], 2.6 * costs[0])
 
+    def test_a_long_base_text_costs_no_time_at_each_call(self):
+        for view in ('--warn', '--calls'):
+            with self.subTest(view=view):
+                costs = [instructions([TRACER, view, *WORDS[1:]], b'#(ds,A,b)' + b'##(cl,A)x' * count + b"'")
+                         for count in (2000, 4000)]
+                self.assertLess(costs[1], 2.6 * costs[0])
+
     def test_want_of_memory(self):
         script = b'a' * 40_000_000
         done = subprocess.run(
