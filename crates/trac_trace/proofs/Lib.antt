@@ -4,3 +4,4 @@ pub mod Command
 pub mod ShownTexts
 pub mod LargestTold
 pub mod Folded
+pub mod Placed

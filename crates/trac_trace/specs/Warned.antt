@@ -1,10 +1,12 @@
 -- The lines of warnings, and the status after them.
 use Rattle.std.specs.Prelude.{ℕ, zero, suc, ◌+◌, ◌^◌, ◌-◌, ◌==◌, List, [], ◌++◌, Option, Some, None, codes}
-use Rattle.std.specs.Prelude.{Bool, decimal, min}
+use Rattle.std.specs.Prelude.{Bool, decimal, min, slice_get, take}
+use Rattle.std.specs.Global.{Vec}
 use Rattle.std.specs.Prelude.{nat_lt, if◌then◌else◌}
 use Rattle.trac_language.specs.declared.fate.Fate.{Fate}
 use Rattle.trac_language.specs.declared.fate.Fate.TheVariants.{Halted, InputEnded}
 use Rattle.trac_events.specs.declared.place.Place.{Place}
+use Rattle.trac_events.specs.Places.{behind_text, first_place}
 use Rattle.trac_warnings.specs.declared.origin.Origin.{Origin}
 use Rattle.trac_warnings.specs.declared.warning.Warning.{Warning}
 use Rattle.trac_warnings.specs.Suspicions.{sentence_of}
@@ -46,6 +48,22 @@ abbrev pub warning_text : Warning → Place → List ℕ → ℕ → List ℕ
 warning_text w place form times =
     place_text place ++ codes ": " ++ value_text w.origin form ++ said_text w
     ++ times_text times ++ codes "\n"
+
+-- the name of a form by its number, and the null name where there is none
+abbrev pub name_in : Option (Vec ℕ) → List ℕ
+name_in None = []
+name_in (Some name) = name.items
+
+-- the name of the form in whose value a warning is
+abbrev pub form_named : List (Vec ℕ) → Option ℕ → List ℕ
+form_named names None = []
+form_named names (Some number) = name_in (slice_get names number)
+
+-- the line of a warning that was given so many times, behind a text, with its place in the input
+abbrev pub warning_line : List ℕ → List ℕ → List (Vec ℕ) → Warning × ℕ → List ℕ
+warning_line head input names found =
+    head ++ warning_text found.0 (behind_text first_place (take found.0.origin.offset input))
+    (form_named names found.0.origin.form) found.1
 
 -- the line on how a run ended
 abbrev pub ended : Report → List ℕ

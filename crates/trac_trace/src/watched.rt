@@ -1,8 +1,11 @@
 //! A run of which only what is suspicious is shown.
-ghost use Rattle.std.specs.Prelude.{◌≡◌, ◌++◌, ◌+◌, ◌-◌, ◌^◌, ◌<◌, IfOk, OnOk, length};
+ghost use Rattle.std.specs.Prelude.{◌≡◌, ◌++◌, ◌+◌, ◌-◌, ◌^◌, ◌<◌, IfOk, OnOk, length, take};
+ghost use Rattle.std.specs.List.{flat_map};
 ghost use Rattle.trac_core.specs.Machine.{reported_input_failures};
+ghost use Rattle.trac_events.specs.Places.{behind_text, first_place};
 ghost use Rattle.trac_trace.specs.Told.{is_fault};
-ghost use Rattle.trac_trace.specs.Warned.{fault_end, summary_text, warned_status, worse};
+ghost use Rattle.trac_trace.specs.Warned.{fault_end, form_named, summary_text, warned_status};
+ghost use Rattle.trac_trace.specs.Warned.{warning_line, warning_text, worse};
 
 use crate::faults::is_fault;
 use crate::lines::{push, push_end, push_number};
@@ -109,21 +112,41 @@ impl WatchedRun {
         lines: &mut Vec<u8>,
         head: &[u8],
         input: &[u8],
-    ) -> Result<(), AllocError> {
-        let mut offset: usize = 0;
+    ) -> Result<(), AllocError>
+        ensures { let names = self.now.watch.names.items in OnOk result (lines.new.items ≡ lines.old.items
+            ++ flat_map (warning_line head.now input.now names) self.now.findings.counts.entries) }
+    {
+        let mut read: usize = 0;
         let mut place = Place::first();
         for (warning, times) in self.findings.counts() {
-            let next = warning.origin.offset.min(input.len());
-            place = place.behind_bytes(input.get(offset..next).unwrap_or(&[]));
-            offset = next.max(offset);
-            push(lines, head)?;
-            push_warning(lines, warning, place, self.form(warning), *times)?;
+            place = place_behind(input, read, place, warning.origin.offset);
+            read = warning.origin.offset;
+            self.push_line(lines, head, warning, place, *times)?;
         }
         Ok(())
     }
 
+    // Adds the line of a warning at this place, behind a text.
+    fn push_line(
+        &self,
+        lines: &mut Vec<u8>,
+        head: &[u8],
+        warning: &Warning,
+        place: Place,
+        times: u64,
+    ) -> Result<(), AllocError>
+        ensures { let form = form_named self.now.watch.names.items warning.now.origin.form in
+            OnOk result (lines.new.items ≡
+            lines.old.items ++ head.now ++ warning_text warning.now place form times) }
+    {
+        push(lines, head)?;
+        push_warning(lines, warning, place, self.form(warning), times)
+    }
+
     // The name of the form in whose value a warning is; null if it is in none.
-    fn form(&self, warning: &Warning) -> &[u8] {
+    fn form(&self, warning: &Warning) -> &[u8]
+        ensures { result.now ≡ form_named self.now.watch.names.items warning.now.origin.form }
+    {
         match warning.origin.form {
             Some(number) => self.watch.name(number),
             None => &[],
@@ -154,6 +177,20 @@ impl WatchedRun {
         push(lines, b"; ")?;
         push_end(lines, &self.report)
     }
+}
+
+// The place behind the first `offset` bytes of the input. `place` is that behind the first `read`, which aren't
+// read again unless `offset` is less.
+fn place_behind(input: &[u8], read: usize, place: Place, offset: usize) -> Place
+    requires { place ≡ behind_text first_place (take read input.now) }
+    ensures { result ≡ behind_text first_place (take offset input.now) }
+{
+    let from = read.min(input.len());
+    let to = offset.min(input.len());
+    if to < from {
+        return Place::first().behind_bytes(&input[..to]);
+    }
+    place.behind_bytes(&input[from..to])
 }
 
 // The status after a run with this fate and this many warnings.

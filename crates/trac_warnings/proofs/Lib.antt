@@ -1,3 +1,5 @@
 pub mod Grown
 pub mod Keeping
 pub mod NextNames
+pub mod Noted
+pub mod Said

@@ -19,7 +19,7 @@ none_left c text (item ∷ items) few = absurd (omega arith)
 pub ends_early : (text : List Cell) (i : ℕ) (items : List Item) → i < length text → length items < 1 → begins (text_of_cells (drop i text)) items ≡ false
 ends_early text i items less few = ap (λ t. begins (text_of_cells t) items) (drop_more text i (Byte 0) less) ∙ none_left _ _ items few
 
-pub taken_whole : (items : List Item) (i : ℕ) → take (length items - i) (drop i items) ≡ drop i items
+pub taken_whole : {A : Type 0} (items : List A) (i : ℕ) → take (length items - i) (drop i items) ≡ drop i items
 taken_whole items i = let long = length-drop i items in take_all (length items - i) (drop i items) (omega (arith, long))
 
 pub next_name : (text : Text) (items : List Item) (i : ℕ) → i < length items → begins_in_name text (behind_opening (drop i items)) ≡ false → stands_in_name text (drop (i + 1) items) ≡ stands_in_name text (drop i items)

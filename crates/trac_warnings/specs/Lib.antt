@@ -1,7 +1,10 @@
 pub mod Suspicions
 pub mod Arguments
+pub mod Findings
 pub mod Gaps
 pub mod Origins
+pub mod Performed
+pub mod Script
 pub mod Spelling
 pub mod Strings
 pub mod Watched

@@ -1,5 +1,8 @@
 //! The warnings of a whole run, in the order of their places, with how often each was given.
-ghost use Rattle.std.specs.Prelude.{◌≡◌, ◌==◌, [], length};
+ghost use Rattle.std.specs.Prelude.{◌≡◌, ◌==◌, [], length, not, true, false, IfOk, OnOk};
+ghost use Rattle.std.specs.BTreeMap.{get, insert_entry};
+ghost use Rattle.trac_warnings.specs.Findings.{is_among, is_no_form, is_repeated, once_more};
+ghost use Rattle.trac_warnings.specs.Findings.{texts_of, with_text};
 
 use crate::warning::{Suspicion, Warning};
 use std::alloc::{AllocError, Global};
@@ -27,13 +30,20 @@ impl Findings {
 
     /// Adds a warning. Of a name that no form has only the first warning is kept, wherever the
     /// others stand. Fails only if memory runs out.
-    pub fn add(&mut self, warning: Warning) -> Result<(), AllocError> {
-        if warning.suspicion == Suspicion::NoForm && !self.missing.insert(warning.text.clone()?)? {
+    pub fn add(&mut self, warning: Warning) -> Result<(), AllocError>
+        ensures repeated { is_repeated warning self.old.missing ≡ true →
+            self.new.counts.entries ≡ self.old.counts.entries }
+        ensures counted { is_repeated warning self.old.missing ≡ false →
+            OnOk result (self.new.counts.entries ≡ insert_entry ⟦<Warning as Ord>⟧.cmp self.old.counts.entries
+            warning (once_more (get ⟦<Warning as Ord>⟧.cmp self.old.counts warning))) }
+        ensures others { is_no_form warning.suspicion ≡ false → self.new.missing ≡ self.old.missing }
+        ensures missing { is_no_form warning.suspicion ≡ true → OnOk result (texts_of self.new.missing ≡
+            with_text warning.text.items (texts_of self.old.missing)) }
+    {
+        if warning.suspicion == Suspicion::NoForm && !note_name(&mut self.missing, &warning.text)? {
             return Ok(());
         }
-        let count = self.counts.entry(warning)?.or_insert(0);
-        *count = count.saturating_add(1);
-        Ok(())
+        count(&mut self.counts, warning)
     }
 
     /// How many warnings there are, each counted once.
@@ -56,4 +66,23 @@ impl Findings {
     {
         &self.counts
     }
+}
+
+// Adds a name. False if it was there before.
+fn note_name(names: &mut BTreeSet<Vec<u8>>, name: &Vec<u8>) -> Result<bool, AllocError>
+    ensures value { IfOk result (λ is_new. is_new ≡ not (is_among name.now.items names.old)) }
+    ensures noted { OnOk result (texts_of names.new ≡ with_text name.now.items (texts_of names.old)) }
+{
+    let name = name.clone()?;
+    Ok(names.insert(name)?)
+}
+
+// Counts a warning once more.
+fn count(counts: &mut BTreeMap<Warning, u64>, warning: Warning) -> Result<(), AllocError>
+    ensures { OnOk result (counts.new.entries ≡ insert_entry ⟦<Warning as Ord>⟧.cmp counts.old.entries
+        warning (once_more (get ⟦<Warning as Ord>⟧.cmp counts.old warning))) }
+{
+    let times = counts.entry(warning)?.or_insert(0);
+    *times = times.saturating_add(1);
+    Ok(())
 }

@@ -1,6 +1,12 @@
 //! What is suspicious in a call that is about to be performed.
-ghost use Rattle.std.specs.Prelude.{◌≡◌, ◌&&◌, ◌++◌, ◌∷◌, [], IfOk, OnOk, is_some};
+ghost use Rattle.std.specs.Prelude.{◌≡◌, ◌<◌, ◌-◌, ◌^◌, IfOk, OnOk};
 ghost use Rattle.trac_space.specs.Texts.{text_of_cells};
+ghost use Rattle.trac_warnings.specs.Arguments.{most_arguments};
+ghost use Rattle.trac_warnings.specs.Performed.{Warns, call_warnings, calls_form, commas_of, form_warnings};
+ghost use Rattle.trac_warnings.specs.Performed.{function_of, gap_behind, gap_warnings, has_default};
+ghost use Rattle.trac_warnings.specs.Performed.{ignored_behind, ignored_place, inside, is_compared};
+ghost use Rattle.trac_warnings.specs.Performed.{is_in_default, is_missing, nested, next_text, of_body};
+ghost use Rattle.trac_warnings.specs.Performed.{segments, suspicion_of_call, takes_part};
 ghost use Rattle.trac_warnings.specs.Watched.{Adds, Kept};
 
 use crate::arguments::{default_place, most_arguments, takes_branches};
@@ -39,7 +45,9 @@ pub fn look_at_call(
     machine: &Machine,
     ending: &Ending,
 ) -> Result<(), AllocError>
-    ensures { Kept warnings.old.items warnings.new.items }
+    ensures kept { Kept warnings.old.items warnings.new.items }
+    ensures said { OnOk result (Warns warnings.old.items warnings.new.items
+        (call_warnings machine.now.memory.forms ending.now)) }
 {
     let name = argument(ending.arguments, 0);
     let Some(function) = function_named(name) else {
@@ -54,12 +62,16 @@ pub fn look_at_call(
 }
 
 // What is suspicious in a name that is no function's; if a form has the name, the warning says so.
-fn suspicion_of_call(machine: &Machine, name: &[Cell]) -> Option<Suspicion> {
-    match suspicion_of_name(name) {
-        Some(Suspicion::NoFunction) if find_form(machine, name).is_some() => {
-            Some(Suspicion::FormAsFunction)
-        }
-        suspicion => suspicion,
+fn suspicion_of_call(machine: &Machine, name: &[Cell]) -> Option<Suspicion>
+    ensures { result ≡ suspicion_of_call machine.now.memory.forms name.now }
+{
+    let suspicion = suspicion_of_name(name)?;
+    if suspicion != Suspicion::NoFunction {
+        return Some(suspicion);
+    }
+    match find_form(machine, name) {
+        Some(_) => Some(Suspicion::FormAsFunction),
+        None => Some(suspicion),
     }
 }
 
@@ -72,17 +84,31 @@ fn look_at_ignored(
     function: Function,
     ending: &Ending,
 ) -> Result<(), AllocError>
-    ensures { Kept warnings.old.items warnings.new.items }
+    ensures kept { Kept warnings.old.items warnings.new.items }
+    ensures said { OnOk result (Warns warnings.old.items warnings.new.items
+        (ignored_behind (most_arguments function) ending.now)) }
 {
     let Some(most) = most_arguments(function) else {
         return Ok(());
     };
+    let Some(place) = ignored_place(most, ending) else {
+        return Ok(());
+    };
     let ignored = argument(ending.arguments, most + 1);
-    match ending.places.get(most as usize).copied() {
-        Some(place) if !ignored.is_empty() && place.form == ending.begin.form => {
-            warn(warnings, alloc, Suspicion::Ignored, place, ignored)
-        }
-        _ => Ok(()),
+    warn(warnings, alloc, Suspicion::Ignored, place, ignored)
+}
+
+// Where the argument behind `most` was written. None if it is null or wasn't written in the same text as the
+// call.
+fn ignored_place(most: u32, ending: &Ending) -> Option<Origin>
+    requires { most < 2 ^ 32 - 1 }
+    ensures { result ≡ ignored_place most ending.now }
+{
+    let place = ending.places.get(most as usize).copied()?;
+    if place.form == ending.begin.form && !argument(ending.arguments, most + 1).is_empty() {
+        Some(place)
+    } else {
+        None
     }
 }
 
@@ -94,24 +120,42 @@ fn look_at_nesting(
     function: Function,
     ending: &Ending,
 ) -> Result<(), AllocError>
-    ensures { Kept warnings.old.items warnings.new.items }
+    ensures kept { Kept warnings.old.items warnings.new.items }
+    ensures said { OnOk result (Warns warnings.old.items warnings.new.items
+        (nested function ending.now)) }
 {
     if !ending.is_inside {
         return Ok(());
     }
+    let Some(suspicion) = suspicion_inside(function, ending.around) else {
+        return Ok(());
+    };
     let name = argument(ending.around, 0);
+    warn(warnings, alloc, suspicion, ending.begin, name)
+}
+
+// What is suspicious in a call of this function in the last argument so far of the call around it.
+fn suspicion_inside(function: Function, around: &[Cell]) -> Option<Suspicion>
+    ensures { result ≡ inside function around.now }
+{
     match function {
-        Function::Halt => warn(warnings, alloc, Suspicion::HaltInside, ending.begin, name),
-        Function::ReadString | Function::ReadCharacter if is_in_default(ending.around) => {
-            warn(warnings, alloc, Suspicion::ReadsAlways, ending.begin, name)
+        Function::Halt => Some(Suspicion::HaltInside),
+        Function::ReadString | Function::ReadCharacter => {
+            if is_in_default(around) {
+                Some(Suspicion::ReadsAlways)
+            } else {
+                None
+            }
         }
-        _ => Ok(()),
+        _ => None,
     }
 }
 
 // Whether the last argument so far of a call is its default value, or one of two from which its
 // function chooses.
-fn is_in_default(arguments: &[Cell]) -> bool {
+fn is_in_default(arguments: &[Cell]) -> bool
+    ensures { result ≡ is_in_default arguments.now }
+{
     let place = commas_in(arguments);
     match function_named(argument(arguments, 0)) {
         Some(function) => {
@@ -122,7 +166,9 @@ fn is_in_default(arguments: &[Cell]) -> bool {
 }
 
 // How many of the cells are comma marks.
-fn commas_in(cells: &[Cell]) -> u32 {
+fn commas_in(cells: &[Cell]) -> u32
+    ensures { result ≡ commas_of cells.now }
+{
     let mut count: u32 = 0;
     for cell in cells {
         if matches!(cell, Cell::Comma) {
@@ -141,7 +187,9 @@ fn look_at_form(
     function: Function,
     ending: &Ending,
 ) -> Result<(), AllocError>
-    ensures { Kept warnings.old.items warnings.new.items }
+    ensures kept { Kept warnings.old.items warnings.new.items }
+    ensures said { OnOk result (Warns warnings.old.items warnings.new.items
+        (form_warnings function machine.now.memory.forms ending.now)) }
 {
     if !needs_form(function) {
         return Ok(());
@@ -158,14 +206,18 @@ fn look_at_form(
 
 // Whether it is suspicious that no form has a name. It isn't if the call gives a default value, if it stands
 // in a call that compares, or if the script makes the name as it runs.
-fn is_missing(function: Function, name: &[Cell], ending: &Ending) -> bool {
+fn is_missing(function: Function, name: &[Cell], ending: &Ending) -> bool
+    ensures { result ≡ is_missing function name.now ending.now }
+{
     !has_default(function, ending.arguments)
         && !is_compared(ending.around)
         && is_written(name, ending.input)
 }
 
 // Whether a call of this function gives a default value that isn't null.
-fn has_default(function: Function, arguments: &[Cell]) -> bool {
+fn has_default(function: Function, arguments: &[Cell]) -> bool
+    ensures { result ≡ has_default function arguments.now }
+{
     match default_place(function) {
         Some(place) => !argument(arguments, place).is_empty(),
         None => false,
@@ -173,7 +225,9 @@ fn has_default(function: Function, arguments: &[Cell]) -> bool {
 }
 
 // Whether a call compares its first two arguments, and the last one so far is one of them.
-fn is_compared(arguments: &[Cell]) -> bool {
+fn is_compared(arguments: &[Cell]) -> bool
+    ensures { result ≡ is_compared arguments.now }
+{
     match function_named(argument(arguments, 0)) {
         Some(function) => takes_branches(function) && commas_in(arguments) <= 2,
         None => false,
@@ -181,7 +235,9 @@ fn is_compared(arguments: &[Cell]) -> bool {
 }
 
 // Whether a call of a form is around, which may look at what it is given.
-fn is_passed(arguments: &[Cell]) -> bool {
+fn is_passed(arguments: &[Cell]) -> bool
+    ensures { result ≡ calls_form (function_of arguments.now) }
+{
     matches!(
         function_named(argument(arguments, 0)),
         Some(Function::CallForm)
@@ -197,31 +253,46 @@ fn look_at_body(
     form: &StoredForm,
     ending: &Ending,
 ) -> Result<(), AllocError>
-    ensures { Kept warnings.old.items warnings.new.items }
+    ensures kept { Kept warnings.old.items warnings.new.items }
+    ensures said { OnOk result (Warns warnings.old.items warnings.new.items
+        (of_body function form.now ending.now)) }
 {
-    match function {
-        Function::SegmentString => {
-            let items = body_of(alloc, form)?;
-            look_at_texts(warnings, alloc, &items, ending)
-        }
-        Function::CallSegment | Function::CallCharacter | Function::CallNumber => {
-            if form.pointer() < form.body_len()
-                || has_default(function, ending.arguments)
-                || is_compared(ending.around)
-                || is_passed(ending.around)
-            {
-                return Ok(());
-            }
-            warn(
-                warnings,
-                alloc,
-                Suspicion::NothingLeft,
-                ending.begin,
-                form.name(),
-            )
-        }
-        _ => Ok(()),
+    if segments(function) {
+        let items = body_of(alloc, form)?;
+        return look_at_texts(warnings, alloc, &items, ending);
     }
+    if !takes_part(function)
+        || form.pointer() < form.body_len()
+        || has_default(function, ending.arguments)
+        || is_compared(ending.around)
+        || is_passed(ending.around)
+    {
+        return Ok(());
+    }
+    warn(
+        warnings,
+        alloc,
+        Suspicion::NothingLeft,
+        ending.begin,
+        form.name(),
+    )
+}
+
+// Whether a function segments a form.
+fn segments(function: Function) -> bool
+    ensures { result ≡ segments function }
+{
+    matches!(function, Function::SegmentString)
+}
+
+// Whether the value of a function is a part of a form.
+fn takes_part(function: Function) -> bool
+    ensures { result ≡ takes_part function }
+{
+    matches!(
+        function,
+        Function::CallSegment | Function::CallCharacter | Function::CallNumber
+    )
 }
 
 // Looks at the texts of a call of `ss`, whose form has these items.
@@ -232,20 +303,42 @@ fn look_at_texts(
     items: &[Item],
     ending: &Ending,
 ) -> Result<(), AllocError>
-    ensures { Kept warnings.old.items warnings.new.items }
+    ensures kept { Kept warnings.old.items warnings.new.items }
+    ensures said { OnOk result (Warns warnings.old.items warnings.new.items
+        (gap_warnings items.now ending.now)) }
 {
     let mut k: u32 = 0;
     for cell in ending.arguments {
-        if !matches!(cell, Cell::Comma) {
-            continue;
-        }
-        k = k.saturating_add(1);
-        let text = argument(ending.arguments, k);
-        if k > 1 && !text.is_empty() && stands_in_name(text, items) {
-            warn(warnings, alloc, Suspicion::GapInName, ending.begin, text)?;
-        }
+        k = look_at_text(warnings, alloc, items, ending, cell, k)?;
     }
     Ok(())
+}
+
+// Looks at the text behind a cell of the arguments, where argument `k` stands before it. Gives the argument that
+// stands behind the cell.
+#[tactic(auto, using(crate::proofs::Keeping::keeping))]
+fn look_at_text(
+    warnings: &mut Vec<Warning>,
+    alloc: Global,
+    items: &[Item],
+    ending: &Ending,
+    cell: &Cell,
+    k: u32,
+) -> Result<u32, AllocError>
+    ensures kept { Kept warnings.old.items warnings.new.items }
+    ensures said { OnOk result (Warns warnings.old.items warnings.new.items
+        (gap_behind cell.now k items.now ending.now)) }
+    ensures next { IfOk result (λ next. next ≡ next_text cell.now k) }
+{
+    if !matches!(cell, Cell::Comma) {
+        return Ok(k);
+    }
+    let next = k.saturating_add(1);
+    let text = argument(ending.arguments, next);
+    if next > 1 && !text.is_empty() && stands_in_name(text, items) {
+        warn(warnings, alloc, Suspicion::GapInName, ending.begin, text)?;
+    }
+    Ok(next)
 }
 
 /// Adds a warning. An error means that memory ran out.

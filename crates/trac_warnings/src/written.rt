@@ -1,6 +1,10 @@
 //! What is suspicious in how a script is written, before it is run.
-ghost use Rattle.std.specs.Prelude.{OnOk};
+ghost use Rattle.std.specs.Prelude.{◌≡◌, IfOk, OnOk, None, true, false, get_or};
 ghost use Rattle.trac_warnings.specs.Origins.{in_input};
+ghost use Rattle.trac_warnings.specs.Performed.{Warns};
+ghost use Rattle.trac_warnings.specs.Script.{behind_digits, is_numbered, numbered_lines, other_meta};
+ghost use Rattle.trac_warnings.specs.Script.{script_warnings, spelled, spelled_at, told_behind};
+ghost use Rattle.trac_warnings.specs.Spelling.{spelling_of};
 ghost use Rattle.trac_warnings.specs.Watched.{Adds, Kept};
 
 use crate::origin::Origin;
@@ -20,7 +24,9 @@ pub fn look_at_script(
     alloc: Global,
     input: &[u8],
 ) -> Result<(), AllocError>
-    ensures { Kept warnings.old.items warnings.new.items }
+    ensures kept { Kept warnings.old.items warnings.new.items }
+    ensures said { OnOk result (Warns warnings.old.items warnings.new.items
+        (script_warnings input.now)) }
 {
     if begins_with_mark(input) {
         warn_at(warnings, alloc, Suspicion::Mark, 0, &[])?;
@@ -34,7 +40,9 @@ pub fn look_at_script(
 
 // The byte that seems to end the strings of a script without any apostrophe, and its place: the
 // last byte apart from layout and blanks, unless it is a letter, a digit or a right parenthesis.
-fn other_meta(input: &[u8]) -> Option<(usize, u8)> {
+fn other_meta(input: &[u8]) -> Option<(usize, u8)>
+    ensures { result ≡ other_meta input.now }
+{
     if input.contains(&b'\'') {
         return None;
     }
@@ -53,16 +61,19 @@ fn other_meta(input: &[u8]) -> Option<(usize, u8)> {
 // Looks for numbers at the heads of lines.
 #[tactic(auto, using(crate::proofs::Keeping::keeping))]
 fn look_at_lines(warnings: &mut Vec<Warning>, alloc: Global, input: &[u8]) -> Result<(), AllocError>
-    ensures { Kept warnings.old.items warnings.new.items }
+    ensures kept { Kept warnings.old.items warnings.new.items }
+    ensures said { OnOk result (Warns warnings.old.items warnings.new.items
+        (numbered_lines None 0 true 0 input.now)) }
 {
     let mut first = None;
     let mut count: usize = 0;
+    let mut is_head = true;
     for place in 0..input.len() {
-        let is_head = place == 0 || input[place - 1] == b'\n';
         if is_head && is_numbered(&input[place..]) {
             first = first.or(Some(place));
             count = count.saturating_add(1);
         }
+        is_head = input[place] == b'\n';
     }
     match first {
         Some(place) if count >= FEW_LINES => {
@@ -73,15 +84,23 @@ fn look_at_lines(warnings: &mut Vec<Warning>, alloc: Global, input: &[u8]) -> Re
 }
 
 // Whether a line begins with a number and, behind a blank, with a call or a parenthesis.
-fn is_numbered(line: &[u8]) -> bool {
-    let mut rest = line;
-    for _ in 0..line.len() {
-        match rest {
-            [b'0'..=b'9', behind @ ..] => rest = behind,
-            _ => break,
+fn is_numbered(line: &[u8]) -> bool
+    ensures { result ≡ is_numbered line.now }
+{
+    let rest = behind_digits(line);
+    rest.len() < line.len() && matches!(rest, [b' ', b'#' | b'(' | b':', ..])
+}
+
+// What stands behind the digits at the head of a line.
+fn behind_digits(line: &[u8]) -> &[u8]
+    ensures { result.now ≡ behind_digits line.now }
+{
+    for (i, byte) in line.iter().enumerate() {
+        if !matches!(byte, b'0'..=b'9') {
+            return &line[i..];
         }
     }
-    rest.len() < line.len() && matches!(rest, [b' ', b'#' | b'(' | b':', ..])
+    &[]
 }
 
 // Looks for what is nearly the beginning of a call. Each parenthesis gets one warning at most.
@@ -91,29 +110,60 @@ fn look_at_spelling(
     alloc: Global,
     input: &[u8],
 ) -> Result<(), AllocError>
-    ensures { Kept warnings.old.items warnings.new.items }
+    ensures kept { Kept warnings.old.items warnings.new.items }
+    ensures said { OnOk result (Warns warnings.old.items warnings.new.items
+        (spelled false false 0 input.now)) }
 {
     let mut is_told = false;
+    let mut is_behind_sign = false;
     for place in 0..input.len() {
-        if let Some(suspicion) = spelling_of(&input[place..]) {
-            warn_at(warnings, alloc, suspicion, place, &[])?;
-            is_told = suspicion != Suspicion::Bracket;
-        } else if input[place] == b'(' {
-            let behind = &input[place + 1..];
-            let is_call = place > 0 && input[place - 1] == b'#';
-            if !is_told && !is_call && names_function(b',', behind) {
-                warn_at(
-                    warnings,
-                    alloc,
-                    Suspicion::NoNumberSign,
-                    place,
-                    &behind[..2],
-                )?;
-            }
-            is_told = false;
-        }
+        is_told = look_at_place(
+            warnings,
+            alloc,
+            place,
+            &input[place..],
+            is_told,
+            is_behind_sign,
+        )?;
+        is_behind_sign = input[place] == b'#';
     }
     Ok(())
+}
+
+// Looks at the head of a text at a place of the input. `is_told` says whether the next parenthesis was warned
+// of, and `is_behind_sign` whether a number sign stands before the text. Answers whether the next parenthesis
+// behind the head was warned of.
+#[tactic(auto, using(crate::proofs::Keeping::keeping))]
+fn look_at_place(
+    warnings: &mut Vec<Warning>,
+    alloc: Global,
+    place: usize,
+    text: &[u8],
+    is_told: bool,
+    is_behind_sign: bool,
+) -> Result<bool, AllocError>
+    ensures kept { Kept warnings.old.items warnings.new.items }
+    ensures said { OnOk result (Warns warnings.old.items warnings.new.items
+        (spelled_at (spelling_of text.now) is_told is_behind_sign place text.now)) }
+    ensures told { IfOk result (λ told. told ≡ told_behind (spelling_of text.now) is_told (get_or text.now 0 0)) }
+{
+    if let Some(suspicion) = spelling_of(text) {
+        warn_at(warnings, alloc, suspicion, place, &[])?;
+        return Ok(suspicion != Suspicion::Bracket);
+    }
+    let [b'(', behind @ ..] = text else {
+        return Ok(is_told);
+    };
+    if !is_told && !is_behind_sign && names_function(b',', behind) {
+        warn_at(
+            warnings,
+            alloc,
+            Suspicion::NoNumberSign,
+            place,
+            &behind[..2],
+        )?;
+    }
+    Ok(false)
 }
 
 // Adds a warning of a place of the input.

@@ -1,6 +1,13 @@
-use Rattle.trac_warnings.specs.Watched.{Kept}
+use Rattle.std.proofs.Common.{◌≡◌, ◌++◌, false, drop, map}
+use Rattle.trac_warnings.specs.Script.{spelled}
+use Rattle.trac_warnings.specs.Watched.{Kept, said}
 use Rattle.trac_warnings.proofs.written.look_at_spelling.Given as goal
 
--- the earlier warnings stay
+-- the earlier warnings stay; those so far, and those of the bytes that are left, are all
 abbrev pub invariant-loop-place : goal.invariant-loop-place
-invariant-loop-place l = Kept l.initial.warnings.items l.warnings.items
+invariant-loop-place l =
+    record {
+      kept : Kept l.initial.warnings.items l.warnings.items;
+      said : map said l.warnings.items ++ spelled l.is_told l.is_behind_sign l.place (drop l.place l.input)
+          ≡ map said l.initial.warnings.items ++ spelled false false 0 l.input;
+    }

@@ -1,0 +1,52 @@
+-- Warnings that are added step by step.
+use Rattle.std.proofs.Common.{◌≡◌, ◌∙◌, ◌<◌, ◌+◌, ◌==◌, ℕ, suc, Bool, List, ◌∷◌, ◌++◌, length, take, drop, ◌-◌, get_or, ap, sym, subst, append_assoc, arith}
+use Rattle.std.proofs.Math.Seq.{drop-cons}
+use Rattle.trac_language.specs.declared.item.Item.{Item}
+use Rattle.trac_space.specs.declared.cell.Cell.{Cell}
+use Rattle.trac_warnings.specs.Performed.{gap_behind, gaps_behind, next_text}
+use Rattle.trac_warnings.specs.Script.{spelled, spelled_at, told_behind}
+use Rattle.trac_warnings.specs.Spelling.{spelling_of}
+use Rattle.trac_warnings.proofs.NextNames.{taken_whole}
+use Rattle.trac_warnings.specs.Watched.{Said}
+use Rattle.trac_warnings.specs.declared.performed.Ending.{Ending}
+
+pub head_of : {A : Type 0} (xs : List A) (k : ℕ) (d : A) → k < length xs → drop k xs ≡ get_or xs k d ∷ drop (k + 1) xs
+head_of xs k d less = let e : suc k ≡ k + 1 = omega arith in drop-cons xs k d less ∙ ap (λ n. get_or xs k d ∷ drop n xs) e
+
+-- what was added first, and then the others
+added_first : (old new first others whole : List Said) → new ≡ old ++ first → old ++ (first ++ others) ≡ whole → new ++ others ≡ whole
+added_first old new first others whole added all = ap (λ t. t ++ others) added ∙ append_assoc old first others ∙ all
+
+spelled_behind : (old new whole : List Said) (told sign later : Bool) (place c : ℕ) (text : List ℕ)
+    → new ≡ old ++ spelled_at (spelling_of (c ∷ text)) told sign place (c ∷ text)
+    → later ≡ told_behind (spelling_of (c ∷ text)) told c
+    → old ++ spelled told sign place (c ∷ text) ≡ whole → new ++ spelled later (c == 35) (place + 1) text ≡ whole
+spelled_behind old new whole told sign later place c text added is all =
+    ap (λ t. new ++ spelled t (c == 35) (place + 1) text) is
+    ∙ added_first old new (spelled_at (spelling_of (c ∷ text)) told sign place (c ∷ text)) (spelled (told_behind (spelling_of (c ∷ text)) told c) (c == 35) (place + 1) text) whole added all
+
+-- the spelling of a text at a place of the input, and of what stands behind its head
+pub next_spelled : (old new whole : List Said) (told sign later : Bool) (place : ℕ) (input : List ℕ) → place < length input
+    → new ≡ old ++ spelled_at (spelling_of (take (length input - place) (drop place input))) told sign place (take (length input - place) (drop place input))
+    → later ≡ told_behind (spelling_of (take (length input - place) (drop place input))) told (get_or (take (length input - place) (drop place input)) 0 0)
+    → old ++ spelled told sign place (drop place input) ≡ whole
+    → new ++ spelled later (get_or input place 0 == 35) (place + 1) (drop (place + 1) input) ≡ whole
+next_spelled old new whole told sign later place input less added is all =
+    let head = head_of input place 0 less in
+    let part = taken_whole input place ∙ head in
+    spelled_behind old new whole told sign later place (get_or input place 0) (drop (place + 1) input)
+    (subst (λ t. new ≡ old ++ spelled_at (spelling_of t) told sign place t) part added)
+    (subst (λ t. later ≡ told_behind (spelling_of t) told (get_or t 0 0)) part is)
+    (subst (λ t. old ++ spelled told sign place t ≡ whole) head all)
+
+-- the texts behind a cell of the arguments, and behind the next
+pub next_gaps : (old new whole : List Said) (k next i : ℕ) (d : Cell) (cells : List Cell) (items : List Item) (ending : Ending) → i < length cells
+    → new ≡ old ++ gap_behind (get_or cells i d) k items ending → next ≡ next_text (get_or cells i d) k
+    → old ++ gaps_behind k (drop i cells) items ending ≡ whole
+    → new ++ gaps_behind next (drop (i + 1) cells) items ending ≡ whole
+next_gaps old new whole k next i d cells items ending less added is all =
+    let cell = get_or cells i d in
+    let others = gaps_behind (next_text cell k) (drop (i + 1) cells) items ending in
+    let here : old ++ (gap_behind cell k items ending ++ others) ≡ whole = ap (λ t. old ++ gaps_behind k t items ending) (sym (head_of cells i d less)) ∙ all in
+    ap (λ n. new ++ gaps_behind n (drop (i + 1) cells) items ending) is
+    ∙ added_first old new (gap_behind cell k items ending) others whole added here

@@ -1,0 +1,36 @@
+-- The warnings of a whole run.
+use Rattle.std.specs.Prelude.{ℕ, ◌&&◌, Bool, true, false, List, map, Option, None, Some}
+use Rattle.std.specs.BTreeSet.{BTreeSet, contains_by, insert_key}
+use Rattle.std.specs.Cmp.Lexicographic.{slice_cmp}
+use Rattle.std.specs.Global.{Vec}
+use Rattle.std.specs.Ordering.{nat_cmp}
+use Rattle.trac_warnings.specs.Origins.{more}
+use Rattle.trac_warnings.specs.declared.warning.Suspicion.{Suspicion}
+use Rattle.trac_warnings.specs.declared.warning.Suspicion.TheVariants.{NoForm}
+use Rattle.trac_warnings.specs.declared.warning.Warning.{Warning}
+
+-- how often a warning was given, with one more
+abbrev pub once_more : Option ℕ → ℕ
+once_more None = 1
+once_more (Some times) = more times 1
+
+-- whether it is said of a name that no form has it
+abbrev pub is_no_form : Suspicion → Bool
+is_no_form NoForm = true
+is_no_form _ = false
+
+-- whether a text is among these
+abbrev pub is_among : List ℕ → BTreeSet (Vec ℕ) → Bool
+is_among text texts = contains_by (λ other. slice_cmp nat_cmp text other.items) texts
+
+-- whether a warning says that no form has a name, and the name is among these
+abbrev pub is_repeated : Warning → BTreeSet (Vec ℕ) → Bool
+is_repeated warning missing = is_no_form warning.suspicion && is_among warning.text.items missing
+
+-- the texts, in order
+abbrev pub texts_of : BTreeSet (Vec ℕ) → List (List ℕ)
+texts_of texts = map (λ text. text.items) texts.keys
+
+-- the texts, with one at its place in the order unless it is there
+abbrev pub with_text : List ℕ → List (List ℕ) → List (List ℕ)
+with_text text texts = insert_key (slice_cmp nat_cmp) texts text

@@ -1,0 +1,106 @@
+-- What is suspicious in how a script is written.
+use Rattle.std.specs.Prelude.{ℕ, ◌+◌, ◌==◌, ◌&&◌, ◌||◌, Bool, true, false, not, nat_le, nat_lt, List, [], ◌∷◌}
+use Rattle.std.specs.Prelude.{◌++◌, length, take, Option, None, Some, if◌then◌else◌}
+use Rattle.std.specs.List.{list_any}
+use Rattle.std.specs.Char.{is_ascii_alphanumeric}
+use Rattle.trac_language.specs.Rule.{is_layout}
+use Rattle.trac_language.specs.Text.{Text}
+use Rattle.trac_warnings.specs.Origins.{in_input, more}
+use Rattle.trac_warnings.specs.Spelling.{names_function, spelling_of}
+use Rattle.trac_warnings.specs.Strings.{begins_with_mark}
+use Rattle.trac_warnings.specs.Watched.{Said}
+use Rattle.trac_warnings.specs.declared.warning.Suspicion.{Suspicion}
+use Rattle.trac_warnings.specs.declared.warning.Suspicion.TheVariants.{Mark, OtherMeta, LineNumbers}
+use Rattle.trac_warnings.specs.declared.warning.Suspicion.TheVariants.{Bracket, NoNumberSign}
+
+-- the warning of a text at a place of the input
+abbrev pub at_place : Suspicion → ℕ → Text → Said
+at_place suspicion place text =
+    record { origin = in_input place; suspicion = suspicion; count = 0; text = text }
+
+-- the warning of a byte order mark
+abbrev pub mark_warnings : Text → List Said
+mark_warnings input = if begins_with_mark input then at_place Mark 0 [] ∷ [] else []
+
+-- the last byte of a text that stands at a place, apart from layout and blanks, and its own place; the one
+-- before it where the text has none
+abbrev pub last_seen : Option (ℕ × ℕ) → ℕ → Text → Option (ℕ × ℕ)
+last_seen last place [] = last
+last_seen last place (c ∷ text) =
+    last_seen (if is_layout c || (c == 32) then last else Some (place, c)) (place + 1) text
+
+-- such a byte, unless it is a letter, a digit or a right parenthesis
+abbrev pub as_meta : Option (ℕ × ℕ) → Option (ℕ × ℕ)
+as_meta None = None
+as_meta (Some last) = if is_ascii_alphanumeric last.1 || (last.1 == 41) then None else Some last
+
+-- the byte that seems to end the strings of a script without any apostrophe, and its place
+abbrev pub other_meta : Text → Option (ℕ × ℕ)
+other_meta input =
+    if list_any (λ c. c == 39) input then None else as_meta (last_seen None 0 input)
+
+-- the warning of that byte
+abbrev pub meta_warnings : Option (ℕ × ℕ) → List Said
+meta_warnings None = []
+meta_warnings (Some found) = at_place OtherMeta found.0 (found.1 ∷ []) ∷ []
+
+-- what stands behind the digits at the head of a text
+abbrev pub behind_digits : Text → Text
+behind_digits [] = []
+behind_digits (c ∷ text) = if nat_le 48 c && nat_le c 57 then behind_digits text else c ∷ text
+
+-- a blank and what opens a call or a protected text
+abbrev pub opens_line : Text → Bool
+opens_line (a ∷ b ∷ text) = (a == 32) && ((b == 35) || (b == 40) || (b == 58))
+opens_line text = false
+
+-- a line begins with a number and, behind a blank, with a call or a parenthesis
+abbrev pub is_numbered : Text → Bool
+is_numbered line =
+    nat_lt (length (behind_digits line)) (length line) && opens_line (behind_digits line)
+
+-- the warning of so many numbered lines, of which this is the first
+abbrev pub few_lines : Option ℕ → ℕ → List Said
+few_lines None count = []
+few_lines (Some first) count = if nat_le 3 count then at_place LineNumbers first [] ∷ [] else []
+
+-- the first place, and else this one
+abbrev pub first_of : Option ℕ → ℕ → Option ℕ
+first_of None place = Some place
+first_of (Some first) place = Some first
+
+-- the warning of numbered lines, where so many stand before a text at a place, which may begin a line
+abbrev pub numbered_lines : Option ℕ → ℕ → Bool → ℕ → Text → List Said
+numbered_lines first count is_head place [] = few_lines first count
+numbered_lines first count is_head place (c ∷ text) =
+    if is_head && is_numbered (c ∷ text)
+    then numbered_lines (first_of first place) (more count 1) (c == 10) (place + 1) text
+    else numbered_lines first count (c == 10) (place + 1) text
+
+-- the warning of the head of a text at a place: of what is nearly the beginning of a call, or of a
+-- parenthesis before the name of a function, unless it was warned of or a number sign stands before it
+abbrev pub spelled_at : Option Suspicion → (is_told is_behind_sign : Bool) → ℕ → Text → List Said
+spelled_at (Some suspicion) is_told is_behind_sign place text = at_place suspicion place [] ∷ []
+spelled_at None is_told is_behind_sign place [] = []
+spelled_at None is_told is_behind_sign place (c ∷ text) =
+    if (c == 40) && ((not is_told && not is_behind_sign) && names_function 44 text)
+    then at_place NoNumberSign place (take 2 text) ∷ [] else []
+
+-- whether the next parenthesis was warned of, behind a character
+abbrev pub told_behind : Option Suspicion → Bool → ℕ → Bool
+told_behind (Some Bracket) is_told c = false
+told_behind (Some suspicion) is_told c = true
+told_behind None is_told c = not (c == 40) && is_told
+
+-- the warnings of the spelling of a text at a place
+abbrev pub spelled : (is_told is_behind_sign : Bool) → ℕ → Text → List Said
+spelled is_told is_behind_sign place [] = []
+spelled is_told is_behind_sign place (c ∷ text) =
+    spelled_at (spelling_of (c ∷ text)) is_told is_behind_sign place (c ∷ text)
+    ++ spelled (told_behind (spelling_of (c ∷ text)) is_told c) (c == 35) (place + 1) text
+
+-- the warnings of a script
+abbrev pub script_warnings : Text → List Said
+script_warnings input =
+    mark_warnings input ++ (meta_warnings (other_meta input)
+    ++ (numbered_lines None 0 true 0 input ++ spelled false false 0 input))
