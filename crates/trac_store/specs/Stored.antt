@@ -7,6 +7,7 @@ use Rattle.trac_language.specs.Form.{Form}
 use Rattle.trac_language.specs.Text.{Text}
 use Rattle.trac_space.specs.declared.cell.Cell.{Cell}
 use Rattle.trac_space.specs.declared.cell.Cell.TheVariants.{Byte, Call, Comma, Gap, Head}
+use Rattle.trac_space.specs.Cells.{seen}
 use Rattle.trac_space.specs.Texts.{text_of_cells}
 use Rattle.trac_store.specs.FlatForms.{flat_forms}
 use Rattle.trac_store.specs.Forms.{IsNamedAt}
@@ -36,6 +37,12 @@ forms_in cells = read_forms (length cells) cells
 pub record AreForms (cells : List Cell) : Type 0 where
   pub whole : flat_forms (forms_in cells) ≡ cells
   pub bounded : length cells ≤ 16777216
+
+-- the same of a slice of cells, which are so many forms
+pub record AreCellsOfForms (cells : List Cell) (count : ℕ) : Type 0 where
+  pub whole : flat_forms (forms_in (map seen cells)) ≡ map seen cells
+  pub bounded : length cells ≤ 16777216
+  pub count_is : count ≡ length (forms_in (map seen cells))
 
 -- where form k begins among the cells of the forms
 abbrev pub start_of : List Form → ℕ → ℕ

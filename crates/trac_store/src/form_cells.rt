@@ -8,14 +8,14 @@ ghost use Rattle.trac_language.specs.Store.{NoneNamed};
 ghost use Rattle.trac_space.specs.declared.cell.Cell.TheVariants.{Byte, Head};
 ghost use Rattle.trac_space.specs.Cells.{seen};
 ghost use Rattle.trac_space.specs.Texts.{character_of, text_of_cells, IsByte};
-ghost use Rattle.trac_store.specs.FlatForms.{flat_forms};
 ghost use Rattle.trac_store.specs.Parts.{IsTextPart, part_text};
 ghost use Rattle.trac_store.specs.Index.{IsIndexed};
 ghost use Rattle.trac_store.specs.Stored.{AreForms, forms_in, start_of, head_number, head_at, stored_item};
-ghost use Rattle.trac_store.specs.Stored.{IsPlace, IsFoundAt, item_of};
+ghost use Rattle.trac_store.specs.Stored.{IsPlace, IsFoundAt, item_of, AreCellsOfForms};
 
-use crate::index::look_up;
+use crate::index::IndexedForms;
 use crate::located::{FIRST_FORM, Located};
+use std::marker::Model;
 use trac_language::Item;
 use trac_space::{Cell, Part, Space, byte_in};
 
@@ -214,21 +214,155 @@ fn is_text_at(cells: &[Cell], from: usize, len: usize, text: &[Cell], last: u8) 
     is_text(&cells[from..from + len], text)
 }
 
-// Whether the form has the name.
-#[inline(always)]
-fn is_named(store: &[Cell], form: Located, name: &[Cell]) -> bool
-    requires whole { flat_forms (forms_in (map seen store.now)) ≡ map seen store.now }
-    requires bounded { length store.now ≤ 16777216 }
-    requires begins { IsPlace (forms_in (map seen store.now)) form.number form.start }
-    requires within { form.number < length (forms_in (map seen store.now)) }
+// The cells of forms, one form behind the other, and how many forms they are.
+#[derive(Drop)]
+pub(crate) struct FormCells<'s> {
+    pub(crate) cells: &'s [Cell],
+    count: u32,
+}
+
+impl<'s> Model for FormCells<'s> {
+    ghost use Rattle.std.specs.Prelude.{List, map};
+    ghost use Rattle.trac_language.specs.Form.{Form};
+    ghost use Rattle.trac_space.specs.Cells.{seen};
+    ghost use Rattle.trac_store.specs.Stored.{forms_in, AreCellsOfForms};
+
+    ghost Value = { List Form };
+
+    ghost view = { λ f. forms_in (map seen f.cells.now) };
+
+    ghost invariant = { λ f. AreCellsOfForms f.cells.now f.count };
+}
+
+impl<'s> FormCells<'s> {
+    // All cells of a store.
+    #[inline(always)]
+    fn in_store(space: &'s Space<'_>, count: u32) -> FormCells<'s>
+        requires forms { AreForms space.now.store }
+        requires count_is { count ≡ length (forms_in space.now.store) }
+        ensures { result ≡ forms_in space.now.store }
+    {
+        FormCells {
+            cells: space.store_part(0, space.store_len()),
+            count,
+        }
+    }
+
+    // Whether the form has the name.
+    #[inline(always)]
+    fn is_named(&self, form: Located, name: &[Cell]) -> bool
+        requires begins { IsPlace self.now form.number form.start }
+        requires within { form.number < length self.now }
+        requires bytes { All IsByte (map seen name.now) }
+        ensures { let text = text_of_cells (map seen name.now) in
+            IsTrue result → IsFoundAt self.now text form.number form.start }
+    {
+        let cells = self.cells;
+        let start = form.start as usize;
+        let len = number_in_head(cells[start]) as usize;
+        len == name.len() && is_text_back(&cells[start + 3..start + 3 + len], name)
+    }
+
+    // The form with the null name. None if no form has it.
+    fn find_null(&self) -> Option<Located>
+        ensures { MatchOption result
+            (NoneNamed [] self.now)
+            (λ found. IsFoundAt self.now [] found.number found.start) }
+    {
+        let cells = self.cells;
+        let mut start = 0;
+        for k in 0..self.count {
+            let len = number_in_head(cells[start]) as usize;
+            if len == 0 {
+                return Some(Located {
+                    number: k,
+                    start: start as u32,
+                });
+            }
+            start += 3 + len + number_in_head(cells[start + 1]) as usize;
+        }
+        None
+    }
+
+    // The form with this name, which isn't null, among those from `from` up to number `end`. None if none of
+    // these has it.
+    #[inline(always)]
+    fn find_between(&self, from: Located, end: u32, name: &[Cell]) -> Option<Located>
+        requires begins { IsPlace self.now from.number from.start }
+        requires order { from.number ≤ end }
+        requires within { end ≤ length self.now }
+        requires bytes { All IsByte (map seen name.now) }
+        requires some { 0 < length name.now }
+        ensures { let text = text_of_cells (map seen name.now) in
+            MatchOption result
+            (NoneNamed text (slice_range self.now from.number end))
+            (λ found. IsFoundAt self.now text found.number found.start) }
+    {
+        let cells = self.cells;
+        let last = byte_in(&name[name.len() - 1]);
+        let mut at = from.start as usize + 3;
+        let mut left = end - from.number;
+        while left > 0 {
+            let len = number_in_head(cells[at - 3]) as usize;
+            if is_text_at(cells, at, len, name, last) {
+                return Some(Located {
+                    number: end - left,
+                    start: (at - 3) as u32,
+                });
+            }
+            at += 3 + len + number_in_head(cells[at - 2]) as usize;
+            left -= 1;
+        }
+        None
+    }
+}
+
+// Does what `find_between` does as a function of its own, whose loop has all registers. It takes the fields
+// of a `FormCells`, which would itself be passed through memory.
+#[inline(never)]
+fn find_between_by_call(
+    cells: &[Cell],
+    count: u32,
+    from: Located,
+    end: u32,
+    name: &[Cell],
+) -> Option<Located>
+    requires forms { AreCellsOfForms cells.now count }
+    requires begins { IsPlace (forms_in (map seen cells.now)) from.number from.start }
+    requires order { from.number ≤ end }
+    requires within { end ≤ count }
     requires bytes { All IsByte (map seen name.now) }
-    ensures { let forms = forms_in (map seen store.now) in
+    requires some { 0 < length name.now }
+    ensures { let forms = forms_in (map seen cells.now) in
         let text = text_of_cells (map seen name.now) in
-        IsTrue result → IsFoundAt forms text form.number form.start }
+        MatchOption result
+        (NoneNamed text (slice_range forms from.number end))
+        (λ found. IsFoundAt forms text found.number found.start) }
 {
-    let start = form.start as usize;
-    let len = number_in_head(store[start]) as usize;
-    len == name.len() && is_text_back(&store[start + 3..start + 3 + len], name)
+    FormCells { cells, count }.find_between(from, end, name)
+}
+
+// The form with this name, which isn't null. None if no form has it. Looks at the forms from the one used
+// last on, and then at those before it.
+//
+// It takes the fields of a `FormCells`, which would itself be passed through memory.
+#[inline(never)]
+fn find_from_last(cells: &[Cell], last: Located, count: u32, name: &[Cell]) -> Option<Located>
+    requires forms { AreCellsOfForms cells.now count }
+    requires last { IsPlace (forms_in (map seen cells.now)) last.number last.start }
+    requires bytes { All IsByte (map seen name.now) }
+    requires some { 0 < length name.now }
+    ensures { let forms = forms_in (map seen cells.now) in
+        let text = text_of_cells (map seen name.now) in
+        MatchOption result
+        (NoneNamed text forms)
+        (λ found. IsFoundAt forms text found.number found.start) }
+{
+    let forms = FormCells { cells, count };
+    match forms.find_between(last, count, name) {
+        None => forms.find_between(FIRST_FORM, last.number, name),
+        found => found,
+    }
 }
 
 /// Whether the first form has the name that stands in a part of neutral. There must be a form.
@@ -241,106 +375,8 @@ pub fn is_first_named(space: &Space, count: u32, part: Part) -> bool
     ensures { let name = part_text space.now.neutral part.from part.to in
         IsTrue result → IsFoundAt (forms_in space.now.store) name 0 0 }
 {
-    let store = space.store_part(0, space.store_len());
-    is_named(store, FIRST_FORM, space.neutral_part(part.from, part.to))
-}
-
-// The form with the null name. None if no form has it.
-fn find_null(store: &[Cell], count: u32) -> Option<Located>
-    requires whole { flat_forms (forms_in (map seen store.now)) ≡ map seen store.now }
-    requires bounded { length store.now ≤ 16777216 }
-    requires count_is { count ≡ length (forms_in (map seen store.now)) }
-    ensures { MatchOption result
-        (NoneNamed [] (forms_in (map seen store.now)))
-        (λ found. IsFoundAt (forms_in (map seen store.now)) [] found.number found.start) }
-{
-    let mut start = 0;
-    for k in 0..count {
-        let len = number_in_head(store[start]) as usize;
-        if len == 0 {
-            return Some(Located {
-                number: k,
-                start: start as u32,
-            });
-        }
-        start += 3 + len + number_in_head(store[start + 1]) as usize;
-    }
-    None
-}
-
-// The form with this name, which isn't null, among those from `from` up to number `end`. None if none of
-// these has it.
-#[inline(always)]
-fn find_between(store: &[Cell], from: Located, end: u32, name: &[Cell]) -> Option<Located>
-    requires whole { flat_forms (forms_in (map seen store.now)) ≡ map seen store.now }
-    requires bounded { length store.now ≤ 16777216 }
-    requires begins { IsPlace (forms_in (map seen store.now)) from.number from.start }
-    requires order { from.number ≤ end }
-    requires within { end ≤ length (forms_in (map seen store.now)) }
-    requires bytes { All IsByte (map seen name.now) }
-    requires some { 0 < length name.now }
-    ensures { let forms = forms_in (map seen store.now) in
-        let text = text_of_cells (map seen name.now) in
-        MatchOption result
-        (NoneNamed text (slice_range forms from.number end))
-        (λ found. IsFoundAt forms text found.number found.start) }
-{
-    let last = byte_in(&name[name.len() - 1]);
-    let mut at = from.start as usize + 3;
-    let mut left = end - from.number;
-    while left > 0 {
-        let len = number_in_head(store[at - 3]) as usize;
-        if is_text_at(store, at, len, name, last) {
-            return Some(Located {
-                number: end - left,
-                start: (at - 3) as u32,
-            });
-        }
-        at += 3 + len + number_in_head(store[at - 2]) as usize;
-        left -= 1;
-    }
-    None
-}
-
-// `find_between` as a function of its own, whose loop has all registers.
-#[inline(never)]
-fn find_between_by_call(store: &[Cell], from: Located, end: u32, name: &[Cell]) -> Option<Located>
-    requires whole { flat_forms (forms_in (map seen store.now)) ≡ map seen store.now }
-    requires bounded { length store.now ≤ 16777216 }
-    requires begins { IsPlace (forms_in (map seen store.now)) from.number from.start }
-    requires order { from.number ≤ end }
-    requires within { end ≤ length (forms_in (map seen store.now)) }
-    requires bytes { All IsByte (map seen name.now) }
-    requires some { 0 < length name.now }
-    ensures { let forms = forms_in (map seen store.now) in
-        let text = text_of_cells (map seen name.now) in
-        MatchOption result
-        (NoneNamed text (slice_range forms from.number end))
-        (λ found. IsFoundAt forms text found.number found.start) }
-{
-    find_between(store, from, end, name)
-}
-
-// The form with this name, which isn't null. None if no form has it. Looks at the forms from the one used
-// last on, and then at those before it.
-#[inline(never)]
-fn find_from_last(store: &[Cell], last: Located, count: u32, name: &[Cell]) -> Option<Located>
-    requires whole { flat_forms (forms_in (map seen store.now)) ≡ map seen store.now }
-    requires bounded { length store.now ≤ 16777216 }
-    requires count_is { count ≡ length (forms_in (map seen store.now)) }
-    requires last { IsPlace (forms_in (map seen store.now)) last.number last.start }
-    requires bytes { All IsByte (map seen name.now) }
-    requires some { 0 < length name.now }
-    ensures { let forms = forms_in (map seen store.now) in
-        let text = text_of_cells (map seen name.now) in
-        MatchOption result
-        (NoneNamed text forms)
-        (λ found. IsFoundAt forms text found.number found.start) }
-{
-    match find_between(store, last, count, name) {
-        None => find_between(store, FIRST_FORM, last.number, name),
-        found => found,
-    }
+    let forms = FormCells::in_store(space, count);
+    forms.is_named(FIRST_FORM, space.neutral_part(part.from, part.to))
 }
 
 /// The form whose name stands in a part of neutral. None if no form has that name. Among many forms the
@@ -389,17 +425,17 @@ pub fn find_by_name(
         (NoneNamed text (forms_in space.now.store))
         (λ found. IsFoundAt (forms_in space.now.store) text found.number found.start) }
 {
-    let store = space.store_part(0, space.store_len());
+    let forms = FormCells::in_store(space, count);
     if count >= FORMS_FOR_INDEX {
-        return find_among_many(space, store, count, last, name, search_cost);
+        return find_among_many(space, &forms, last, name, search_cost);
     }
     if name.is_empty() {
-        return find_null(store, count);
+        return forms.find_null();
     }
     if count < FEW_FORMS {
-        return find_between(store, FIRST_FORM, count, name);
+        return forms.find_between(FIRST_FORM, count, name);
     }
-    find_from_last(store, last, count, name)
+    find_from_last(forms.cells, last, count, name)
 }
 
 /// The form whose name stands in a part of neutral. None if no form has that name. The search starts at
@@ -414,12 +450,12 @@ pub fn find_from_first(space: &Space, count: u32, part: Part) -> Option<Located>
         (NoneNamed name (forms_in space.now.store))
         (λ found. IsFoundAt (forms_in space.now.store) name found.number found.start) }
 {
-    let store = space.store_part(0, space.store_len());
+    let forms = FormCells::in_store(space, count);
     let name = space.neutral_part(part.from, part.to);
     if name.is_empty() {
-        return find_null(store, count);
+        return forms.find_null();
     }
-    find_between(store, FIRST_FORM, count, name)
+    forms.find_between(FIRST_FORM, count, name)
 }
 
 // The form with this name, found by the index if there is one. None if no form has it. Adds to
@@ -427,38 +463,35 @@ pub fn find_from_first(space: &Space, count: u32, part: Part) -> Option<Located>
 #[inline(always)]
 fn find_among_many(
     space: &Space,
-    store: &[Cell],
-    count: u32,
+    forms: &FormCells<'_>,
     last: Located,
     name: &[Cell],
     search_cost: &mut u32,
 ) -> Option<Located>
-    requires is_store { map seen store.now ≡ space.now.store }
-    requires whole { flat_forms (forms_in (map seen store.now)) ≡ map seen store.now }
-    requires bounded { length store.now ≤ 16777216 }
-    requires count_is { count ≡ length (forms_in (map seen store.now)) }
-    requires last { IsPlace (forms_in (map seen store.now)) last.number last.start }
+    requires last { IsPlace forms.now last.number last.start }
     requires bytes { All IsByte (map seen name.now) }
-    requires index { IsIndexed space.now.spare (forms_in (map seen store.now)) }
-    ensures { let forms = forms_in (map seen store.now) in
-        let text = text_of_cells (map seen name.now) in
+    requires index { IsIndexed space.now.spare forms.now }
+    ensures { let text = text_of_cells (map seen name.now) in
         MatchOption result
-        (NoneNamed text forms)
-        (λ found. IsFoundAt forms text found.number found.start) }
+        (NoneNamed text forms.now)
+        (λ found. IsFoundAt forms.now text found.number found.start) }
 {
     if space.spare_len() > 0 {
-        return look_up(store, space.spare_cells(), name, search_cost);
+        let indexed = IndexedForms::of(forms, space.spare_cells());
+        return indexed.look_up(name, search_cost);
     }
+    let count = forms.count;
     if name.is_empty() {
-        let found = find_null(store, count);
+        let found = forms.find_null();
         add_search_cost(search_cost, looked_at(found, count));
         return found;
     }
-    if let Some(form) = find_between_by_call(store, last, count, name) {
+    let cells = forms.cells;
+    if let Some(form) = find_between_by_call(cells, count, last, count, name) {
         add_search_cost(search_cost, form.number.wrapping_sub(last.number));
         return Some(form);
     }
-    let found = find_between_by_call(store, FIRST_FORM, last.number, name);
+    let found = find_between_by_call(cells, count, FIRST_FORM, last.number, name);
     add_search_cost(
         search_cost,
         count

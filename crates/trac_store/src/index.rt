@@ -12,15 +12,17 @@ ghost use Rattle.trac_language.specs.Store.{NoneNamed};
 ghost use Rattle.trac_space.specs.Cells.{seen};
 ghost use Rattle.trac_space.specs.Lists as lists;
 ghost use Rattle.trac_space.specs.Texts.{text_of_cells, IsByte};
-ghost use Rattle.trac_store.specs.FlatForms.{flat_forms};
 ghost use Rattle.trac_store.specs.Forms.{name_at};
 ghost use Rattle.trac_store.specs.Stored.{AreForms, forms_in, start_of, IsFoundAt, IsPlace};
 ghost use Rattle.trac_store.specs.Index.{hash, quarter, slots, IsIndex, IsIndexBut, IsIndexed};
 ghost use Rattle.trac_store.specs.Index.{IsOpenFor, is_open, with_entry, start_in, home_in, buried};
 ghost use Rattle.trac_store.specs.Index.{forward, earlier, started, HasStartsFrom};
 
-use crate::form_cells::{FORMS_FOR_INDEX, head, heads_of, is_text, number, number_in_head};
+use crate::form_cells::{
+    FORMS_FOR_INDEX, FormCells, head, heads_of, is_text, number, number_in_head,
+};
 use crate::located::{FIRST_FORM, Located};
+use std::marker::Model;
 use trac_space::{Cell, Space, byte_in};
 
 // An odd number near 2^64 divided by the golden ratio.
@@ -59,69 +61,92 @@ fn is_name(cells: &[Cell], from: usize, len: usize, text: &[Cell]) -> bool
     is_text(&cells[from..from + len], text)
 }
 
-// Where form `k` begins, by the table, if it has this name. None if it has another.
-#[inline]
-fn start_if_named(store: &[Cell], table: &[Cell], k: u32, name: &[Cell]) -> Option<u32>
-    requires whole { flat_forms (forms_in (map seen store.now)) ≡ map seen store.now }
-    requires bounded { length store.now ≤ 16777216 }
-    requires few { length table.now ≤ 16777216 }
-    requires index { IsIndex (map seen table.now) (forms_in (map seen store.now)) }
-    requires within { k < length (forms_in (map seen store.now)) }
-    requires bytes { All IsByte (map seen name.now) }
-    ensures { let forms = forms_in (map seen store.now) in
-        let text = text_of_cells (map seen name.now) in
-        MatchOption result
-        (name_at forms k ≢ text)
-        (λ start. IsFoundAt forms text k start) }
-{
-    let slots = 2 * (table.len() / 4);
-    let start = number(table[slots + k as usize]);
-    let at = start as usize + 3;
-    let len = number_in_head(store[at - 3]) as usize;
-    if is_name(store, at, len, name) {
-        Some(start)
-    } else {
-        None
-    }
+// The cells of forms, one form behind the other, and the table by which a form is found from its name.
+#[derive(Drop)]
+pub(crate) struct IndexedForms<'s> {
+    cells: &'s [Cell],
+    table: &'s [Cell],
 }
 
-// Finds the form with this name by the table. None if no form has it. Adds to `search_cost` how many slots
-// the search looked at beyond a few.
-#[inline(always)]
-pub(crate) fn look_up(
-    store: &[Cell],
-    table: &[Cell],
-    name: &[Cell],
-    search_cost: &mut u32,
-) -> Option<Located>
-    requires whole { flat_forms (forms_in (map seen store.now)) ≡ map seen store.now }
-    requires bounded { length store.now ≤ 16777216 }
-    requires few { length table.now ≤ 16777216 }
-    requires index { IsIndex (map seen table.now) (forms_in (map seen store.now)) }
-    requires bytes { All IsByte (map seen name.now) }
-    ensures { let forms = forms_in (map seen store.now) in
-        let text = text_of_cells (map seen name.now) in
-        MatchOption result
-        (NoneNamed text forms)
-        (λ found. IsFoundAt forms text found.number found.start) }
-{
-    let slots = 2 * (table.len() / 4);
-    let first = hash(name);
-    for i in 0..slots {
-        if i >= SLOTS_AT_NO_COST {
-            *search_cost = search_cost.saturating_add(1);
-        }
-        match table[(first + i) & (slots - 1)] {
-            Cell::Byte(_) => return None,
-            Cell::Head(k) => {
-                if let Some(start) = start_if_named(store, table, k, name) {
-                    return Some(Located { number: k, start });
-                }
-            }
-            _ => {}
+impl<'s> Model for IndexedForms<'s> {
+    ghost use Rattle.std.specs.Prelude.{List, map};
+    ghost use Rattle.trac_language.specs.Form.{Form};
+    ghost use Rattle.trac_space.specs.Cells.{seen};
+    ghost use Rattle.trac_store.specs.Stored.{forms_in};
+    ghost use Rattle.trac_store.specs.Index.{AreIndexedCells};
+
+    ghost Value = { List Form };
+
+    ghost view = { λ f. forms_in (map seen f.cells.now) };
+
+    ghost invariant = { λ f. AreIndexedCells f.cells.now f.table.now };
+}
+
+impl<'s> IndexedForms<'s> {
+    // The forms, and their table.
+    #[inline(always)]
+    pub(crate) fn of(forms: &FormCells<'s>, table: &'s [Cell]) -> IndexedForms<'s>
+        requires few { length table.now ≤ 16777216 }
+        requires index { IsIndex (map seen table.now) forms.now }
+        ensures { result ≡ forms.now }
+    {
+        IndexedForms {
+            cells: forms.cells,
+            table,
         }
     }
-    None
+
+    // Where form `k` begins, by the table, if it has this name. None if it has another.
+    #[inline]
+    fn start_if_named(&self, k: u32, name: &[Cell]) -> Option<u32>
+        requires within { k < length self.now }
+        requires bytes { All IsByte (map seen name.now) }
+        ensures { let text = text_of_cells (map seen name.now) in
+            MatchOption result
+            (name_at self.now k ≢ text)
+            (λ start. IsFoundAt self.now text k start) }
+    {
+        let cells = self.cells;
+        let slots = 2 * (self.table.len() / 4);
+        let start = number(self.table[slots + k as usize]);
+        let at = start as usize + 3;
+        let len = number_in_head(cells[at - 3]) as usize;
+        if is_name(cells, at, len, name) {
+            Some(start)
+        } else {
+            None
+        }
+    }
+
+    // Finds the form with this name by the table. None if no form has it. Adds to `search_cost` how many slots
+    // the search looked at beyond a few.
+    #[inline(always)]
+    pub(crate) fn look_up(&self, name: &[Cell], search_cost: &mut u32) -> Option<Located>
+        requires bytes { All IsByte (map seen name.now) }
+        ensures { let text = text_of_cells (map seen name.now) in
+            MatchOption result
+            (NoneNamed text self.now)
+            (λ found. IsFoundAt self.now text found.number found.start) }
+    {
+        let table = self.table;
+        let slots = 2 * (table.len() / 4);
+        let first = hash(name);
+        for i in 0..slots {
+            if i >= SLOTS_AT_NO_COST {
+                *search_cost = search_cost.saturating_add(1);
+            }
+            match table[(first + i) & (slots - 1)] {
+                Cell::Byte(_) => return None,
+                Cell::Head(k) => {
+                    if let Some(start) = self.start_if_named(k, name) {
+                        return Some(Located { number: k, start });
+                    }
+                }
+                _ => {}
+            }
+        }
+        None
+    }
 }
 
 // A search looks at this many slots without cost.
