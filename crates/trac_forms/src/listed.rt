@@ -13,7 +13,7 @@ use crate::work::Work;
 use std::marker::Model;
 use trac_language::Item;
 use trac_space::Cell;
-use trac_store::{Located, find_by_name, heads_at, item_of, number_in_head};
+use trac_store::{FormFinder, Located, heads_at, item_of, number_in_head};
 
 /// A form as it stands in the block. You can read it, and not change it.
 #[derive(Drop)]
@@ -158,7 +158,8 @@ impl<'a> Work<'a> {
         ensures { result ≡ form_named (text_of_cells name.now) self.now.forms }
     {
         let mut search_cost = 0;
-        match find_by_name(&self.space, self.count, self.last, name, &mut search_cost) {
+        let finder = FormFinder::new(&self.space, self.count, self.last);
+        match finder.find_by_name(name, &mut search_cost) {
             Some(form) => Some(self.stored_at(form)),
             None => None,
         }

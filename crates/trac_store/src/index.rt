@@ -18,9 +18,8 @@ ghost use Rattle.trac_store.specs.Index.{hash, quarter, slots, IsIndex, IsIndexB
 ghost use Rattle.trac_store.specs.Index.{IsOpenFor, is_open, with_entry, start_in, home_in, buried};
 ghost use Rattle.trac_store.specs.Index.{forward, earlier, started, HasStartsFrom};
 
-use crate::form_cells::{
-    FORMS_FOR_INDEX, FormCells, head, heads_of, is_text, number, number_in_head,
-};
+use crate::form_cells::{FormCells, head, heads_of, is_text, number, number_in_head};
+use crate::form_finder::FORMS_FOR_INDEX;
 use crate::located::{FIRST_FORM, Located};
 use std::marker::Model;
 use trac_space::{Cell, Space, byte_in};

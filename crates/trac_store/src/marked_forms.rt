@@ -13,7 +13,8 @@ ghost use Rattle.trac_store.specs.Removal.{IsFormed, IsMarkedFrom, unmarked, wit
 ghost use Rattle.trac_store.specs.Stored.{AreForms, forms_in};
 
 use crate::arguments::before_comma;
-use crate::form_cells::{find_named, heads_at};
+use crate::form_cells::heads_at;
+use crate::form_finder::FormFinder;
 use crate::index::{index_from, keep_index, unindex_from};
 use crate::located::Located;
 use trac_space::{Cell, Part, Space};
@@ -79,7 +80,7 @@ fn mark_named(
     ensures formed { IsFormed space.new count result.last.number result.last.start }
     ensures first { IsMarkedFrom (forms_in space.new.store) result.first.number result.first.start }
 {
-    match find_named(space, count, places.last, name, search_cost) {
+    match FormFinder::new(space, count, places.last).find_named(name, search_cost) {
         Some(form) => {
             space.write_store(form.start + 2, Cell::Head(MARK));
             Marking {
