@@ -5,15 +5,14 @@ ghost use Rattle.trac_language.specs.Store.{NoneNamed};
 ghost use Rattle.trac_space.specs.declared.cell.Cell.TheVariants.{Byte, Head};
 ghost use Rattle.trac_space.specs.Cells.{seen};
 ghost use Rattle.trac_space.specs.Texts.{character_of, text_of_cells, IsByte};
-ghost use Rattle.trac_store.specs.Parts.{IsTextPart, part_text};
-ghost use Rattle.trac_store.specs.Index.{IsIndexed};
+ghost use Rattle.trac_store.specs.Forms.{name_at, body_at, pointer_at};
 ghost use Rattle.trac_store.specs.Stored.{AreForms, forms_in, start_of, head_number, head_at, stored_item};
 ghost use Rattle.trac_store.specs.Stored.{IsPlace, IsFoundAt, item_of, AreCellsOfForms};
 
 use crate::located::{FIRST_FORM, Located};
 use std::marker::Model;
 use trac_language::Item;
-use trac_space::{Cell, Part, Space, byte_in};
+use trac_space::{Cell, Space, byte_in};
 
 /// The number in the head cell at place `i` of the store, 0 if no head cell stands there.
 #[inline]
@@ -35,10 +34,10 @@ pub struct Heads {
     pub pointer: u32,
 }
 
-/// The numbers in the three cells from place `start` of the store on, where a form begins. A cell that is
-/// no head gives 0.
+// The numbers in the three cells from place `start` of the store on. Each cell is tested: one that is no head
+// gives 0.
 #[inline]
-pub fn heads_at(space: &Space, start: u32) -> Heads
+pub(crate) fn tested_heads(space: &Space, start: u32) -> Heads
     requires within { start + 3 ≤ length space.now.store }
     requires bounded { length space.now.store ≤ 16777216 }
     ensures name { result.name ≡ head_at space.now.store start }
@@ -59,9 +58,9 @@ pub fn heads_of(space: &Space, form: Located) -> Heads
     requires forms { AreForms space.now.store }
     requires known { form.number < length (forms_in space.now.store) }
     requires begins { form.start ≡ start_of (forms_in space.now.store) form.number }
-    ensures name { result.name ≡ head_at space.now.store form.start }
-    ensures body { result.body ≡ head_at space.now.store (form.start + 1) }
-    ensures pointer { result.pointer ≡ head_at space.now.store (form.start + 2) }
+    ensures name { result.name ≡ length (name_at (forms_in space.now.store) form.number) }
+    ensures body { result.body ≡ length (body_at (forms_in space.now.store) form.number) }
+    ensures pointer { result.pointer ≡ pointer_at (forms_in space.now.store) form.number }
 {
     let cells = space.store_part(form.start, form.start + 3);
     Heads {

@@ -22,7 +22,7 @@ mod located;
 mod marked_forms;
 
 pub use arguments::before_comma;
-pub use form_cells::{Heads, head, heads_at, heads_of, item_in, item_of, number_in_head};
+pub use form_cells::{Heads, head, heads_of, item_in, item_of, number_in_head};
 pub use form_finder::{FEW_FORMS, FormFinder};
 pub use form_writing::{remove_form, store_form};
 pub use gap_making::segment_store;

@@ -13,7 +13,7 @@ ghost use Rattle.trac_store.specs.Removal.{IsFormed, IsMarkedFrom, unmarked, wit
 ghost use Rattle.trac_store.specs.Stored.{AreForms, forms_in};
 
 use crate::arguments::before_comma;
-use crate::form_cells::heads_at;
+use crate::form_cells::tested_heads;
 use crate::form_finder::FormFinder;
 use crate::index::{index_from, keep_index, unindex_from};
 use crate::located::Located;
@@ -23,7 +23,7 @@ use trac_space::{Cell, Part, Space};
 const MARK: u32 = u32::MAX;
 
 /// Marks each form whose name stands between the comma marks of a part of neutral. Gives a form before
-/// which no form is marked. `last` and `search_cost` are those of `find_named`.
+/// which no form is marked. `last` is the form used last, and the searches add to `search_cost`.
 pub fn mark_all(
     space: &mut Space,
     count: u32,
@@ -136,7 +136,7 @@ fn remove_marked(space: &mut Space, first: Located, count: u32) -> u32
     };
     let mut from = first.start;
     for _form in first.number..count {
-        let form = heads_at(space, from);
+        let form = tested_heads(space, from);
         let end = from + 3 + form.name + form.body;
         if form.pointer == MARK {
             gap = move_gap(space, gap, from, end);

@@ -1,6 +1,6 @@
-use Rattle.trac_store.proofs.Words.{◌≡◌, ◌+◌, ◌≤◌, length, ap, ◌∙◌, arith, length-map, length-between, seen, IsHeadAt, head_at}
+use Rattle.trac_store.proofs.Words.{◌≡◌, ◌+◌, ◌≤◌, length, ap, ◌∙◌, arith, length-map, length-between, seen, IsHeadAt, forms_in, head_at}
 use Rattle.trac_store.proofs.HeadCells.{number-in-part, head-in-part, is-head-at}
-use Rattle.trac_store.proofs.Places.{stands, head_cells}
+use Rattle.trac_store.proofs.Places.{Stands, stands, head_cells}
 use Rattle.trac_store.proofs.form_cells.heads_of.Goals as goal
 use Rattle.trac_store.proofs.form_cells.heads_of.Goals.{Start, After-store_part-cells}
 
@@ -53,15 +53,22 @@ number_in_head-requires-3 c =
     let s = (goal.at.number_in_head-requires-3 c).Start in
     head-in-part _ _ c.args.form.start (c.args.form.start + 3) 2 (ends s) c.store_part-cells.ensures (omega arith) (heads s).2
 
+-- where the form stands
+form : (c : Start) → Stands (forms_in c.args.space.now.store) c.args.space.now.store c.args.form.number c.args.form.start
+form c = stands _ _ _ _ c.requires.forms.whole c.requires.known c.requires.begins
+
 pub returns-clause-name : goal.returns-clause-name
 returns-clause-name c =
+    let s = (goal.at.returns-clause-name c).Start in
     let here : c.args.form.start + 0 ≡ c.args.form.start = omega arith in
-    c.number_in_head.ensures ∙ number-in-part _ _ c.args.form.start (c.args.form.start + 3) 0 (ends (goal.at.returns-clause-name c).Start) c.store_part-cells.ensures (omega arith) ∙ ap (head_at _) here
+    c.number_in_head.ensures ∙ number-in-part _ _ c.args.form.start (c.args.form.start + 3) 0 (ends s) c.store_part-cells.ensures (omega arith) ∙ ap (head_at _) here ∙ (form s).name_len
 
 pub returns-clause-body : goal.returns-clause-body
 returns-clause-body c =
-    c.number_in_head-2.ensures ∙ number-in-part _ _ c.args.form.start (c.args.form.start + 3) 1 (ends (goal.at.returns-clause-body c).Start) c.store_part-cells.ensures (omega arith)
+    let s = (goal.at.returns-clause-body c).Start in
+    c.number_in_head-2.ensures ∙ number-in-part _ _ c.args.form.start (c.args.form.start + 3) 1 (ends s) c.store_part-cells.ensures (omega arith) ∙ (form s).body_len
 
 pub returns-clause-pointer : goal.returns-clause-pointer
 returns-clause-pointer c =
-    c.number_in_head-3.ensures ∙ number-in-part _ _ c.args.form.start (c.args.form.start + 3) 2 (ends (goal.at.returns-clause-pointer c).Start) c.store_part-cells.ensures (omega arith)
+    let s = (goal.at.returns-clause-pointer c).Start in
+    c.number_in_head-3.ensures ∙ number-in-part _ _ c.args.form.start (c.args.form.start + 3) 2 (ends s) c.store_part-cells.ensures (omega arith) ∙ (form s).pointer

@@ -28,7 +28,7 @@ returns-else-not-add-clause-index c =
     let k = c.args.form.number in
     let f = stands forms s.store k c.args.form.start c.requires.forms.whole c.requires.within c.requires.begins in
     let form = form_at forms k in
-    let len : c.heads_of-heads.result.name ≡ length form.name = c.heads_of-heads.ensures.name ∙ f.name_len in
+    let len : c.heads_of-heads.result.name ≡ length form.name = c.heads_of-heads.ensures.name in
     let part = c.store_part.ensures ∙ ap (λ n. slice_range s.store (c.args.form.start + 3) (c.args.form.start + 3 + n)) len ∙ f.name_part in
     let name : text_of_cells c.store_part.result.now ≡ form.name = sym (bytes-seen c.store_part.result.now) ∙ ap text_of_cells part ∙ character_of-Byte form.name in
     let number : c.hash-first.result ≡ hash form.name = c.hash-first.ensures.value ∙ ap hash name in
@@ -44,6 +44,6 @@ hash-first-requires c =
     let s = c.args.space.now in
     let f = stands (forms_in s.store) s.store c.args.form.number c.args.form.start c.requires.forms.whole c.requires.within c.requires.begins in
     let form = form_at (forms_in s.store) c.args.form.number in
-    let len : c.heads_of-heads.result.name ≡ length form.name = c.heads_of-heads.ensures.name ∙ f.name_len in
+    let len : c.heads_of-heads.result.name ≡ length form.name = c.heads_of-heads.ensures.name in
     let part = c.store_part.ensures ∙ ap (λ n. slice_range s.store (c.args.form.start + 3) (c.args.form.start + 3 + n)) len ∙ f.name_part in
     bytes-of-seen c.store_part.result.now (subst (All IsByte) (sym part) (bytes-flat form.name))

@@ -1,10 +1,7 @@
-use Rattle.trac_forms.proofs.Words.{arith, forms_in}
+use Rattle.trac_forms.proofs.Words.{arith, forms_in, sym, ◌∙◌}
 use Rattle.trac_forms.proofs.ListedForms.{stored-form, stored-is_form}
 use Rattle.trac_forms.proofs.Strings.{known}
 use Rattle.trac_forms.proofs.work.Work.stored_at.Goals as goal
-
-pub heads_at-heads-requires-clause-within : goal.heads_at-heads-requires-clause-within
-heads_at-heads-requires-clause-within c = omega (arith, known c.self.invariant c.self.view_is c.requires.known c.requires.begins)
 
 pub overflow_add-from : goal.overflow_add-from
 overflow_add-from c = omega (arith, known c.self.invariant c.self.view_is c.requires.known c.requires.begins)
@@ -27,12 +24,14 @@ store_part-requires-2-clause-within c = omega (arith, known c.self.invariant c.s
 pub invariant_of-result : goal.invariant_of-result
 invariant_of-result c =
     let s = c.self.inside.space in
-    let h = c.heads_at-heads.ensures in
+    let h = c.heads_of-heads.ensures in
     let within = rw (← c.self.view_is) at c.requires.known in
-    stored-is_form (forms_in s.store) s.store _ _ c.args.form.number c.args.form.start _ _ _ c.self.invariant.forms.whole within (rw (← c.self.view_is) at c.requires.begins) h.name h.body h.pointer c.store_part.ensures c.store_part-2.ensures c.self.invariant.forms.bounded c.self.invariant.sound.forms
+    let f = known c.self.invariant c.self.view_is c.requires.known c.requires.begins in
+    stored-is_form (forms_in s.store) s.store _ _ c.args.form.number c.args.form.start _ _ _ c.self.invariant.forms.whole within (rw (← c.self.view_is) at c.requires.begins) (h.name ∙ sym f.name_len) (h.body ∙ sym f.body_len) (h.pointer ∙ sym f.pointer) c.store_part.ensures c.store_part-2.ensures c.self.invariant.forms.bounded c.self.invariant.sound.forms
 
 pub returns : goal.returns
 returns c =
-    let h = c.heads_at-heads.ensures in
+    let h = c.heads_of-heads.ensures in
     let within = rw (← c.self.view_is) at c.requires.known in
-    rw (← c.self.view_is) (stored-form (forms_in c.self.inside.space.store) c.self.inside.space.store _ _ c.args.form.number c.args.form.start _ _ _ c.self.invariant.forms.whole within (rw (← c.self.view_is) at c.requires.begins) h.name h.body h.pointer c.store_part.ensures c.store_part-2.ensures)
+    let f = known c.self.invariant c.self.view_is c.requires.known c.requires.begins in
+    rw (← c.self.view_is) (stored-form (forms_in c.self.inside.space.store) c.self.inside.space.store _ _ c.args.form.number c.args.form.start _ _ _ c.self.invariant.forms.whole within (rw (← c.self.view_is) at c.requires.begins) (h.name ∙ sym f.name_len) (h.body ∙ sym f.body_len) (h.pointer ∙ sym f.pointer) c.store_part.ensures c.store_part-2.ensures)
