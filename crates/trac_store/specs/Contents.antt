@@ -22,10 +22,13 @@ shown s = record {
   room = s.room;
 }
 
--- the store is the cells of so many forms and nothing else, the index is theirs, and the form at place
--- `last` begins at `start`, where the cells end if there is none
-pub record HasForms (space : Lists) (count last start : ℕ) : Type 0 where
+-- the store is the cells of so many forms and nothing else, and the index is theirs
+pub record HasForms (space : Lists) (count : ℕ) : Type 0 where
   pub forms : AreForms space.store
   pub count_is : count ≡ length (forms_in space.store)
-  pub place : IsPlace (forms_in space.store) last start
   pub index : IsIndexed space.spare (forms_in space.store)
+
+-- and the form at place `last` begins at `start`, where the cells end if there is none
+pub record HasFormsFrom (space : Lists) (count last start : ℕ) : Type 0 where
+  pub has : HasForms space count
+  pub place : IsPlace (forms_in space.store) last start

@@ -1,14 +1,16 @@
 -- How forms stand as the cells of a store.
 use Rattle.std.specs.Prelude.{◌≡◌, ℕ, suc, ◌+◌, List, [], ◌∷◌, length, ◌≤◌, map, take, drop}
-use Rattle.std.specs.Prelude.{Option, Some, None, slice_get}
+use Rattle.std.specs.Prelude.{Option, Some, None, MatchOption, slice_get}
 use Rattle.trac_language.specs.declared.item.Item.{Item}
 use Rattle.trac_language.specs.declared.item.Item.TheVariants as item
 use Rattle.trac_language.specs.Form.{Form}
 use Rattle.trac_language.specs.Text.{Text}
+use Rattle.trac_language.specs.Store.{NoneNamed}
 use Rattle.trac_space.specs.declared.cell.Cell.{Cell}
 use Rattle.trac_space.specs.declared.cell.Cell.TheVariants.{Byte, Call, Comma, Gap, Head}
 use Rattle.trac_space.specs.Cells.{seen}
 use Rattle.trac_space.specs.Texts.{text_of_cells}
+use Rattle.trac_store.specs.declared.located.Located.{Located}
 use Rattle.trac_store.specs.FlatForms.{flat_forms}
 use Rattle.trac_store.specs.Forms.{IsNamedAt}
 
@@ -77,3 +79,10 @@ stored_item cells i = item_of_cell (slice_get cells i)
 pub record IsFoundAt (forms : List Form) (name : Text) (k start : ℕ) : Type 0 where
   pub named : IsNamedAt forms name k
   pub start_is : start ≡ start_of forms k
+
+-- the answer to a search for a name: a form that has it, or none if no form has it
+abbrev pub IsAnswer : List Form → Text → Option Located → Type 0
+IsAnswer forms name answer =
+    MatchOption answer
+    (NoneNamed name forms)
+    (λ found. IsFoundAt forms name found.number found.start)

@@ -7,7 +7,7 @@ ghost use Rattle.trac_space.specs.Cells.{seen};
 ghost use Rattle.trac_space.specs.Texts.{character_of, text_of_cells, IsByte};
 ghost use Rattle.trac_store.specs.Forms.{name_at, body_at, pointer_at};
 ghost use Rattle.trac_store.specs.Stored.{AreForms, forms_in, start_of, head_number, head_at, stored_item};
-ghost use Rattle.trac_store.specs.Stored.{IsPlace, IsFoundAt, item_of, AreCellsOfForms};
+ghost use Rattle.trac_store.specs.Stored.{IsPlace, IsFoundAt, IsAnswer, item_of, AreCellsOfForms};
 
 use crate::located::{FIRST_FORM, Located};
 use std::marker::Model;
@@ -209,9 +209,7 @@ impl<'s> FormCells<'s> {
 
     // The form with the null name. None if no form has it.
     pub(crate) fn find_null(&self) -> Option<Located>
-        ensures { MatchOption result
-            (NoneNamed [] self.now)
-            (λ found. IsFoundAt self.now [] found.number found.start) }
+        ensures { IsAnswer self.now [] result }
     {
         let cells = self.cells;
         let mut start = 0;
@@ -301,11 +299,7 @@ pub(crate) fn find_from_last(
     requires last { IsPlace (forms_in (map seen cells.now)) last.number last.start }
     requires bytes { All IsByte (map seen name.now) }
     requires some { 0 < length name.now }
-    ensures { let forms = forms_in (map seen cells.now) in
-        let text = text_of_cells (map seen name.now) in
-        MatchOption result
-        (NoneNamed text forms)
-        (λ found. IsFoundAt forms text found.number found.start) }
+    ensures { IsAnswer (forms_in (map seen cells.now)) (text_of_cells (map seen name.now)) result }
 {
     let forms = FormCells { cells, count };
     match forms.find_between(last, count, name) {

@@ -2,13 +2,12 @@
 //!
 //! A search takes the form that was used last. To read that form again costs no walk over the others,
 //! and to read all forms in order costs one walk.
-ghost use Rattle.std.specs.Prelude.{◌≡◌, ◌≤◌, ◌<◌, length, map, All, MatchOption, IsTrue};
-ghost use Rattle.trac_language.specs.Store.{NoneNamed};
+ghost use Rattle.std.specs.Prelude.{◌≡◌, ◌≤◌, ◌<◌, length, map, All, IsTrue};
 ghost use Rattle.trac_space.specs.Cells.{seen};
 ghost use Rattle.trac_space.specs.Texts.{text_of_cells, IsByte};
 ghost use Rattle.trac_store.specs.Contents.{HasForms, shown};
 ghost use Rattle.trac_store.specs.Parts.{IsTextPart, part_text};
-ghost use Rattle.trac_store.specs.Stored.{IsFoundAt, start_of};
+ghost use Rattle.trac_store.specs.Stored.{IsAnswer, IsFoundAt, IsPlace, forms_in, start_of};
 
 use crate::form_cells::{FormCells, find_between_by_call, find_from_last, head};
 use crate::index::IndexedForms;
@@ -34,18 +33,19 @@ impl<'s, 'a> Model for FormFinder<'s, 'a> {
 
     ghost Value = { Contents };
 
-    ghost use Rattle.trac_store.specs.Contents.{shown, HasForms};
+    ghost use Rattle.trac_store.specs.Contents.{shown, HasFormsFrom};
 
     ghost view = { λ f. shown f.space.now };
 
-    ghost invariant = { λ f. HasForms f.space.now f.count f.last.number f.last.start };
+    ghost invariant = { λ f. HasFormsFrom f.space.now f.count f.last.number f.last.start };
 }
 
 impl<'s, 'a> FormFinder<'s, 'a> {
     /// Finds forms among the `count` forms of `space`, of which `last` was used last.
     #[inline(always)]
     pub fn new(space: &'s Space<'a>, count: u32, last: Located) -> FormFinder<'s, 'a>
-        requires { HasForms space.now count last.number last.start }
+        requires forms { HasForms space.now count }
+        requires last { IsPlace (forms_in space.now.store) last.number last.start }
         ensures { result ≡ shown space.now }
     {
         FormFinder { space, count, last }
@@ -113,10 +113,7 @@ impl<'s, 'a> FormFinder<'s, 'a> {
     #[inline(always)]
     pub fn find_named(&self, part: Part, search_cost: &mut u32) -> Option<Located>
         requires { IsTextPart self.now.neutral part.from part.to }
-        ensures { let name = part_text self.now.neutral part.from part.to in
-            MatchOption result
-            (NoneNamed name self.now.forms)
-            (λ found. IsFoundAt self.now.forms name found.number found.start) }
+        ensures { IsAnswer self.now.forms (part_text self.now.neutral part.from part.to) result }
     {
         let name = self.space.neutral_part(part.from, part.to);
         self.find_by_name(name, search_cost)
@@ -127,10 +124,7 @@ impl<'s, 'a> FormFinder<'s, 'a> {
     #[inline(always)]
     pub fn find_by_name(&self, name: &[Cell], search_cost: &mut u32) -> Option<Located>
         requires { All IsByte (map seen name.now) }
-        ensures { let text = text_of_cells (map seen name.now) in
-            MatchOption result
-            (NoneNamed text self.now.forms)
-            (λ found. IsFoundAt self.now.forms text found.number found.start) }
+        ensures { IsAnswer self.now.forms (text_of_cells (map seen name.now)) result }
     {
         let count = self.count;
         if count >= FORMS_FOR_INDEX {
@@ -151,10 +145,7 @@ impl<'s, 'a> FormFinder<'s, 'a> {
     #[inline(always)]
     pub fn find_from_first(&self, part: Part) -> Option<Located>
         requires { IsTextPart self.now.neutral part.from part.to }
-        ensures { let name = part_text self.now.neutral part.from part.to in
-            MatchOption result
-            (NoneNamed name self.now.forms)
-            (λ found. IsFoundAt self.now.forms name found.number found.start) }
+        ensures { IsAnswer self.now.forms (part_text self.now.neutral part.from part.to) result }
     {
         let name = self.space.neutral_part(part.from, part.to);
         let forms = self.cells();
@@ -169,10 +160,7 @@ impl<'s, 'a> FormFinder<'s, 'a> {
     #[inline(always)]
     fn find_among_many(&self, name: &[Cell], search_cost: &mut u32) -> Option<Located>
         requires { All IsByte (map seen name.now) }
-        ensures { let text = text_of_cells (map seen name.now) in
-            MatchOption result
-            (NoneNamed text self.now.forms)
-            (λ found. IsFoundAt self.now.forms text found.number found.start) }
+        ensures { IsAnswer self.now.forms (text_of_cells (map seen name.now)) result }
     {
         let forms = self.cells();
         if self.space.spare_len() > 0 {

@@ -8,12 +8,12 @@ ghost use Rattle.std.specs.Prelude.{ℕ, length, map, not, take, slice_range, re
 ghost use Rattle.std.specs.Prelude.{MatchOption, IfSome, IsTrue, Decides};
 ghost use Rattle.std.specs.Bool.{OnTrue, OnFalse};
 ghost use Rattle.trac_language.specs.Text.{Text};
-ghost use Rattle.trac_language.specs.Store.{NoneNamed};
 ghost use Rattle.trac_space.specs.Cells.{seen};
 ghost use Rattle.trac_space.specs.Lists as lists;
 ghost use Rattle.trac_space.specs.Texts.{text_of_cells, IsByte};
+ghost use Rattle.trac_store.specs.Contents.{HasForms};
 ghost use Rattle.trac_store.specs.Forms.{name_at};
-ghost use Rattle.trac_store.specs.Stored.{AreForms, forms_in, start_of, IsFoundAt, IsPlace};
+ghost use Rattle.trac_store.specs.Stored.{AreForms, forms_in, start_of, IsAnswer, IsFoundAt, IsPlace};
 ghost use Rattle.trac_store.specs.Index.{hash, quarter, slots, IsIndex, IsIndexBut, IsIndexed};
 ghost use Rattle.trac_store.specs.Index.{IsOpenFor, is_open, with_entry, start_in, home_in, buried};
 ghost use Rattle.trac_store.specs.Index.{forward, earlier, started, HasStartsFrom};
@@ -122,10 +122,7 @@ impl<'s> IndexedForms<'s> {
     #[inline(always)]
     pub(crate) fn look_up(&self, name: &[Cell], search_cost: &mut u32) -> Option<Located>
         requires bytes { All IsByte (map seen name.now) }
-        ensures { let text = text_of_cells (map seen name.now) in
-            MatchOption result
-            (NoneNamed text self.now)
-            (λ found. IsFoundAt self.now text found.number found.start) }
+        ensures { IsAnswer self.now (text_of_cells (map seen name.now)) result }
     {
         let table = self.table;
         let slots = 2 * (table.len() / 4);
@@ -318,11 +315,9 @@ fn start_earlier(space: &mut Space, k: u32, cells: u32)
 /// Removes a form from the index of `count` forms, if there is one, and renumbers those behind it.
 #[inline(always)]
 pub fn unindex(space: &mut Space, form: Located, count: u32)
-    requires forms { AreForms space.old.store }
-    requires count_is { count ≡ length (forms_in space.old.store) }
+    requires forms { HasForms space.old count }
     requires within { form.number < count }
     requires begins { form.start ≡ start_of (forms_in space.old.store) form.number }
-    requires index { IsIndexed space.old.spare (forms_in space.old.store) }
     ensures same { space.new ≡ record space.old { spare = space.new.spare } }
     ensures index { IsIndexed space.new.spare (remove (forms_in space.old.store) form.number) }
 {
@@ -402,9 +397,8 @@ pub(crate) fn index_from(space: &mut Space, first: Located, count: u32)
 
 // Removes the forms from number `k` on from the table of `count` forms, if there is one.
 pub(crate) fn unindex_from(space: &mut Space, k: u32, count: u32)
+    requires forms { HasForms space.old count }
     requires order { k ≤ count }
-    requires count_is { count ≡ length (forms_in space.old.store) }
-    requires index { IsIndexed space.old.spare (forms_in space.old.store) }
     ensures same { space.new ≡ record space.old { spare = space.new.spare } }
     ensures index { IsIndexed space.new.spare (take k (forms_in space.old.store)) }
 {
@@ -464,9 +458,7 @@ const INDEX_COST: u32 = 8;
 /// takes free cells, which still count as free; nothing else changes. This processor's own choice.
 #[inline]
 pub fn keep_index(space: &mut Space, count: u32, search_cost: &mut u32)
-    requires forms { AreForms space.old.store }
-    requires count_is { count ≡ length (forms_in space.old.store) }
-    requires index { IsIndexed space.old.spare (forms_in space.old.store) }
+    requires forms { HasForms space.old count }
     ensures same { space.new ≡ record space.old { spare = space.new.spare } }
     ensures index { IsIndexed space.new.spare (forms_in space.old.store) }
 {
@@ -478,9 +470,7 @@ pub fn keep_index(space: &mut Space, count: u32, search_cost: &mut u32)
 // Builds the index, and resets the cost of searches, if that also pays for the move of active.
 #[inline(never)]
 fn index_worthwhile(space: &mut Space, count: u32, search_cost: &mut u32)
-    requires forms { AreForms space.old.store }
-    requires count_is { count ≡ length (forms_in space.old.store) }
-    requires index { IsIndexed space.old.spare (forms_in space.old.store) }
+    requires forms { HasForms space.old count }
     ensures same { space.new ≡ record space.old { spare = space.new.spare } }
     ensures index { IsIndexed space.new.spare (forms_in space.old.store) }
 {

@@ -6,6 +6,7 @@ ghost use Rattle.std.specs.Prelude.{◌≡◌, ◌∷◌, [], ◌++◌, ◌+◌,
 ghost use Rattle.std.specs.Prelude.{length, take, drop};
 ghost use Rattle.std.specs.Prelude.{slice_range, ◌⊎◌};
 ghost use Rattle.trac_store.specs.Arguments.{AreParted, texts_between};
+ghost use Rattle.trac_store.specs.Contents.{HasForms};
 ghost use Rattle.trac_store.specs.Parts.{IsTextPart, part_text};
 ghost use Rattle.trac_store.specs.FlatForms.{flat_forms};
 ghost use Rattle.trac_store.specs.Index.{IsIndexed};
@@ -104,10 +105,8 @@ fn earlier(a: Located, b: Located) -> Located
 /// Removes the marked forms from the store and from the index, and gives how many forms are left. No form
 /// before `first` is marked.
 pub fn take_out_marked(space: &mut Space, first: Located, count: u32) -> u32
-    requires forms { AreForms space.old.store }
-    requires count_is { count ≡ length (forms_in space.old.store) }
+    requires forms { HasForms space.old count }
     requires first { IsMarkedFrom (forms_in space.old.store) first.number first.start }
-    requires index { IsIndexed space.old.spare (forms_in space.old.store) }
     ensures gone { let forms = unmarked (forms_in space.old.store) in
         space.new ≡ record space.old { store = flat_forms forms; spare = space.new.spare } }
     ensures count { result ≡ length (unmarked (forms_in space.old.store)) }
