@@ -6,7 +6,7 @@ ghost use Rattle.trac_language.specs.Store.{form_named};
 ghost use Rattle.trac_space.specs.Texts.{IsByte, text_of_cells};
 ghost use Rattle.trac_store.specs.Forms.{form_at};
 ghost use Rattle.trac_forms.specs.Contents.{form_place};
-ghost use Rattle.trac_store.specs.Stored.{item_of, start_of};
+ghost use Rattle.trac_store.specs.Stored.{item_of, IsLocated};
 
 use crate::item::FormId;
 use crate::work::Work;
@@ -175,8 +175,7 @@ impl<'a> Work<'a> {
 
     // A form whose place is known, to be read.
     fn stored_at(&self, form: Located) -> StoredForm<'_>
-        requires known { form.number < length self.now.forms }
-        requires begins { form.start ≡ start_of self.now.forms form.number }
+        requires form { IsLocated self.now.forms form.number form.start }
         ensures { result ≡ form_at self.now.forms form.number }
     {
         let heads = heads_of(&self.space, form);

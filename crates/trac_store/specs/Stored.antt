@@ -1,5 +1,5 @@
 -- How forms stand as the cells of a store.
-use Rattle.std.specs.Prelude.{◌≡◌, ℕ, suc, ◌+◌, List, [], ◌∷◌, length, ◌≤◌, map, take, drop}
+use Rattle.std.specs.Prelude.{◌≡◌, ℕ, suc, ◌+◌, List, [], ◌∷◌, length, ◌≤◌, ◌<◌, map, take, drop}
 use Rattle.std.specs.Prelude.{Option, Some, None, MatchOption, slice_get}
 use Rattle.trac_language.specs.declared.item.Item.{Item}
 use Rattle.trac_language.specs.declared.item.Item.TheVariants as item
@@ -65,6 +65,11 @@ head_at cells i = head_number (slice_get cells i)
 -- the form at place k begins there; behind the last the cells end
 pub record IsPlace (forms : List Form) (k start : ℕ) : Type 0 where
   pub within : k ≤ length forms
+  pub start_is : start ≡ start_of forms k
+
+-- there is a form at place k, and it begins there
+pub record IsLocated (forms : List Form) (k start : ℕ) : Type 0 where
+  pub within : k < length forms
   pub start_is : start ≡ start_of forms k
 
 -- the item in a cell of the store

@@ -1,122 +1,16 @@
-//! Reads forms in the cells of a store, and searches the cells for them.
+//! Searches the cells of forms for the form of a name.
 ghost use Rattle.std.specs.Prelude.{◌≡◌, ◌+◌, ◌-◌, ◌≤◌, ◌<◌, [], length, map, slice_range};
-ghost use Rattle.std.specs.Prelude.{slice_index_or, All, Some, MatchOption, Decides, IsTrue};
+ghost use Rattle.std.specs.Prelude.{slice_index_or, All, MatchOption, Decides, IsTrue};
 ghost use Rattle.trac_language.specs.Store.{NoneNamed};
-ghost use Rattle.trac_space.specs.declared.cell.Cell.TheVariants.{Byte, Head};
+ghost use Rattle.trac_space.specs.declared.cell.Cell.TheVariants.{Byte};
 ghost use Rattle.trac_space.specs.Cells.{seen};
 ghost use Rattle.trac_space.specs.Texts.{character_of, text_of_cells, IsByte};
-ghost use Rattle.trac_store.specs.Forms.{name_at, body_at, pointer_at};
-ghost use Rattle.trac_store.specs.Stored.{AreForms, forms_in, start_of, head_number, head_at, stored_item};
-ghost use Rattle.trac_store.specs.Stored.{IsPlace, IsFoundAt, IsAnswer, item_of, AreCellsOfForms};
+ghost use Rattle.trac_store.specs.Stored.{forms_in, IsPlace, IsLocated, IsFoundAt, IsAnswer, AreCellsOfForms};
 
+use crate::form_heads::number_in_head;
 use crate::located::{FIRST_FORM, Located};
 use std::marker::Model;
-use trac_language::Item;
-use trac_space::{Cell, Space, byte_in};
-
-/// The number in the head cell at place `i` of the store, 0 if no head cell stands there.
-#[inline]
-pub fn head(space: &Space, i: u32) -> u32
-    ensures { result ≡ head_at space.now.store i }
-{
-    match space.store_at(i) {
-        Some(cell) => number(cell),
-        None => 0,
-    }
-}
-
-/// The numbers in the three head cells of a form: the lengths of its name and of its body, in cells, and
-/// its pointer, a place in the body.
-#[derive(Clone, Copy)]
-pub struct Heads {
-    pub name: u32,
-    pub body: u32,
-    pub pointer: u32,
-}
-
-// The numbers in the three cells from place `start` of the store on. Each cell is tested: one that is no head
-// gives 0.
-#[inline]
-pub(crate) fn tested_heads(space: &Space, start: u32) -> Heads
-    requires within { start + 3 ≤ length space.now.store }
-    requires bounded { length space.now.store ≤ 16777216 }
-    ensures name { result.name ≡ head_at space.now.store start }
-    ensures body { result.body ≡ head_at space.now.store (start + 1) }
-    ensures pointer { result.pointer ≡ head_at space.now.store (start + 2) }
-{
-    let cells = space.store_part(start, start + 3);
-    Heads {
-        name: number(cells[0]),
-        body: number(cells[1]),
-        pointer: number(cells[2]),
-    }
-}
-
-/// The three head numbers of a form whose place is known. The cells are read without a test.
-#[inline]
-pub fn heads_of(space: &Space, form: Located) -> Heads
-    requires forms { AreForms space.now.store }
-    requires known { form.number < length (forms_in space.now.store) }
-    requires begins { form.start ≡ start_of (forms_in space.now.store) form.number }
-    ensures name { result.name ≡ length (name_at (forms_in space.now.store) form.number) }
-    ensures body { result.body ≡ length (body_at (forms_in space.now.store) form.number) }
-    ensures pointer { result.pointer ≡ pointer_at (forms_in space.now.store) form.number }
-{
-    let cells = space.store_part(form.start, form.start + 3);
-    Heads {
-        name: number_in_head(cells[0]),
-        body: number_in_head(cells[1]),
-        pointer: number_in_head(cells[2]),
-    }
-}
-
-/// The item in the cell at place `i` of the store. A gap of ordinal 0 if no item stands there.
-pub fn item_in(space: &Space, i: u32) -> Item
-    ensures { result ≡ stored_item space.now.store i }
-{
-    match space.store_at(i) {
-        Some(cell) => item_of(&cell),
-        None => Item::Gap(0),
-    }
-}
-
-/// The item in a cell. A gap of ordinal 0 if the cell holds no item.
-pub fn item_of(cell: &Cell) -> Item
-    ensures { result ≡ item_of cell.now }
-{
-    match *cell {
-        Cell::Byte(byte) => Item::Byte(byte),
-        Cell::Gap(ordinal) => Item::Gap(ordinal),
-        _ => Item::Gap(0),
-    }
-}
-
-// The number in a head cell, 0 for any other cell.
-#[inline]
-pub(crate) fn number(cell: Cell) -> u32
-    ensures { result ≡ head_number (Some cell) }
-{
-    match cell {
-        Cell::Head(number) => number,
-        _ => 0,
-    }
-}
-
-// A match arm that is never reached reads from this array without elements, so the compiler leaves out
-// the test for that arm.
-const UNREACHED_NUMBER: [u32; 0] = [];
-
-/// The number in a head cell, read without a test.
-#[inline]
-pub fn number_in_head(cell: Cell) -> u32
-    requires { cell ≡ Head (head_number (Some cell)) }
-    ensures { result ≡ head_number (Some cell) }
-{
-    match cell {
-        Cell::Head(number) => number,
-        _ => UNREACHED_NUMBER[0],
-    }
-}
+use trac_space::{Cell, byte_in};
 
 // Whether two texts of the same length have the same characters.
 #[inline]
@@ -195,8 +89,7 @@ impl<'s> FormCells<'s> {
     // Whether the form has the name.
     #[inline(always)]
     pub(crate) fn is_named(&self, form: Located, name: &[Cell]) -> bool
-        requires begins { IsPlace self.now form.number form.start }
-        requires within { form.number < length self.now }
+        requires form { IsLocated self.now form.number form.start }
         requires bytes { All IsByte (map seen name.now) }
         ensures { let text = text_of_cells (map seen name.now) in
             IsTrue result → IsFoundAt self.now text form.number form.start }

@@ -9,7 +9,8 @@ ghost use Rattle.trac_store.specs.Contents.{HasForms, shown};
 ghost use Rattle.trac_store.specs.Parts.{IsTextPart, part_text};
 ghost use Rattle.trac_store.specs.Stored.{IsAnswer, IsFoundAt, IsPlace, forms_in, start_of};
 
-use crate::form_cells::{FormCells, find_between_by_call, find_from_last, head};
+use crate::form_cells::{FormCells, find_between_by_call, find_from_last};
+use crate::form_heads::head;
 use crate::index::IndexedForms;
 use crate::located::{FIRST_FORM, Located};
 use std::marker::Model;

@@ -13,13 +13,14 @@ ghost use Rattle.trac_space.specs.Lists as lists;
 ghost use Rattle.trac_space.specs.Texts.{text_of_cells, IsByte};
 ghost use Rattle.trac_store.specs.Contents.{HasForms};
 ghost use Rattle.trac_store.specs.Forms.{name_at};
-ghost use Rattle.trac_store.specs.Stored.{AreForms, forms_in, start_of, IsAnswer, IsFoundAt, IsPlace};
+ghost use Rattle.trac_store.specs.Stored.{AreForms, forms_in, start_of, IsAnswer, IsFoundAt, IsLocated, IsPlace};
 ghost use Rattle.trac_store.specs.Index.{hash, quarter, slots, IsIndex, IsIndexBut, IsIndexed};
 ghost use Rattle.trac_store.specs.Index.{IsOpenFor, is_open, with_entry, start_in, home_in, buried};
 ghost use Rattle.trac_store.specs.Index.{forward, earlier, started, HasStartsFrom};
 
-use crate::form_cells::{FormCells, head, heads_of, is_text, number, number_in_head};
+use crate::form_cells::{FormCells, is_text};
 use crate::form_finder::FORMS_FOR_INDEX;
+use crate::form_heads::{head, heads_of, number, number_in_head};
 use crate::located::{FIRST_FORM, Located};
 use std::marker::Model;
 use trac_space::{Cell, Space, byte_in};
@@ -220,8 +221,7 @@ fn add(space: &mut Space, first: usize, form: Located) -> bool
 #[inline(always)]
 pub(crate) fn index_form(space: &mut Space, form: Located)
     requires forms { AreForms space.old.store }
-    requires within { form.number < length (forms_in space.old.store) }
-    requires begins { form.start ≡ start_of (forms_in space.old.store) form.number }
+    requires form { IsLocated (forms_in space.old.store) form.number form.start }
     requires index { IsIndexed space.old.spare (take form.number (forms_in space.old.store)) }
     ensures same { space.new ≡ record space.old { spare = space.new.spare } }
     ensures index { IsIndexed space.new.spare (take (form.number + 1) (forms_in space.old.store)) }
@@ -316,8 +316,7 @@ fn start_earlier(space: &mut Space, k: u32, cells: u32)
 #[inline(always)]
 pub fn unindex(space: &mut Space, form: Located, count: u32)
     requires forms { HasForms space.old count }
-    requires within { form.number < count }
-    requires begins { form.start ≡ start_of (forms_in space.old.store) form.number }
+    requires form { IsLocated (forms_in space.old.store) form.number form.start }
     ensures same { space.new ≡ record space.old { spare = space.new.spare } }
     ensures index { IsIndexed space.new.spare (remove (forms_in space.old.store) form.number) }
 {

@@ -13,6 +13,7 @@ mod arguments;
 mod borders;
 mod form_cells;
 mod form_finder;
+mod form_heads;
 mod form_writing;
 mod gap_making;
 mod index;
@@ -22,8 +23,8 @@ mod located;
 mod marked_forms;
 
 pub use arguments::before_comma;
-pub use form_cells::{Heads, head, heads_of, item_in, item_of, number_in_head};
 pub use form_finder::{FEW_FORMS, FormFinder};
+pub use form_heads::{Heads, head, heads_of, item_in, item_of, number_in_head};
 pub use form_writing::{remove_form, store_form};
 pub use gap_making::segment_store;
 pub use index::{clear_index, index_last, keep_index, shift_starts, unindex};

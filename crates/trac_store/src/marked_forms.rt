@@ -14,8 +14,8 @@ ghost use Rattle.trac_store.specs.Removal.{IsFormed, IsMarkedFrom, unmarked, wit
 ghost use Rattle.trac_store.specs.Stored.{AreForms, forms_in};
 
 use crate::arguments::before_comma;
-use crate::form_cells::tested_heads;
 use crate::form_finder::FormFinder;
+use crate::form_heads::tested_heads;
 use crate::index::{index_from, keep_index, unindex_from};
 use crate::located::Located;
 use trac_space::{Cell, Part, Space};

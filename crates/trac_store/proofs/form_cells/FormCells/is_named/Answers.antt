@@ -8,7 +8,7 @@ use Rattle.trac_store.proofs.form_cells.FormCells.is_named.Goals.{After-self}
 
 -- the form begins at the place
 here : (c : After-self) → Begins c.self.inside.cells.now c.args.form.number c.args.form.start
-here c = begins_at _ _ _ c.self.invariant.whole (rw (← c.self.view_is) at c.requires.within) (rw (← c.self.view_is) at c.requires.begins.start_is)
+here c = begins_at _ _ _ c.self.invariant.whole (rw (← c.self.view_is) at c.requires.form).within (rw (← c.self.view_is) at c.requires.form).start_is
 
 -- the name of a form, which has the length that was read
 abbrev named : List Cell → ℕ → Text
@@ -60,6 +60,6 @@ returns-then-len-name c = λ t.
     let len = c.number_in_head-len.ensures ∙ number_is _ _ b.name_len in
     let text = same c.self.inside.cells.now c.args.form.number c.args.form.start c.number_in_head-len.result b len c.args.name.now in
     rw (← c.self.view_is) (record {
-      named = record { within = (rw (← c.self.view_is) at c.requires.within); named = text (c.is_text_back.ensures t) };
-      start_is = (rw (← c.self.view_is) at c.requires.begins.start_is);
+      named = record { within = (rw (← c.self.view_is) at c.requires.form).within; named = text (c.is_text_back.ensures t) };
+      start_is = (rw (← c.self.view_is) at c.requires.form).start_is;
     })
