@@ -4,7 +4,7 @@
  * and what compilers make of it (memcpy, memset) alone.
  *
  * Crates: trac_language trac_space trac_values trac_store trac_forms trac_devices trac_functions trac_laws trac_core trac_c
- * Sources: dfebb54aa2c071edd8219cb5c1a5be87b3c3dae9f383d2b095d2f77c477ff03d
+ * Sources: 8f78deafa3bf248fb2e93143d303d4c050f210b91b47c0e0d59cd955b8d36c34
  * Kit: rattle-kit-13f logic dac8208d650f15bf
  * Tools: wasm-opt version 108, wabt 1.0.32
  */
@@ -19,10 +19,12 @@ typedef uint64_t u64;
 typedef int32_t i32;
 typedef int64_t i64;
 
-/* What proved code never reaches. */
+/* What proved code never reaches, and a function that is made a part of those that call it. */
 #if defined(__GNUC__) && !defined(__TINYC__)
 #define trap() __builtin_trap()
+#define INLINE inline __attribute__((always_inline))
 #else
+#define INLINE inline
 static void trap(void) {
     for (;;) {
     }
@@ -224,14 +226,14 @@ static const u8 tables[3200] = {
     0, 0, 0, 0, 0, 0, 0, 0,
 };
 
-static void multi3(u64 stack, u64 l0, u64 l1, u64 l2, u64 l3, u64 l4);
-static void ashlti3(u64 stack, u64 l0, u64 l1, u64 l2, u32 l3);
-static void lshrti3(u64 stack, u64 l0, u64 l1, u64 l2, u32 l3);
+static INLINE void multi3(u64 stack, u64 l0, u64 l1, u64 l2, u64 l3, u64 l4);
+static INLINE void ashlti3(u64 stack, u64 l0, u64 l1, u64 l2, u32 l3);
+static INLINE void lshrti3(u64 stack, u64 l0, u64 l1, u64 l2, u32 l3);
 static void functions_arguments_Arguments_next(u64 stack, u64 l0, u64 l1, u64 l2);
-static u32 store_arguments_before_far_comma(u64 stack, u64 l0, u64 l1);
+static INLINE u32 store_arguments_before_far_comma(u64 stack, u64 l0, u64 l1);
 static void functions_function_function_of(u64 stack, u64 l0, u64 l1, u64 l2);
 static void core_runs_matching(u64 stack, u64 l0, u64 l1, u64 l2);
-static u32 core_machine_view_rule_of(u64 stack, u64 l0, u64 l1);
+static INLINE u32 core_machine_view_rule_of(u64 stack, u64 l0, u64 l1);
 static void core_scan_protect(u64 stack, u64 l0);
 static u64 core_scan_begin_argument(u64 stack, u64 l0, u64 l1, u64 l2, u32 l3);
 static u64 core_scan_number_sign(u64 stack, u64 l0, u64 l1, u64 l2, u32 l3);
@@ -261,23 +263,23 @@ static void functions_form_calls_segment_string(u64 stack, u64 l0, u64 l1, u64 l
 static void functions_form_calls_delete_definition(u64 stack, u64 l0, u64 l1, u64 l2);
 static void functions_form_calls_delete_all(u64 stack, u64 l0, u64 l1);
 static void functions_form_calls_list_names(u64 stack, u64 l0, u64 l1, u64 l2);
-static void core_slice_edits_slice_T_copy_from_slice(u64 stack, u64 l0, u64 l1, u64 l2);
+static INLINE void core_slice_edits_slice_T_copy_from_slice(u64 stack, u64 l0, u64 l1, u64 l2);
 static void store_item_copies_load_items_over_spare(u64 stack, u64 l0, u64 l1, u32 l2, u32 l3);
 static u32 forms_work_Work_fill_other(u64 stack, u64 l0, u32 l1, u32 l2, u32 l3);
 static u32 store_item_copies_fill_items(u64 stack, u64 l0, u32 l1, u32 l2, u32 l3, u32 l4);
 static void space_copies_copy_long(u64 stack, u64 l0, u64 l1, u64 l2, u64 l3);
 static void core_delivery_deliver(u64 stack, u64 l0, u32 l1, u32 l2);
-static void space_copies_copy_slice_by_parts(u64 stack, u64 l0, u64 l1, u64 l2);
+static INLINE void space_copies_copy_slice_by_parts(u64 stack, u64 l0, u64 l1, u64 l2);
 static void space_space_Space_move_active(u64 stack, u64 l0, u32 l1);
 static u64 c_filling_put_characters(u64 stack, u64 l0, u64 l1, u64 l2, u64 l3, u64 l4);
 static void store_index_index_worthwhile(u64 stack, u64 l0, u32 l1, u64 l2);
-static void store_form_cells_find_between_by_call(u64 stack, u64 l0, u64 l1, u32 l2, u32 l3, u32 l4, u64 l5, u64 l6);
+static INLINE void store_form_cells_find_between_by_call(u64 stack, u64 l0, u64 l1, u32 l2, u32 l3, u32 l4, u64 l5, u64 l6);
 static void store_form_cells_find_from_last(u64 stack, u64 l0, u64 l1, u32 l2, u32 l3, u32 l4, u64 l5, u64 l6);
 static u32 store_index_index_fitting(u64 stack, u64 l0, u32 l1);
 static void store_index_index_from(u64 stack, u64 l0, u32 l1, u32 l2, u32 l3);
-static u32 store_form_cells_place_of(u64 stack, u64 l0, u32 l1, u32 l2, u32 l3);
+static INLINE u32 store_form_cells_place_of(u64 stack, u64 l0, u32 l1, u32 l2, u32 l3);
 static u32 core_display_show_items(u64 stack, u64 l0, u32 l1, u32 l2, u64 l3);
-static u64 itoa_integer_write_unsigned(u64 stack, u64 l0, u64 l1);
+static INLINE u64 itoa_integer_write_unsigned(u64 stack, u64 l0, u64 l1);
 static u32 forms_work_Work_load_other_part(u64 stack, u64 l0, u32 l1, u32 l2);
 static u32 functions_arguments_put_part(u64 stack, u64 l0, u32 l1, u32 l2);
 static u32 values_number_long_greater(u64 stack, u64 l0, u64 l1, u64 l2, u64 l3);
@@ -298,18 +300,19 @@ static void space_space_Space_remove_store(u64 stack, u64 l0, u32 l1, u32 l2);
 static u32 forms_work_Work_fill_body(u64 stack, u64 l0, u32 l1, u32 l2, u32 l3);
 static void space_filling_fill_each(u64 stack, u64 l0, u64 l1, u64 l2, u64 l3, u64 l4, u64 l5, u64 l6);
 static void forms_work_Work_form(u64 stack, u64 l0, u64 l1, u32 l2);
+static u32 core_slice_reads_slice_T_contains(u64 stack, u64 l0, u64 l1, u64 l2);
 static u32 core_display_show_items2(u64 stack, u64 l0, u32 l1, u32 l2, u64 l3);
-static u64 engine_active_part(u64 stack, u64 l0, u64 l1, u64 l2, u64 l3);
-static void engine_again(u64 stack, u64 l0, u64 l1);
+static INLINE u64 engine_active_part(u64 stack, u64 l0, u64 l1, u64 l2, u64 l3);
+static INLINE void engine_again(u64 stack, u64 l0, u64 l1);
 static u32 engine_awaits(u64 stack, u64 l0);
-static u64 engine_calls(u64 stack, u64 l0, u64 l1, u64 l2);
+static INLINE u64 engine_calls(u64 stack, u64 l0, u64 l1, u64 l2);
 static u64 engine_drops(u64 stack, u64 l0);
-static u64 engine_form_count(u64 stack, u64 l0);
-static u64 engine_machine_size(u64 stack);
-static u32 engine_meta(u64 stack, u64 l0);
+static INLINE u64 engine_form_count(u64 stack, u64 l0);
+static INLINE u64 engine_machine_size(u64 stack);
+static INLINE u32 engine_meta(u64 stack, u64 l0);
 static u64 engine_neutral_part(u64 stack, u64 l0, u64 l1, u64 l2, u64 l3);
-static u32 engine_open(u64 stack, u64 l0, u64 l1, u64 l2, u64 l3);
-static u64 engine_part(u64 stack, u64 l0, u32 l1);
+static INLINE u32 engine_open(u64 stack, u64 l0, u64 l1, u64 l2, u64 l3);
+static INLINE u64 engine_part(u64 stack, u64 l0, u32 l1);
 static u32 engine_rule(u64 stack, u64 l0);
 static void engine_run(u64 stack, u64 l0, u64 l1, u64 l2, u64 l3, u64 l4, u64 l5, u64 l6, u64 l7);
 static u64 engine_steps_to_call(u64 stack, u64 l0, u64 l1);
@@ -320,7 +323,7 @@ static u64 engine_form_pointer(u64 stack, u64 l0, u64 l1);
 static u64 engine_form_text(u64 stack, u64 l0, u64 l1, u64 l2, u64 l3);
 static void engine_turn(u64 stack, u64 l0, u64 l1, u64 l2, u64 l3, u64 l4, u64 l5, u32 l6, u64 l7);
 
-static void multi3(u64 stack, u64 l0, u64 l1, u64 l2, u64 l3, u64 l4) {
+static INLINE void multi3(u64 stack, u64 l0, u64 l1, u64 l2, u64 l3, u64 l4) {
     u64 l5 = 0;
     u64 l6 = 0;
     (void)stack;
@@ -336,7 +339,7 @@ static void multi3(u64 stack, u64 l0, u64 l1, u64 l2, u64 l3, u64 l4) {
     store64(l0, (l2 & 4294967295ull) | (l1 << 32));
 }
 
-static void ashlti3(u64 stack, u64 l0, u64 l1, u64 l2, u32 l3) {
+static INLINE void ashlti3(u64 stack, u64 l0, u64 l1, u64 l2, u32 l3) {
     u64 l4 = 0;
     (void)stack;
     u64 v1;
@@ -355,7 +358,7 @@ static void ashlti3(u64 stack, u64 l0, u64 l1, u64 l2, u32 l3) {
     store64(l0, l1);
 }
 
-static void lshrti3(u64 stack, u64 l0, u64 l1, u64 l2, u32 l3) {
+static INLINE void lshrti3(u64 stack, u64 l0, u64 l1, u64 l2, u32 l3) {
     u64 l4 = 0;
     (void)stack;
     const u64 t1 = l0;
@@ -453,7 +456,7 @@ static void functions_arguments_Arguments_next(u64 stack, u64 l0, u64 l1, u64 l2
     stack = l4;
 }
 
-static u32 store_arguments_before_far_comma(u64 stack, u64 l0, u64 l1) {
+static INLINE u32 store_arguments_before_far_comma(u64 stack, u64 l0, u64 l1) {
     u64 l2 = 0;
     u64 l3 = 0;
     u64 l4 = 0;
@@ -1055,7 +1058,7 @@ static void core_runs_matching(u64 stack, u64 l0, u64 l1, u64 l2) {
     store8(l0, (u8)l3);
 }
 
-static u32 core_machine_view_rule_of(u64 stack, u64 l0, u64 l1) {
+static INLINE u32 core_machine_view_rule_of(u64 stack, u64 l0, u64 l1) {
     u32 l2 = 0;
     u32 l3 = 0;
     (void)stack;
@@ -10012,7 +10015,7 @@ static void functions_form_calls_list_names(u64 stack, u64 l0, u64 l1, u64 l2) {
     stack = l13 + 32ull;
 }
 
-static void core_slice_edits_slice_T_copy_from_slice(u64 stack, u64 l0, u64 l1, u64 l2) {
+static INLINE void core_slice_edits_slice_T_copy_from_slice(u64 stack, u64 l0, u64 l1, u64 l2) {
     u64 l3 = 0;
     u64 l4 = 0;
     u64 l5 = 0;
@@ -13853,7 +13856,7 @@ static void core_delivery_deliver(u64 stack, u64 l0, u32 l1, u32 l2) {
     trap();
 }
 
-static void space_copies_copy_slice_by_parts(u64 stack, u64 l0, u64 l1, u64 l2) {
+static INLINE void space_copies_copy_slice_by_parts(u64 stack, u64 l0, u64 l1, u64 l2) {
     u64 l3 = 0;
     u64 l4 = 0;
     u64 l5 = 0;
@@ -14187,7 +14190,7 @@ static void store_index_index_worthwhile(u64 stack, u64 l0, u32 l1, u64 l2) {
     trap();
 }
 
-static void store_form_cells_find_between_by_call(u64 stack, u64 l0, u64 l1, u32 l2, u32 l3, u32 l4, u64 l5, u64 l6) {
+static INLINE void store_form_cells_find_between_by_call(u64 stack, u64 l0, u64 l1, u32 l2, u32 l3, u32 l4, u64 l5, u64 l6) {
     u64 l7 = 0;
     u64 l8 = 0;
     u64 l9 = 0;
@@ -14630,7 +14633,7 @@ static void store_index_index_from(u64 stack, u64 l0, u32 l1, u32 l2, u32 l3) {
     trap();
 }
 
-static u32 store_form_cells_place_of(u64 stack, u64 l0, u32 l1, u32 l2, u32 l3) {
+static INLINE u32 store_form_cells_place_of(u64 stack, u64 l0, u32 l1, u32 l2, u32 l3) {
     u64 l4 = 0;
     u32 l5 = 0;
     u32 l6 = 0;
@@ -14848,7 +14851,7 @@ static u32 core_display_show_items(u64 stack, u64 l0, u32 l1, u32 l2, u64 l3) {
     return l10;
 }
 
-static u64 itoa_integer_write_unsigned(u64 stack, u64 l0, u64 l1) {
+static INLINE u64 itoa_integer_write_unsigned(u64 stack, u64 l0, u64 l1) {
     u64 l2 = 0;
     u64 l3 = 0;
     u64 l4 = 0;
@@ -18364,6 +18367,324 @@ static void forms_work_Work_form(u64 stack, u64 l0, u64 l1, u32 l2) {
     trap();
 }
 
+static u32 core_slice_reads_slice_T_contains(u64 stack, u64 l0, u64 l1, u64 l2) {
+    u32 l3 = 0;
+    u32 l4 = 0;
+    u64 l5 = 0;
+    u64 l6 = 0;
+    u64 l7 = 0;
+    u64 l8 = 0;
+    u64 l9 = 0;
+    (void)stack;
+    u32 v1;
+    {
+        {
+            {
+                if (l1 <= 3ull) {
+                    if (l1 == 0) { v1 = 0u; goto L1; }
+                    const u32 t5 = load8(l2);
+                    l3 = t5;
+                    const u32 t6 = load8(l0);
+                    const u32 t7 = load8(l0 + (l1 >> 1));
+                    const u32 t8 = load8((l0 + l1) - 1ull);
+                    v1 = ((l3 == t6) | (t7 == l3)) | (t8 == l3); goto L1;
+                }
+                if (l1 <= 8ull) {
+                    const u32 t10 = load8(l2);
+                    l3 = t10;
+                    const u32 t11 = load8(l0);
+                    const u32 t12 = load8(l0 + 1ull);
+                    const u32 t13 = load8(l0 + 2ull);
+                    const u32 t14 = load8(l0 + 3ull);
+                    l5 = l0 + l1;
+                    const u32 t15 = load8(l5 - 4ull);
+                    const u32 t16 = load8(l5 - 3ull);
+                    const u32 t17 = load8(l5 - 2ull);
+                    const u32 t18 = load8(l5 - 1ull);
+                    const u32 t19 = ((((l3 == t11) | (t12 == l3)) | (t13 == l3)) | (t14 == l3)) | ((((t15 == l3) | (t16 == l3)) | (t17 == l3)) | (t18 == l3));
+                    v1 = t19; goto L1;
+                }
+                if (l1 <= 32ull) {
+                    const u32 t21 = load8(l2);
+                    l3 = t21;
+                    const u32 t22 = load8(l0);
+                    const u32 t23 = load8(l0 + 1ull);
+                    const u32 t24 = load8(l0 + 2ull);
+                    const u32 t25 = load8(l0 + 3ull);
+                    const u32 t26 = load8(l0 + 4ull);
+                    const u32 t27 = load8(l0 + 5ull);
+                    const u32 t28 = (((((l3 == t22) | (t23 == l3)) | (t24 == l3)) | (t25 == l3)) | (t26 == l3)) | (t27 == l3);
+                    const u32 t29 = load8(l0 + 6ull);
+                    const u32 t30 = load8(l0 + 7ull);
+                    l6 = l1 - 8ull;
+                    l5 = l0 + ((l6 < 8ull) ? l6 : 8ull);
+                    const u32 t31 = load8(l5);
+                    const u32 t32 = load8(l5 + 1ull);
+                    const u32 t33 = load8(l5 + 2ull);
+                    const u32 t34 = load8(l5 + 3ull);
+                    const u32 t35 = load8(l5 + 4ull);
+                    const u32 t36 = load8(l5 + 5ull);
+                    const u32 t37 = (((((t31 == l3) | (t32 == l3)) | (t33 == l3)) | (t34 == l3)) | (t35 == l3)) | (t36 == l3);
+                    const u32 t38 = load8(l5 + 6ull);
+                    const u32 t39 = load8(l5 + 7ull);
+                    l5 = l0 + ((l6 < 16ull) ? l6 : 16ull);
+                    const u32 t40 = load8(l5);
+                    const u32 t41 = load8(l5 + 1ull);
+                    const u32 t42 = load8(l5 + 2ull);
+                    const u32 t43 = load8(l5 + 3ull);
+                    const u32 t44 = load8(l5 + 4ull);
+                    const u32 t45 = load8(l5 + 5ull);
+                    const u32 t46 = (((((t40 == l3) | (t41 == l3)) | (t42 == l3)) | (t43 == l3)) | (t44 == l3)) | (t45 == l3);
+                    const u32 t47 = load8(l5 + 6ull);
+                    const u32 t48 = load8(l5 + 7ull);
+                    const u32 t49 = (((t28 | (t29 == l3)) | (t30 == l3)) | ((t37 | (t38 == l3)) | (t39 == l3))) | ((t46 | (t47 == l3)) | (t48 == l3));
+                    l5 = l0 + l6;
+                    const u32 t50 = load8(l5);
+                    const u32 t51 = load8(l5 + 1ull);
+                    const u32 t52 = load8(l5 + 2ull);
+                    const u32 t53 = load8(l5 + 3ull);
+                    const u32 t54 = load8(l5 + 4ull);
+                    const u32 t55 = load8(l5 + 5ull);
+                    const u32 t56 = (((((t50 == l3) | (t51 == l3)) | (t52 == l3)) | (t53 == l3)) | (t54 == l3)) | (t55 == l3);
+                    const u32 t57 = load8(l5 + 6ull);
+                    const u32 t58 = load8(l5 + 7ull);
+                    v1 = t49 | ((t56 | (t57 == l3)) | (t58 == l3)); goto L1;
+                }
+                const u32 t59 = load8(l2);
+                l3 = t59;
+                if (l1 <= 64ull) {
+                    const u32 t61 = load8(l0);
+                    const u32 t62 = load8(l0 + 1ull);
+                    const u32 t63 = load8(l0 + 2ull);
+                    const u32 t64 = load8(l0 + 3ull);
+                    const u32 t65 = load8(l0 + 4ull);
+                    const u32 t66 = load8(l0 + 5ull);
+                    const u32 t67 = (((((t61 == l3) | (t62 == l3)) | (t63 == l3)) | (t64 == l3)) | (t65 == l3)) | (t66 == l3);
+                    const u32 t68 = load8(l0 + 6ull);
+                    const u32 t69 = load8(l0 + 7ull);
+                    const u32 t70 = load8(l0 + 8ull);
+                    const u32 t71 = load8(l0 + 9ull);
+                    const u32 t72 = load8(l0 + 10ull);
+                    const u32 t73 = load8(l0 + 11ull);
+                    const u32 t74 = (((((t67 | (t68 == l3)) | (t69 == l3)) | (t70 == l3)) | (t71 == l3)) | (t72 == l3)) | (t73 == l3);
+                    const u32 t75 = load8(l0 + 12ull);
+                    const u32 t76 = load8(l0 + 13ull);
+                    const u32 t77 = load8(l0 + 14ull);
+                    const u32 t78 = load8(l0 + 15ull);
+                    const u32 t79 = load8(l0 + 16ull);
+                    const u32 t80 = load8(l0 + 17ull);
+                    const u32 t81 = (((((t74 | (t75 == l3)) | (t76 == l3)) | (t77 == l3)) | (t78 == l3)) | (t79 == l3)) | (t80 == l3);
+                    const u32 t82 = load8(l0 + 18ull);
+                    const u32 t83 = load8(l0 + 19ull);
+                    const u32 t84 = load8(l0 + 20ull);
+                    const u32 t85 = load8(l0 + 21ull);
+                    const u32 t86 = load8(l0 + 22ull);
+                    const u32 t87 = load8(l0 + 23ull);
+                    const u32 t88 = (((((t81 | (t82 == l3)) | (t83 == l3)) | (t84 == l3)) | (t85 == l3)) | (t86 == l3)) | (t87 == l3);
+                    const u32 t89 = load8(l0 + 24ull);
+                    const u32 t90 = load8(l0 + 25ull);
+                    const u32 t91 = load8(l0 + 26ull);
+                    const u32 t92 = load8(l0 + 27ull);
+                    const u32 t93 = load8(l0 + 28ull);
+                    const u32 t94 = load8(l0 + 29ull);
+                    const u32 t95 = (((((t88 | (t89 == l3)) | (t90 == l3)) | (t91 == l3)) | (t92 == l3)) | (t93 == l3)) | (t94 == l3);
+                    const u32 t96 = load8(l0 + 30ull);
+                    const u32 t97 = load8(l0 + 31ull);
+                    l5 = l0 + l1;
+                    const u32 t98 = load8(l5 - 32ull);
+                    const u32 t99 = load8(l5 - 31ull);
+                    const u32 t100 = load8(l5 - 30ull);
+                    const u32 t101 = load8(l5 - 29ull);
+                    const u32 t102 = load8(l5 - 28ull);
+                    const u32 t103 = load8(l5 - 27ull);
+                    const u32 t104 = (((((t98 == l3) | (t99 == l3)) | (t100 == l3)) | (t101 == l3)) | (t102 == l3)) | (t103 == l3);
+                    const u32 t105 = load8(l5 - 26ull);
+                    const u32 t106 = load8(l5 - 25ull);
+                    const u32 t107 = load8(l5 - 24ull);
+                    const u32 t108 = load8(l5 - 23ull);
+                    const u32 t109 = load8(l5 - 22ull);
+                    const u32 t110 = load8(l5 - 21ull);
+                    const u32 t111 = (((((t104 | (t105 == l3)) | (t106 == l3)) | (t107 == l3)) | (t108 == l3)) | (t109 == l3)) | (t110 == l3);
+                    const u32 t112 = load8(l5 - 20ull);
+                    const u32 t113 = load8(l5 - 19ull);
+                    const u32 t114 = load8(l5 - 18ull);
+                    const u32 t115 = load8(l5 - 17ull);
+                    const u32 t116 = load8(l5 - 16ull);
+                    const u32 t117 = load8(l5 - 15ull);
+                    const u32 t118 = (((((t111 | (t112 == l3)) | (t113 == l3)) | (t114 == l3)) | (t115 == l3)) | (t116 == l3)) | (t117 == l3);
+                    const u32 t119 = load8(l5 - 14ull);
+                    const u32 t120 = load8(l5 - 13ull);
+                    const u32 t121 = load8(l5 - 12ull);
+                    const u32 t122 = load8(l5 - 11ull);
+                    const u32 t123 = load8(l5 - 10ull);
+                    const u32 t124 = load8(l5 - 9ull);
+                    const u32 t125 = (((((t118 | (t119 == l3)) | (t120 == l3)) | (t121 == l3)) | (t122 == l3)) | (t123 == l3)) | (t124 == l3);
+                    const u32 t126 = load8(l5 - 8ull);
+                    const u32 t127 = load8(l5 - 7ull);
+                    const u32 t128 = load8(l5 - 6ull);
+                    const u32 t129 = load8(l5 - 5ull);
+                    const u32 t130 = load8(l5 - 4ull);
+                    const u32 t131 = load8(l5 - 3ull);
+                    const u32 t132 = (((((t125 | (t126 == l3)) | (t127 == l3)) | (t128 == l3)) | (t129 == l3)) | (t130 == l3)) | (t131 == l3);
+                    const u32 t133 = load8(l5 - 2ull);
+                    const u32 t134 = load8(l5 - 1ull);
+                    v1 = ((t95 | (t96 == l3)) | (t97 == l3)) | ((t132 | (t133 == l3)) | (t134 == l3)); goto L1;
+                }
+                l9 = l1 & 18446744073709551552ull;
+                l8 = l0;
+                {
+                    L136:;
+                    {
+                        l4 = 0u;
+                        l6 = 0ull;
+                        L137:;
+                        {
+                            l5 = l6 + l8;
+                            const u32 t138 = load8(l5);
+                            const u32 t139 = load8(l5 + 1ull);
+                            const u32 t140 = load8(l5 + 2ull);
+                            const u32 t141 = load8(l5 + 3ull);
+                            l4 = (((l4 | (t138 == l3)) | (t139 == l3)) | (t140 == l3)) | (t141 == l3);
+                            l6 = l6 + 4ull;
+                            if (l6 != 64ull) goto L137;
+                        }
+                        if (l4 & 1u) goto L135;
+                        l8 = l8 + 64ull;
+                        l7 = l7 + 64ull;
+                        if ((l1 - l7) > 63ull) goto L136;
+                    }
+                    l7 = l9;
+                }
+                L135:;
+                l6 = l1 - l7;
+                if (l6 < 32ull) goto L2;
+                l5 = l0 + l7;
+                L142:;
+                {
+                    {
+                        const u32 t144 = load8(l5);
+                        if (t144 == l3) goto L143;
+                        const u32 t145 = load8(l5 + 1ull);
+                        if (t145 == l3) goto L143;
+                        const u32 t146 = load8(l5 + 2ull);
+                        if (t146 == l3) goto L143;
+                        const u32 t147 = load8(l5 + 3ull);
+                        if (t147 == l3) goto L143;
+                        const u32 t148 = load8(l5 + 4ull);
+                        if (t148 == l3) goto L143;
+                        const u32 t149 = load8(l5 + 5ull);
+                        if (t149 == l3) goto L143;
+                        const u32 t150 = load8(l5 + 6ull);
+                        if (t150 == l3) goto L143;
+                        const u32 t151 = load8(l5 + 7ull);
+                        if (t151 == l3) goto L143;
+                        const u32 t152 = load8(l5 + 8ull);
+                        if (t152 == l3) goto L143;
+                        const u32 t153 = load8(l5 + 9ull);
+                        if (t153 == l3) goto L143;
+                        const u32 t154 = load8(l5 + 10ull);
+                        if (t154 == l3) goto L143;
+                        const u32 t155 = load8(l5 + 11ull);
+                        if (t155 == l3) goto L143;
+                        const u32 t156 = load8(l5 + 12ull);
+                        if (t156 == l3) goto L143;
+                        const u32 t157 = load8(l5 + 13ull);
+                        if (t157 == l3) goto L143;
+                        const u32 t158 = load8(l5 + 14ull);
+                        if (t158 == l3) goto L143;
+                        const u32 t159 = load8(l5 + 15ull);
+                        if (t159 == l3) goto L143;
+                        const u32 t160 = load8(l5 + 16ull);
+                        if (t160 == l3) goto L143;
+                        const u32 t161 = load8(l5 + 17ull);
+                        if (t161 == l3) goto L143;
+                        const u32 t162 = load8(l5 + 18ull);
+                        if (t162 == l3) goto L143;
+                        const u32 t163 = load8(l5 + 19ull);
+                        if (t163 == l3) goto L143;
+                        const u32 t164 = load8(l5 + 20ull);
+                        if (t164 == l3) goto L143;
+                        const u32 t165 = load8(l5 + 21ull);
+                        if (t165 == l3) goto L143;
+                        const u32 t166 = load8(l5 + 22ull);
+                        if (t166 == l3) goto L143;
+                        const u32 t167 = load8(l5 + 23ull);
+                        if (t167 == l3) goto L143;
+                        const u32 t168 = load8(l5 + 24ull);
+                        if (t168 == l3) goto L143;
+                        const u32 t169 = load8(l5 + 25ull);
+                        if (t169 == l3) goto L143;
+                        const u32 t170 = load8(l5 + 26ull);
+                        if (t170 == l3) goto L143;
+                        const u32 t171 = load8(l5 + 27ull);
+                        if (t171 == l3) goto L143;
+                        const u32 t172 = load8(l5 + 28ull);
+                        if (t172 == l3) goto L143;
+                        const u32 t173 = load8(l5 + 29ull);
+                        if (t173 == l3) goto L143;
+                        const u32 t174 = load8(l5 + 30ull);
+                        if (t174 == l3) goto L143;
+                        const u32 t175 = load8(l5 + 31ull);
+                        if (t175 == l3) goto L143;
+                        l5 = l5 + 32ull;
+                        l6 = l6 - 32ull;
+                        if (l6 > 31ull) goto L142;
+                        goto L2;
+                    }
+                    L143:;
+                }
+                if (l6 <= 31ull) goto L2;
+                v1 = 1u; goto L1;
+            }
+            trap();
+        }
+        L2:;
+        const u32 t176 = load8(l2);
+        l3 = t176;
+        l5 = l0 + l1;
+        const u32 t177 = load8(l5 - 32ull);
+        const u32 t178 = load8(l5 - 31ull);
+        const u32 t179 = load8(l5 - 30ull);
+        const u32 t180 = load8(l5 - 29ull);
+        const u32 t181 = load8(l5 - 28ull);
+        const u32 t182 = load8(l5 - 27ull);
+        const u32 t183 = (((((l3 == t177) | (t178 == l3)) | (t179 == l3)) | (t180 == l3)) | (t181 == l3)) | (t182 == l3);
+        const u32 t184 = load8(l5 - 26ull);
+        const u32 t185 = load8(l5 - 25ull);
+        const u32 t186 = load8(l5 - 24ull);
+        const u32 t187 = load8(l5 - 23ull);
+        const u32 t188 = load8(l5 - 22ull);
+        const u32 t189 = load8(l5 - 21ull);
+        const u32 t190 = (((((t183 | (t184 == l3)) | (t185 == l3)) | (t186 == l3)) | (t187 == l3)) | (t188 == l3)) | (t189 == l3);
+        const u32 t191 = load8(l5 - 20ull);
+        const u32 t192 = load8(l5 - 19ull);
+        const u32 t193 = load8(l5 - 18ull);
+        const u32 t194 = load8(l5 - 17ull);
+        const u32 t195 = load8(l5 - 16ull);
+        const u32 t196 = load8(l5 - 15ull);
+        const u32 t197 = (((((t190 | (t191 == l3)) | (t192 == l3)) | (t193 == l3)) | (t194 == l3)) | (t195 == l3)) | (t196 == l3);
+        const u32 t198 = load8(l5 - 14ull);
+        const u32 t199 = load8(l5 - 13ull);
+        const u32 t200 = load8(l5 - 12ull);
+        const u32 t201 = load8(l5 - 11ull);
+        const u32 t202 = load8(l5 - 10ull);
+        const u32 t203 = load8(l5 - 9ull);
+        const u32 t204 = (((((t197 | (t198 == l3)) | (t199 == l3)) | (t200 == l3)) | (t201 == l3)) | (t202 == l3)) | (t203 == l3);
+        const u32 t205 = load8(l5 - 8ull);
+        const u32 t206 = load8(l5 - 7ull);
+        const u32 t207 = load8(l5 - 6ull);
+        const u32 t208 = load8(l5 - 5ull);
+        const u32 t209 = load8(l5 - 4ull);
+        const u32 t210 = load8(l5 - 3ull);
+        const u32 t211 = (((((t204 | (t205 == l3)) | (t206 == l3)) | (t207 == l3)) | (t208 == l3)) | (t209 == l3)) | (t210 == l3);
+        const u32 t212 = load8(l5 - 2ull);
+        const u32 t213 = load8(l5 - 1ull);
+        v1 = (t211 | (t212 == l3)) | (t213 == l3);
+    }
+    L1:;
+    return v1 & 1u;
+}
+
 static u32 core_display_show_items2(u64 stack, u64 l0, u32 l1, u32 l2, u64 l3) {
     u64 l4 = 0;
     u64 l5 = 0;
@@ -18551,7 +18872,7 @@ static u32 core_display_show_items2(u64 stack, u64 l0, u32 l1, u32 l2, u64 l3) {
     return l2;
 }
 
-static u64 engine_active_part(u64 stack, u64 l0, u64 l1, u64 l2, u64 l3) {
+static INLINE u64 engine_active_part(u64 stack, u64 l0, u64 l1, u64 l2, u64 l3) {
     u64 l4 = 0;
     u64 l5 = 0;
     u64 l6 = 0;
@@ -18633,7 +18954,7 @@ static u64 engine_active_part(u64 stack, u64 l0, u64 l1, u64 l2, u64 l3) {
     return l3;
 }
 
-static void engine_again(u64 stack, u64 l0, u64 l1) {
+static INLINE void engine_again(u64 stack, u64 l0, u64 l1) {
     (void)stack;
     store64(l0 + 72ull, 0ull);
     store64(l0 + 64ull, l1);
@@ -18709,7 +19030,7 @@ static u32 engine_awaits(u64 stack, u64 l0) {
     return l3;
 }
 
-static u64 engine_calls(u64 stack, u64 l0, u64 l1, u64 l2) {
+static INLINE u64 engine_calls(u64 stack, u64 l0, u64 l1, u64 l2) {
     u64 l3 = 0;
     u64 l4 = 0;
     u64 l5 = 0;
@@ -18821,19 +19142,19 @@ static u64 engine_drops(u64 stack, u64 l0) {
     return l0;
 }
 
-static u64 engine_form_count(u64 stack, u64 l0) {
+static INLINE u64 engine_form_count(u64 stack, u64 l0) {
     (void)stack;
     const u64 t2 = load32(l0 + 40ull);
     l0 = t2;
     return l0;
 }
 
-static u64 engine_machine_size(u64 stack) {
+static INLINE u64 engine_machine_size(u64 stack) {
     (void)stack;
     return 88ull;
 }
 
-static u32 engine_meta(u64 stack, u64 l0) {
+static INLINE u32 engine_meta(u64 stack, u64 l0) {
     u32 l1 = 0;
     (void)stack;
     const u32 t2 = load8(l0 + 56ull);
@@ -18941,7 +19262,7 @@ static u64 engine_neutral_part(u64 stack, u64 l0, u64 l1, u64 l2, u64 l3) {
     return l3;
 }
 
-static u32 engine_open(u64 stack, u64 l0, u64 l1, u64 l2, u64 l3) {
+static INLINE u32 engine_open(u64 stack, u64 l0, u64 l1, u64 l2, u64 l3) {
     u64 l4 = 0;
     u64 l5 = 0;
     u64 l6 = 0;
@@ -19015,7 +19336,7 @@ static u32 engine_open(u64 stack, u64 l0, u64 l1, u64 l2, u64 l3) {
     return l9;
 }
 
-static u64 engine_part(u64 stack, u64 l0, u32 l1) {
+static INLINE u64 engine_part(u64 stack, u64 l0, u32 l1) {
     u64 l2 = 0;
     u32 l3 = 0;
     u32 l4 = 0;
@@ -21027,83 +21348,83 @@ static void engine_turn(u64 stack, u64 l0, u64 l1, u64 l2, u64 l3, u64 l4, u64 l
     u32 l46 = 0;
     l20 = l0;
     l9 = l1;
-    l8 = l2;
-    l10 = stack - 288ull;
-    stack = l10;
+    l8 = stack - 288ull;
+    stack = l8;
     {
         {
-            store64(l10 + 128u, 0ull);
-            store64(l10 + 120u, l3);
-            store64(l10 + 136u, 0ull);
-            store64(l10 + 88u, 0ull);
-            store64(l10 + 80u, l5);
-            store64(l10 + 96u, 0ull);
-            store64(l10 + 104u, 0ull);
-            store64(l10 + 112u, l8 + ((l8 == 0) ? 4096ull : 0ull));
-            store64(l10 + 72u, l4 + ((l4 == 0) ? 4096ull : 0ull));
+            store64(l8 + 128u, 0ull);
+            store64(l8 + 120u, l3);
+            store64(l8 + 136u, 0ull);
+            store64(l8 + 88u, 0ull);
+            store64(l8 + 80u, l5);
+            store64(l8 + 96u, 0ull);
+            store64(l8 + 104u, 0ull);
+            store64(l8 + 112u, l2 + ((l2 == 0) ? 4096ull : 0ull));
+            store64(l8 + 72u, l4 + ((l4 == 0) ? 4096ull : 0ull));
             {
                 if (l7 == 0) {
                     l5 = 0ull;
                     goto L3;
                 }
-                l22 = l9 + 56ull;
-                l24 = l10 + 157ull;
-                l25 = l10 + 261ull;
-                l26 = l10 + 181ull;
-                l19 = l10 + 145ull;
+                l23 = l9 + 56ull;
+                l25 = l8 + 157ull;
+                l26 = l8 + 261ull;
+                l27 = l8 + 181ull;
+                l19 = l8 + 145ull;
                 l4 = 0ull;
                 L5:;
                 {
-                    store64(l10 + 184u, 0ull);
-                    store64(l10 + 208u, 0ull);
-                    store64(l10 + 216u, 0ull);
-                    store64(l10 + 224u, 0ull);
-                    store64(l10 + 232u, 0ull);
-                    store64(l10 + 240u, 0ull);
-                    l8 = 0ull;
-                    l30 = 0u;
-                    l33 = 0u;
+                    store64(l8 + 184u, 0ull);
+                    store64(l8 + 208u, 0ull);
+                    store64(l8 + 216u, 0ull);
+                    store64(l8 + 224u, 0ull);
+                    store64(l8 + 232u, 0ull);
+                    store64(l8 + 240u, 0ull);
+                    l30 = 1u;
+                    l2 = 0ull;
+                    l31 = 0u;
+                    l34 = 0u;
                     l5 = l9 + 84ull;
                     const u32 t6 = load8(l5);
                     if (t6 != 1u) {
-                        l8 = l9 + 80ull;
-                        const u32 t8 = load32(l8);
-                        store32(l10 + 184u, t8);
+                        l2 = l9 + 80ull;
+                        const u32 t8 = load32(l2);
+                        store32(l8 + 184u, t8);
                         l0 = l9 + 72ull;
                         const u64 t9 = load64(l0);
-                        store64(l10 + 176u, t9);
+                        store64(l8 + 176u, t9);
                         const u64 t10 = load64(l9 + 64ull);
-                        store64(l10 + 168u, t10);
-                        l17 = l10 + 208ull;
+                        store64(l8 + 168u, t10);
+                        l15 = l8 + 208ull;
                         l14 = l9 + 60ull;
                         const u32 t11 = load32(l14);
-                        l35 = t11;
-                        l13 = l10 + 168ull;
-                        l2 = l7 - l4;
-                        l1 = stack - 144ull;
-                        stack = l1;
+                        l31 = t11;
+                        l11 = l8 + 168ull;
+                        l1 = l7 - l4;
+                        l12 = stack - 144ull;
+                        stack = l12;
                         {
-                            l11 = l1;
                             {
-                                const u64 t14 = load64(l13 + 8u);
+                                l10 = l12;
+                                const u64 t14 = load64(l11 + 8u);
                                 l21 = t14;
-                                store32(l11 + 60u, 0u);
-                                store8(l11 + 64u, (u8)0u);
-                                store32(l11 + 56u, l35);
-                                store32(l11 + 52u, 0u);
-                                const u32 t15 = load32(l13 + 16u);
-                                l44 = t15;
-                                const u64 t16 = load64(l13);
-                                l13 = t16 - l21;
-                                l15 = (l2 > l13) ? l13 : l2;
-                                if ((l15 == 0) == 0) {
+                                store32(l10 + 64u, 0u);
+                                store8(l10 + 68u, (u8)0u);
+                                store32(l10 + 60u, l31);
+                                store32(l10 + 56u, 0u);
+                                const u32 t15 = load32(l11 + 16u);
+                                l35 = t15;
+                                const u64 t16 = load64(l11);
+                                l11 = t16 - l21;
+                                l17 = (l1 > l11) ? l11 : l1;
+                                if ((l17 == 0) == 0) {
                                     const u32 t18 = load32(l9 + 24ull);
                                     const u32 t19 = load32(l9 + 20ull);
                                     const u32 t20 = load32(l9 + 16ull);
-                                    l32 = t18 + (t19 + t20);
-                                    l27 = l11 + 109ull;
-                                    l28 = l11 + 93ull;
-                                    l1 = l15;
+                                    l40 = t18 + (t19 + t20);
+                                    l22 = l10 + 109ull;
+                                    l28 = l10 + 93ull;
+                                    l12 = l17;
                                     L21:;
                                     {
                                         u64 v22;
@@ -21118,9 +21439,9 @@ static void engine_turn(u64 stack, u64 l0, u64 l1, u64 l2, u64 l3, u64 l4, u64 l
                                                                 {
                                                                     {
                                                                         const u32 t30 = load32(l9 + 24ull);
-                                                                        l36 = t30;
-                                                                        if (l36) {
-                                                                            l13 = 1ull;
+                                                                        l33 = t30;
+                                                                        if (l33) {
+                                                                            l11 = 1ull;
                                                                             {
                                                                                 {
                                                                                     {
@@ -21128,12 +21449,12 @@ static void engine_turn(u64 stack, u64 l0, u64 l1, u64 l2, u64 l3, u64 l4, u64 l
                                                                                             {
                                                                                                 {
                                                                                                     const u64 t38 = load64(l9);
-                                                                                                    l2 = t38;
+                                                                                                    l1 = t38;
                                                                                                     const u32 t39 = load32(l9 + 28ull);
-                                                                                                    l35 = t39 - l36;
-                                                                                                    const u32 t40 = load8((l2 + ((u64)l35 << 3)) + 1ull);
-                                                                                                    l34 = t40;
-                                                                                                    switch (l34 - 13u) {
+                                                                                                    l31 = t39 - l33;
+                                                                                                    const u32 t40 = load8((l1 + ((u64)l31 << 3)) + 1ull);
+                                                                                                    l36 = t40;
+                                                                                                    switch (l36 - 13u) {
                                                                                                     case 0: goto L32;
                                                                                                     case 22: goto L34;
                                                                                                     case 27: goto L37;
@@ -21148,111 +21469,145 @@ static void engine_turn(u64 stack, u64 l0, u64 l1, u64 l2, u64 l3, u64 l4, u64 l
                                                                                             }
                                                                                             L36:;
                                                                                             const u32 t41 = load32(l9 + 32ull);
-                                                                                            l34 = t41;
-                                                                                            if (l34) goto L29;
-                                                                                            store32(l9 + 24ull, l36 - 1u);
+                                                                                            l36 = t41;
+                                                                                            if (l36) goto L29;
+                                                                                            store32(l9 + 24ull, l33 - 1u);
                                                                                             goto L23;
                                                                                         }
                                                                                         L35:;
-                                                                                        const u32 t42 = load32(l11 + 52u);
-                                                                                        const u64 t43 = core_scan_begin_argument(stack, l9, l1, l11 + 56ull, t42 > 1u);
-                                                                                        l13 = t43;
+                                                                                        const u32 t42 = load32(l10 + 56u);
+                                                                                        const u64 t43 = core_scan_begin_argument(stack, l9, l12, l10 + 60ull, t42 > 1u);
+                                                                                        l11 = t43;
                                                                                         goto L23;
                                                                                     }
                                                                                     L34:;
-                                                                                    const u32 t44 = load32(l11 + 52u);
-                                                                                    const u64 t45 = core_scan_number_sign(stack, l9, l1, l11 + 56ull, t44 > 1u);
-                                                                                    l13 = t45;
+                                                                                    const u32 t44 = load32(l10 + 56u);
+                                                                                    const u64 t45 = core_scan_number_sign(stack, l9, l12, l10 + 60ull, t44 > 1u);
+                                                                                    l11 = t45;
                                                                                     goto L23;
                                                                                 }
                                                                                 L33:;
-                                                                                if (((l34 - 9u) & 255u) < 2u) goto L32;
-                                                                                const u64 t46 = core_scan_add_characters(stack, l9, l1, l11 + 56ull, l11 + 52ull);
-                                                                                l13 = t46;
+                                                                                if (((l36 - 9u) & 255u) < 2u) goto L32;
+                                                                                const u64 t46 = core_scan_add_characters(stack, l9, l12, l10 + 60ull, l10 + 56ull);
+                                                                                l11 = t46;
                                                                                 goto L23;
                                                                             }
                                                                             L32:;
-                                                                            l13 = (u64)l36;
-                                                                            const u64 t47 = (u64)((l35 + (u32)(((l1 > l13) ? l13 : l1))));
-                                                                            l13 = (u64)(l35 + 1u);
-                                                                            l16 = t47 - l13;
-                                                                            if (l16 == 0) { v24 = 1u; goto L24; }
-                                                                            l13 = (l2 + (l13 << 3)) + 1ull;
-                                                                            l2 = 0ull;
+                                                                            l11 = (u64)l33;
+                                                                            const u64 t47 = (u64)((l31 + (u32)(((l11 < l12) ? l11 : l12))));
+                                                                            l11 = (u64)(l31 + 1u);
+                                                                            l13 = t47 - l11;
+                                                                            if (l13 == 0) { v24 = 1u; goto L24; }
+                                                                            l11 = (l1 + (l11 << 3)) + 1ull;
+                                                                            l1 = 0ull;
                                                                             L48:;
                                                                             {
-                                                                                const u32 t49 = load8(l13);
-                                                                                l35 = t49;
-                                                                                if (l35 > 13u) goto L25;
-                                                                                if (((1u << (l35 & 31)) & 9728u) == 0) goto L25;
-                                                                                l13 = l13 + 8ull;
-                                                                                l2 = l2 + 1ull;
-                                                                                if (l16 != l2) goto L48;
+                                                                                const u32 t49 = load8(l11);
+                                                                                l31 = t49;
+                                                                                if (l31 > 13u) goto L25;
+                                                                                if (((1u << (l31 & 31)) & 9728u) == 0) goto L25;
+                                                                                l11 = l11 + 8ull;
+                                                                                l1 = l1 + 1ull;
+                                                                                if (l13 != l1) goto L48;
                                                                             }
-                                                                            l2 = l16;
+                                                                            l1 = l13;
                                                                             goto L25;
                                                                         }
                                                                         store32(l9 + 32ull, 0u);
-                                                                        l2 = l9 + 20ull;
-                                                                        store32(l2, 0u);
-                                                                        store8(l11 + 70u, (u8)0u);
-                                                                        store16(l11 + 68u, (u16)0u);
-                                                                        l35 = 11u;
+                                                                        l1 = l9 + 20ull;
+                                                                        store32(l1, 0u);
+                                                                        l31 = 11u;
                                                                         const u32 t50 = load32(l9 + 28ull);
-                                                                        l36 = t50;
-                                                                        l16 = l9 + 16ull;
-                                                                        const u32 t51 = load32(l16);
-                                                                        if ((l36 - t51) <= 10u) {
+                                                                        l33 = t50;
+                                                                        l13 = l9 + 16ull;
+                                                                        const u32 t51 = load32(l13);
+                                                                        if ((l33 - t51) <= 10u) {
                                                                             const u32 t53 = space_space_Space_try_claim_spare(stack, l9, 11ull);
                                                                             if (t53 == 0) goto L27;
-                                                                            const u32 t54 = load32(l9 + 24ull);
-                                                                            l35 = t54 + 11u;
-                                                                            const u32 t55 = load32(l9 + 28ull);
-                                                                            l36 = t55;
+                                                                            const u32 t54 = load32(l9 + 28ull);
+                                                                            l33 = t54;
+                                                                            const u32 t55 = load32(l9 + 24ull);
+                                                                            l31 = t55 + 11u;
                                                                         }
                                                                         const u64 t56 = load64(l9);
-                                                                        l13 = t56 + ((u64)(l36 - l35) << 3);
-                                                                        store64(l13 + 56u, 0ull);
-                                                                        store64(l13 + 48u, 0ull);
-                                                                        store64(l13 + 40u, 0ull);
-                                                                        store64(l13 + 32u, 0ull);
-                                                                        store64(l13 + 24u, 0ull);
-                                                                        store64(l13 + 16u, 0ull);
-                                                                        store64(l13 + 8u, 0ull);
-                                                                        store64(l13, 0ull);
-                                                                        store16(l13 + 80u, (u16)10496u);
-                                                                        store16(l13 + 72u, (u16)10496u);
-                                                                        store16(l13 + 64u, (u16)29440u);
-                                                                        store32(l13 + 84ull, 0u);
-                                                                        store32(l13 + 76ull, 0u);
-                                                                        store32(l13 + 68ull, 0u);
-                                                                        store8(l13 + 57ull, (u8)114u);
-                                                                        store8(l13 + 49ull, (u8)40u);
-                                                                        store8(l13 + 41ull, (u8)35u);
-                                                                        store8(l13 + 33ull, (u8)44u);
-                                                                        store8(l13 + 25ull, (u8)115u);
-                                                                        store8(l13 + 17ull, (u8)112u);
-                                                                        store8(l13 + 9ull, (u8)40u);
-                                                                        store8(l13 + 1ull, (u8)35u);
-                                                                        store32(l9 + 24ull, l35);
-                                                                        const u32 t57 = load32(l2);
-                                                                        const u32 t58 = load32(l16);
-                                                                        v28 = t57 + (t58 + l35); goto L28;
+                                                                        l11 = t56 + ((u64)(l33 - l31) << 3);
+                                                                        store64(l11 + 56u, 0ull);
+                                                                        store64(l11 + 48u, 0ull);
+                                                                        store64(l11 + 40u, 0ull);
+                                                                        store64(l11 + 32u, 0ull);
+                                                                        store64(l11 + 24u, 0ull);
+                                                                        store64(l11 + 16u, 0ull);
+                                                                        store64(l11 + 8u, 0ull);
+                                                                        store64(l11, 0ull);
+                                                                        store16(l11 + 80u, (u16)10496u);
+                                                                        store16(l11 + 72u, (u16)10496u);
+                                                                        store16(l11 + 64u, (u16)29440u);
+                                                                        store32(l11 + 84ull, 0u);
+                                                                        store32(l11 + 76ull, 0u);
+                                                                        store32(l11 + 68ull, 0u);
+                                                                        store8(l11 + 57ull, (u8)114u);
+                                                                        store8(l11 + 49ull, (u8)40u);
+                                                                        store8(l11 + 41ull, (u8)35u);
+                                                                        store8(l11 + 33ull, (u8)44u);
+                                                                        store8(l11 + 25ull, (u8)115u);
+                                                                        store8(l11 + 17ull, (u8)112u);
+                                                                        store8(l11 + 9ull, (u8)40u);
+                                                                        store8(l11 + 1ull, (u8)35u);
+                                                                        store32(l9 + 24ull, l31);
+                                                                        const u32 t57 = load32(l1);
+                                                                        const u32 t58 = load32(l13);
+                                                                        v28 = t57 + (t58 + l31); goto L28;
                                                                     }
                                                                     L29:;
                                                                     const u64 t59 = load64(l9);
-                                                                    l13 = t59;
+                                                                    l11 = t59;
                                                                     const u32 t60 = load32(l9 + 16ull);
-                                                                    l35 = t60;
-                                                                    l32 = l34 - 1u;
-                                                                    const u32 t61 = load8((l13 + ((u64)(l35 + l32) << 3)) + 1ull);
-                                                                    l38 = t61;
+                                                                    l31 = t60;
+                                                                    l40 = l36 - 1u;
+                                                                    const u32 t61 = load8((l11 + ((u64)(l31 + l40) << 3)) + 1ull);
+                                                                    l41 = t61;
                                                                     const u32 t62 = load32(l9 + 20ull);
-                                                                    l42 = t62;
-                                                                    const u32 t63 = load32(l11 + 56u);
-                                                                    l31 = t63;
-                                                                    store8(l11 + 98u, (u8)0u);
-                                                                    store16(l11 + 96u, (u16)0u);
+                                                                    l43 = t62;
+                                                                    const u32 t63 = load32(l10 + 60u);
+                                                                    l39 = t63;
+                                                                    l30 = 0u;
+                                                                    store8(l10 + 98u, (u8)0u);
+                                                                    store16(l10 + 96u, (u16)0u);
+                                                                    u32 v64;
+                                                                    {
+                                                                        {
+                                                                            l38 = l31 + l43;
+                                                                            l1 = (u64)(l31 + l36);
+                                                                            l13 = (u64)l38 - l1;
+                                                                            if (l13 >= 2ull) {
+                                                                                l1 = l11 + (l1 << 3);
+                                                                                if (l13 == 2ull) goto L65;
+                                                                                const u32 t67 = load8(l1 + 16ull);
+                                                                                if (t67 == 2u) goto L65;
+                                                                            }
+                                                                            l34 = 1u;
+                                                                            l32 = 0u;
+                                                                            l42 = 0u;
+                                                                            v64 = l36; goto L64;
+                                                                        }
+                                                                        L65:;
+                                                                        functions_function_function_of(stack, l10 + 96ull, l1, l1 + 8ull);
+                                                                        l34 = 1u;
+                                                                        l32 = 0u;
+                                                                        l42 = 0u;
+                                                                        const u32 t68 = load8(l10 + 96u);
+                                                                        if (t68 != 1u) { v64 = l36; goto L64; }
+                                                                        const u32 t69 = load8(l10 + 98u);
+                                                                        l42 = t69;
+                                                                        const u32 t70 = load8(l10 + 97u);
+                                                                        l32 = t70;
+                                                                        l34 = 0u;
+                                                                        l30 = 1u;
+                                                                        v64 = l36 + 3u;
+                                                                    }
+                                                                    L64:;
+                                                                    l37 = v64;
+                                                                    l44 = l41 == 0;
                                                                     {
                                                                         {
                                                                             {
@@ -21263,95 +21618,72 @@ static void engine_turn(u64 stack, u64 l0, u64 l1, u64 l2, u64 l3, u64 l4, u64 l
                                                                                                 {
                                                                                                     {
                                                                                                         {
-                                                                                                            {
-                                                                                                                {
-                                                                                                                    l33 = l35 + l42;
-                                                                                                                    l2 = (u64)(l34 + l35);
-                                                                                                                    l16 = (u64)l33 - l2;
-                                                                                                                    if (l16 < 2ull) goto L75;
-                                                                                                                    l2 = l13 + (l2 << 3);
-                                                                                                                    if (l16 != 2ull) {
-                                                                                                                        const u32 t77 = load8(l2 + 16ull);
-                                                                                                                        if (t77 != 2u) goto L75;
-                                                                                                                    }
-                                                                                                                    functions_function_function_of(stack, l11 + 96ull, l2, l2 + 8ull);
-                                                                                                                    const u32 t78 = load8(l11 + 96u);
-                                                                                                                    if (t78 == 1u) goto L74;
-                                                                                                                }
-                                                                                                                L75:;
-                                                                                                                l43 = 0u;
-                                                                                                                store8(l11 + 70u, (u8)0u);
-                                                                                                                store16(l11 + 68u, (u16)0u);
-                                                                                                                l30 = 1u;
-                                                                                                                l37 = 0u;
-                                                                                                                l39 = l34;
-                                                                                                                goto L73;
-                                                                                                            }
-                                                                                                            L74:;
-                                                                                                            const u32 t79 = load8(l11 + 98u);
-                                                                                                            l43 = t79;
-                                                                                                            const u32 t80 = load8(l11 + 97u);
-                                                                                                            l37 = t80;
-                                                                                                            l30 = 0u;
-                                                                                                            store8(l11 + 70u, (u8)0u);
-                                                                                                            store16(l11 + 68u, (u16)0u);
-                                                                                                            l39 = l34 + 3u;
-                                                                                                            if ((l37 - 11u) < 14u) goto L73;
-                                                                                                            if (((1u << (l37 & 31)) & 1012u) == 0) goto L72;
+                                                                                                            if (l30 == 0) goto L80;
+                                                                                                            l30 = l32 & 255u;
+                                                                                                            if ((1u << (l30 & 31)) & 33553396u) goto L80;
+                                                                                                            if (l30 != 3u) goto L79;
+                                                                                                            store16(l22, (u16)0u);
+                                                                                                            store8(l22 + 2u, (u8)0u);
+                                                                                                            store8(l10 + 108u, (u8)l44);
+                                                                                                            store32(l10 + 104u, l39);
+                                                                                                            store32(l10 + 100u, l43);
+                                                                                                            store32(l10 + 96u, l37);
+                                                                                                            functions_arguments_Arguments_next(stack, l10 + 48ull, l10 + 96ull, l9);
+                                                                                                            const u32 t81 = load32(l10 + 48u);
+                                                                                                            const u32 t82 = load32(l10 + 52u);
+                                                                                                            if (t81 < t82) goto L79;
                                                                                                         }
-                                                                                                        L73:;
-                                                                                                        l36 = l36 - 1u;
-                                                                                                        store32(l9 + 24ull, l36);
-                                                                                                        l40 = l33 + l36;
-                                                                                                        l33 = 0u;
-                                                                                                        if (l30) goto L64;
-                                                                                                        l30 = l38 == 0;
+                                                                                                        L80:;
+                                                                                                        l33 = l33 - 1u;
+                                                                                                        store32(l9 + 24ull, l33);
+                                                                                                        l41 = l33 + l38;
+                                                                                                        l30 = 0u;
+                                                                                                        l38 = l32 & 255u;
+                                                                                                        if (l34 | (l38 == 3u)) goto L71;
                                                                                                         {
-                                                                                                            if ((l37 - 5u) < 20u) goto L81;
+                                                                                                            if ((l38 - 5u) < 20u) goto L83;
                                                                                                             {
-                                                                                                                switch (l37 - 2u) {
-                                                                                                                case 0: goto L82;
-                                                                                                                case 2: goto L71;
-                                                                                                                default: goto L81;
+                                                                                                                switch (l38 - 2u) {
+                                                                                                                case 0: goto L84;
+                                                                                                                case 1: goto L13;
+                                                                                                                case 2: goto L78;
+                                                                                                                default: goto L83;
                                                                                                                 }
                                                                                                             }
-                                                                                                            L82:;
-                                                                                                            const u32 t83 = load16(l11 + 68u);
-                                                                                                            store16(l27, (u16)t83);
-                                                                                                            const u32 t84 = load8(l11 + 70u);
-                                                                                                            store8(l27 + 2u, (u8)t84);
-                                                                                                            store8(l11 + 108u, (u8)l30);
-                                                                                                            store32(l11 + 104u, l31);
-                                                                                                            store32(l11 + 100u, l42);
-                                                                                                            store32(l11 + 96u, l39);
-                                                                                                            functions_arguments_Arguments_next(stack, l11, l11 + 96ull, l9);
-                                                                                                            const u32 t85 = load32(l11);
-                                                                                                            l36 = t85;
-                                                                                                            const u32 t86 = load32(l11 + 4u);
-                                                                                                            if (l36 == t86) goto L64;
-                                                                                                            l13 = l13 + ((u64)(l35 + l36) << 3);
-                                                                                                            const u32 t87 = load8(l13);
-                                                                                                            const u64 t88 = l22;
-                                                                                                            u32 v89;
-                                                                                                            if (t87) {
-                                                                                                                v89 = 0u;
-                                                                                                            } else {
-                                                                                                                const u32 t90 = load8(l13 + 1ull);
-                                                                                                                v89 = t90;
+                                                                                                            L84:;
+                                                                                                            store16(l22, (u16)0u);
+                                                                                                            store8(l22 + 2u, (u8)0u);
+                                                                                                            store8(l10 + 108u, (u8)l44);
+                                                                                                            store32(l10 + 104u, l39);
+                                                                                                            store32(l10 + 100u, l43);
+                                                                                                            store32(l10 + 96u, l37);
+                                                                                                            functions_arguments_Arguments_next(stack, l10, l10 + 96ull, l9);
+                                                                                                            const u32 t85 = load32(l10);
+                                                                                                            l32 = t85;
+                                                                                                            const u32 t86 = load32(l10 + 4u);
+                                                                                                            if (l32 != t86) {
+                                                                                                                l11 = l11 + ((u64)(l31 + l32) << 3);
+                                                                                                                const u32 t88 = load8(l11);
+                                                                                                                const u64 t89 = l23;
+                                                                                                                u32 v90;
+                                                                                                                if (t88) {
+                                                                                                                    v90 = 0u;
+                                                                                                                } else {
+                                                                                                                    const u32 t91 = load8(l11 + 1ull);
+                                                                                                                    v90 = t91;
+                                                                                                                }
+                                                                                                                store8(t89, (u8)v90);
                                                                                                             }
-                                                                                                            store8(t88, (u8)v89);
-                                                                                                            goto L64;
+                                                                                                            goto L71;
                                                                                                         }
-                                                                                                        L81:;
-                                                                                                        const u32 t91 = load16(l11 + 68u);
-                                                                                                        store16(l28, (u16)t91);
-                                                                                                        const u32 t92 = load8(l11 + 70u);
-                                                                                                        store8(l28 + 2u, (u8)t92);
-                                                                                                        store8(l11 + 92u, (u8)l30);
-                                                                                                        store32(l11 + 88u, l31);
-                                                                                                        store32(l11 + 84u, l42);
-                                                                                                        store32(l11 + 80u, l39);
-                                                                                                        store64(l11 + 72u, 0ull);
+                                                                                                        L83:;
+                                                                                                        store16(l28, (u16)0u);
+                                                                                                        store8(l28 + 2u, (u8)0u);
+                                                                                                        store8(l10 + 92u, (u8)l44);
+                                                                                                        store32(l10 + 88u, l39);
+                                                                                                        store32(l10 + 84u, l43);
+                                                                                                        store32(l10 + 80u, l37);
+                                                                                                        store64(l10 + 72u, 0ull);
                                                                                                         {
                                                                                                             {
                                                                                                                 {
@@ -21371,1321 +21703,834 @@ static void engine_turn(u64 stack, u64 l0, u64 l1, u64 l2, u64 l3, u64 l4, u64 l
                                                                                                                                                                         {
                                                                                                                                                                             {
                                                                                                                                                                                 {
-                                                                                                                                                                                    switch (l37 - 5u) {
-                                                                                                                                                                                    case 0: goto L99;
-                                                                                                                                                                                    case 1: goto L98;
-                                                                                                                                                                                    case 2: goto L96;
-                                                                                                                                                                                    case 3: goto L95;
-                                                                                                                                                                                    case 4: goto L94;
-                                                                                                                                                                                    case 6: goto L97;
-                                                                                                                                                                                    case 7: goto L104;
-                                                                                                                                                                                    case 8: goto L103;
-                                                                                                                                                                                    case 9: goto L102;
-                                                                                                                                                                                    case 10: goto L101;
-                                                                                                                                                                                    case 11: goto L100;
-                                                                                                                                                                                    case 12: goto L93;
-                                                                                                                                                                                    case 13: goto L111;
-                                                                                                                                                                                    case 14: goto L110;
-                                                                                                                                                                                    case 15: goto L109;
-                                                                                                                                                                                    case 16: goto L108;
-                                                                                                                                                                                    case 17: goto L107;
-                                                                                                                                                                                    case 18: goto L106;
-                                                                                                                                                                                    case 19: goto L105;
-                                                                                                                                                                                    default: goto L65;
+                                                                                                                                                                                    switch ((u32)(((u64)l32 & 255ull)) - 5u) {
+                                                                                                                                                                                    case 0: goto L98;
+                                                                                                                                                                                    case 1: goto L97;
+                                                                                                                                                                                    case 2: goto L95;
+                                                                                                                                                                                    case 3: goto L94;
+                                                                                                                                                                                    case 4: goto L93;
+                                                                                                                                                                                    case 6: goto L96;
+                                                                                                                                                                                    case 7: goto L103;
+                                                                                                                                                                                    case 8: goto L102;
+                                                                                                                                                                                    case 9: goto L101;
+                                                                                                                                                                                    case 10: goto L100;
+                                                                                                                                                                                    case 11: goto L99;
+                                                                                                                                                                                    case 12: goto L92;
+                                                                                                                                                                                    case 13: goto L110;
+                                                                                                                                                                                    case 14: goto L109;
+                                                                                                                                                                                    case 15: goto L108;
+                                                                                                                                                                                    case 16: goto L107;
+                                                                                                                                                                                    case 17: goto L106;
+                                                                                                                                                                                    case 18: goto L105;
+                                                                                                                                                                                    case 19: goto L104;
+                                                                                                                                                                                    default: goto L72;
                                                                                                                                                                                     }
                                                                                                                                                                                 }
-                                                                                                                                                                                L111:;
-                                                                                                                                                                                functions_comparing_greater(stack, l11 + 72ull, l9, l11 + 80ull);
-                                                                                                                                                                                goto L67;
+                                                                                                                                                                                L110:;
+                                                                                                                                                                                functions_comparing_greater(stack, l10 + 72ull, l9, l10 + 80ull);
+                                                                                                                                                                                goto L74;
                                                                                                                                                                             }
-                                                                                                                                                                            L110:;
-                                                                                                                                                                            functions_arithmetic_arithmetic(stack, l11 + 72ull, l9, l43, l11 + 80ull);
-                                                                                                                                                                            goto L67;
+                                                                                                                                                                            L109:;
+                                                                                                                                                                            functions_arithmetic_arithmetic(stack, l10 + 72ull, l9, l42, l10 + 80ull);
+                                                                                                                                                                            goto L74;
                                                                                                                                                                         }
-                                                                                                                                                                        L109:;
-                                                                                                                                                                        functions_bit_strings_union(stack, l11 + 72ull, l9, l11 + 80ull);
-                                                                                                                                                                        goto L67;
+                                                                                                                                                                        L108:;
+                                                                                                                                                                        functions_bit_strings_union(stack, l10 + 72ull, l9, l10 + 80ull);
+                                                                                                                                                                        goto L74;
                                                                                                                                                                     }
-                                                                                                                                                                    L108:;
-                                                                                                                                                                    functions_bit_strings_intersection(stack, l11 + 72ull, l9, l11 + 80ull);
-                                                                                                                                                                    goto L67;
+                                                                                                                                                                    L107:;
+                                                                                                                                                                    functions_bit_strings_intersection(stack, l10 + 72ull, l9, l10 + 80ull);
+                                                                                                                                                                    goto L74;
                                                                                                                                                                 }
-                                                                                                                                                                L107:;
-                                                                                                                                                                store64(l11 + 136u, 0ull);
-                                                                                                                                                                const u64 t112 = load64(l11 + 80u);
-                                                                                                                                                                store64(l11 + 120u, t112);
-                                                                                                                                                                const u64 t113 = load64(l11 + 88u);
-                                                                                                                                                                store64(l11 + 128u, t113);
-                                                                                                                                                                store64(l11 + 108u, 0ull);
-                                                                                                                                                                functions_arguments_Arguments_next(stack, l11 + 8ull, l11 + 120ull, l9);
-                                                                                                                                                                const u32 t114 = load32(l11 + 8u);
-                                                                                                                                                                l38 = t114;
-                                                                                                                                                                const u32 t115 = load32(l11 + 12u);
-                                                                                                                                                                l30 = t115;
-                                                                                                                                                                l16 = (u64)(l30 + l35);
-                                                                                                                                                                l2 = (u64)(l38 + l35) - l16;
-                                                                                                                                                                l13 = (l13 + (l16 << 3)) - 8ull;
-                                                                                                                                                                l33 = l30;
-                                                                                                                                                                L116:;
+                                                                                                                                                                L106:;
+                                                                                                                                                                store64(l10 + 136u, 0ull);
+                                                                                                                                                                const u64 t111 = load64(l10 + 80u);
+                                                                                                                                                                store64(l10 + 120u, t111);
+                                                                                                                                                                const u64 t112 = load64(l10 + 88u);
+                                                                                                                                                                store64(l10 + 128u, t112);
+                                                                                                                                                                store64(l10 + 108u, 0ull);
+                                                                                                                                                                functions_arguments_Arguments_next(stack, l10 + 8ull, l10 + 120ull, l9);
+                                                                                                                                                                const u32 t113 = load32(l10 + 8u);
+                                                                                                                                                                l38 = t113;
+                                                                                                                                                                const u32 t114 = load32(l10 + 12u);
+                                                                                                                                                                l34 = t114;
+                                                                                                                                                                l13 = (u64)(l34 + l31);
+                                                                                                                                                                l1 = (u64)(l38 + l31) - l13;
+                                                                                                                                                                l11 = (l11 + (l13 << 3)) - 8ull;
+                                                                                                                                                                l30 = l34;
+                                                                                                                                                                L115:;
                                                                                                                                                                 {
                                                                                                                                                                     {
-                                                                                                                                                                        l37 = l33;
-                                                                                                                                                                        if (l2 == 0) goto L117;
+                                                                                                                                                                        l32 = l30;
+                                                                                                                                                                        if (l1 == 0) goto L116;
+                                                                                                                                                                        const u32 t117 = load8(l11);
+                                                                                                                                                                        if (t117) goto L116;
+                                                                                                                                                                        l1 = l1 + 1ull;
+                                                                                                                                                                        l30 = l32 - 1u;
+                                                                                                                                                                        l13 = l11 + 1ull;
+                                                                                                                                                                        l11 = l11 - 8ull;
                                                                                                                                                                         const u32 t118 = load8(l13);
-                                                                                                                                                                        if (t118) goto L117;
-                                                                                                                                                                        l2 = l2 + 1ull;
-                                                                                                                                                                        l33 = l37 - 1u;
-                                                                                                                                                                        l16 = l13 + 1ull;
-                                                                                                                                                                        l13 = l13 - 8ull;
-                                                                                                                                                                        const u32 t119 = load8(l16);
-                                                                                                                                                                        if ((t119 & 248u) == 48u) goto L116;
+                                                                                                                                                                        if ((t118 & 248u) == 48u) goto L115;
                                                                                                                                                                     }
-                                                                                                                                                                    L117:;
+                                                                                                                                                                    L116:;
                                                                                                                                                                 }
-                                                                                                                                                                store32(l11 + 104u, l30);
-                                                                                                                                                                store32(l11 + 100u, l37);
-                                                                                                                                                                store32(l11 + 96u, 2u);
-                                                                                                                                                                functions_bit_strings_give_bits(stack, l11 + 136ull, l9, l38, l37, l11 + 96ull);
-                                                                                                                                                                const u32 t120 = load16(l11 + 136u);
-                                                                                                                                                                store16(l11 + 72u, (u16)t120);
-                                                                                                                                                                const u32 t121 = load32(l11 + 140u);
-                                                                                                                                                                store32(l11 + 76u, t121);
-                                                                                                                                                                goto L67;
+                                                                                                                                                                store32(l10 + 104u, l34);
+                                                                                                                                                                store32(l10 + 100u, l32);
+                                                                                                                                                                store32(l10 + 96u, 2u);
+                                                                                                                                                                functions_bit_strings_give_bits(stack, l10 + 136ull, l9, l38, l32, l10 + 96ull);
+                                                                                                                                                                const u32 t119 = load16(l10 + 136u);
+                                                                                                                                                                store16(l10 + 72u, (u16)t119);
+                                                                                                                                                                const u32 t120 = load32(l10 + 140u);
+                                                                                                                                                                store32(l10 + 76u, t120);
+                                                                                                                                                                goto L74;
                                                                                                                                                             }
-                                                                                                                                                            L106:;
-                                                                                                                                                            functions_bit_strings_shift(stack, l11 + 72ull, l9, l11 + 80ull);
-                                                                                                                                                            goto L67;
+                                                                                                                                                            L105:;
+                                                                                                                                                            functions_bit_strings_shift(stack, l10 + 72ull, l9, l10 + 80ull);
+                                                                                                                                                            goto L74;
                                                                                                                                                         }
-                                                                                                                                                        L105:;
-                                                                                                                                                        functions_bit_strings_rotate(stack, l11 + 72ull, l9, l11 + 80ull);
-                                                                                                                                                        goto L67;
+                                                                                                                                                        L104:;
+                                                                                                                                                        functions_bit_strings_rotate(stack, l10 + 72ull, l9, l10 + 80ull);
+                                                                                                                                                        goto L74;
                                                                                                                                                     }
-                                                                                                                                                    L104:;
-                                                                                                                                                    functions_form_parts_call_segment(stack, l11 + 72ull, l9, l11 + 80ull);
-                                                                                                                                                    goto L67;
+                                                                                                                                                    L103:;
+                                                                                                                                                    functions_form_parts_call_segment(stack, l10 + 72ull, l9, l10 + 80ull);
+                                                                                                                                                    goto L74;
                                                                                                                                                 }
-                                                                                                                                                L103:;
-                                                                                                                                                functions_form_parts_call_character(stack, l11 + 72ull, l9, l11 + 80ull);
-                                                                                                                                                goto L67;
+                                                                                                                                                L102:;
+                                                                                                                                                functions_form_parts_call_character(stack, l10 + 72ull, l9, l10 + 80ull);
+                                                                                                                                                goto L74;
                                                                                                                                             }
-                                                                                                                                            L102:;
-                                                                                                                                            functions_form_parts_call_number(stack, l11 + 72ull, l9, l11 + 80ull);
-                                                                                                                                            goto L67;
+                                                                                                                                            L101:;
+                                                                                                                                            functions_form_parts_call_number(stack, l10 + 72ull, l9, l10 + 80ull);
+                                                                                                                                            goto L74;
                                                                                                                                         }
-                                                                                                                                        L101:;
-                                                                                                                                        functions_form_parts_initial_part(stack, l11 + 72ull, l9, l11 + 80ull);
-                                                                                                                                        goto L67;
+                                                                                                                                        L100:;
+                                                                                                                                        functions_form_parts_initial_part(stack, l10 + 72ull, l9, l10 + 80ull);
+                                                                                                                                        goto L74;
                                                                                                                                     }
-                                                                                                                                    L100:;
-                                                                                                                                    functions_form_parts_call_restore(stack, l11 + 72ull, l9, l11 + 80ull);
-                                                                                                                                    goto L67;
+                                                                                                                                    L99:;
+                                                                                                                                    functions_form_parts_call_restore(stack, l10 + 72ull, l9, l10 + 80ull);
+                                                                                                                                    goto L74;
                                                                                                                                 }
-                                                                                                                                L99:;
-                                                                                                                                functions_form_calls_define_string(stack, l11 + 72ull, l9, l11 + 80ull);
-                                                                                                                                goto L67;
+                                                                                                                                L98:;
+                                                                                                                                functions_form_calls_define_string(stack, l10 + 72ull, l9, l10 + 80ull);
+                                                                                                                                goto L74;
                                                                                                                             }
-                                                                                                                            L98:;
-                                                                                                                            functions_form_calls_segment_string(stack, l11 + 72ull, l9, l11 + 80ull);
-                                                                                                                            goto L67;
+                                                                                                                            L97:;
+                                                                                                                            functions_form_calls_segment_string(stack, l10 + 72ull, l9, l10 + 80ull);
+                                                                                                                            goto L74;
                                                                                                                         }
-                                                                                                                        L97:;
-                                                                                                                        const u64 t122 = load64(l11 + 88u);
-                                                                                                                        store64(l11 + 104u, t122);
-                                                                                                                        const u64 t123 = load64(l11 + 80u);
-                                                                                                                        store64(l11 + 96u, t123);
-                                                                                                                        const u32 t124 = load8(l11 + 108u);
-                                                                                                                        l30 = t124;
-                                                                                                                        functions_arguments_Arguments_next(stack, l11 + 40ull, l11 + 96ull, l9);
-                                                                                                                        const u32 t125 = load32(l11 + 44u);
-                                                                                                                        l37 = t125;
-                                                                                                                        const u32 t126 = load32(l11 + 40u);
-                                                                                                                        l33 = t126;
-                                                                                                                        u32 v127;
+                                                                                                                        L96:;
+                                                                                                                        const u64 t121 = load64(l10 + 88u);
+                                                                                                                        store64(l10 + 104u, t121);
+                                                                                                                        const u64 t122 = load64(l10 + 80u);
+                                                                                                                        store64(l10 + 96u, t122);
+                                                                                                                        const u32 t123 = load8(l10 + 108u);
+                                                                                                                        l34 = t123;
+                                                                                                                        functions_arguments_Arguments_next(stack, l10 + 40ull, l10 + 96ull, l9);
+                                                                                                                        const u32 t124 = load32(l10 + 44u);
+                                                                                                                        l32 = t124;
+                                                                                                                        const u32 t125 = load32(l10 + 40u);
+                                                                                                                        l30 = t125;
+                                                                                                                        u32 v126;
                                                                                                                         {
-                                                                                                                            const u32 t128 = load32(l9 + 40ull);
-                                                                                                                            l38 = t128;
+                                                                                                                            const u32 t127 = load32(l9 + 40ull);
+                                                                                                                            l38 = t127;
                                                                                                                             if (l38 >= 8u) {
-                                                                                                                                forms_work_Work_find_among_more(stack, l11 + 24ull, l9, l33, l37);
-                                                                                                                                const u32 t130 = load8(l11 + 24u);
-                                                                                                                                l37 = t130;
-                                                                                                                                const u32 t131 = load32(l11 + 28u);
-                                                                                                                                v127 = t131; goto L127;
+                                                                                                                                forms_work_Work_find_among_more(stack, l10 + 24ull, l9, l30, l32);
+                                                                                                                                const u32 t129 = load8(l10 + 24u);
+                                                                                                                                l32 = t129;
+                                                                                                                                const u32 t130 = load32(l10 + 28u);
+                                                                                                                                v126 = t130; goto L126;
                                                                                                                             }
                                                                                                                             {
-                                                                                                                                if (l38 == 0) goto L132;
-                                                                                                                                const u64 t133 = load32(l13 + 4ull);
-                                                                                                                                l16 = (u64)(l35 + l37);
-                                                                                                                                l2 = (u64)(l33 + l35);
-                                                                                                                                if (t133 != (l16 - l2)) goto L132;
-                                                                                                                                l18 = 17ull - (l2 << 3);
-                                                                                                                                l2 = (l16 ^ 18446744073709551615ull) + l2;
-                                                                                                                                l13 = l13 + (l16 << 3);
-                                                                                                                                L134:;
+                                                                                                                                if (l38 == 0) goto L131;
+                                                                                                                                const u64 t132 = load32(l11 + 4ull);
+                                                                                                                                l13 = (u64)(l31 + l32);
+                                                                                                                                l1 = (u64)(l30 + l31);
+                                                                                                                                if (t132 != (l13 - l1)) goto L131;
+                                                                                                                                l18 = 17ull - (l1 << 3);
+                                                                                                                                l1 = (l13 ^ 18446744073709551615ull) + l1;
+                                                                                                                                l11 = l11 + (l13 << 3);
+                                                                                                                                L133:;
                                                                                                                                 {
-                                                                                                                                    l2 = l2 + 1ull;
-                                                                                                                                    if (l2 == 0) goto L70;
-                                                                                                                                    l16 = l13 - 7ull;
-                                                                                                                                    l12 = l13 + l18;
-                                                                                                                                    l13 = l13 - 8ull;
-                                                                                                                                    const u32 t135 = load8(l12);
-                                                                                                                                    const u32 t136 = load8(l16);
-                                                                                                                                    if (t135 == t136) goto L134;
+                                                                                                                                    l1 = l1 + 1ull;
+                                                                                                                                    if (l1 == 0) goto L77;
+                                                                                                                                    l13 = l11 - 7ull;
+                                                                                                                                    l16 = l11 + l18;
+                                                                                                                                    l11 = l11 - 8ull;
+                                                                                                                                    const u32 t134 = load8(l16);
+                                                                                                                                    const u32 t135 = load8(l13);
+                                                                                                                                    if (t134 == t135) goto L133;
                                                                                                                                 }
                                                                                                                             }
-                                                                                                                            L132:;
-                                                                                                                            forms_work_Work_find_among_few(stack, l11 + 32ull, l9, l33, l37);
-                                                                                                                            const u32 t137 = load8(l11 + 32u);
-                                                                                                                            l37 = t137;
-                                                                                                                            const u32 t138 = load32(l11 + 36u);
-                                                                                                                            v127 = t138;
+                                                                                                                            L131:;
+                                                                                                                            forms_work_Work_find_among_few(stack, l10 + 32ull, l9, l30, l32);
+                                                                                                                            const u32 t136 = load8(l10 + 32u);
+                                                                                                                            l32 = t136;
+                                                                                                                            const u32 t137 = load32(l10 + 36u);
+                                                                                                                            v126 = t137;
                                                                                                                         }
-                                                                                                                        L127:;
-                                                                                                                        l33 = v127;
-                                                                                                                        if ((l37 & 255u) != 1u) goto L69;
-                                                                                                                        goto L68;
+                                                                                                                        L126:;
+                                                                                                                        l30 = v126;
+                                                                                                                        if ((l32 & 255u) != 1u) goto L76;
+                                                                                                                        goto L75;
                                                                                                                     }
-                                                                                                                    L96:;
-                                                                                                                    functions_form_calls_delete_definition(stack, l11 + 72ull, l9, l11 + 80ull);
-                                                                                                                    goto L67;
+                                                                                                                    L95:;
+                                                                                                                    functions_form_calls_delete_definition(stack, l10 + 72ull, l9, l10 + 80ull);
+                                                                                                                    goto L74;
                                                                                                                 }
-                                                                                                                L95:;
-                                                                                                                functions_form_calls_delete_all(stack, l11 + 72ull, l9);
-                                                                                                                goto L67;
+                                                                                                                L94:;
+                                                                                                                functions_form_calls_delete_all(stack, l10 + 72ull, l9);
+                                                                                                                goto L74;
                                                                                                             }
-                                                                                                            L94:;
-                                                                                                            functions_form_calls_list_names(stack, l11 + 72ull, l9, l11 + 80ull);
-                                                                                                            goto L67;
+                                                                                                            L93:;
+                                                                                                            functions_form_calls_list_names(stack, l10 + 72ull, l9, l10 + 80ull);
+                                                                                                            goto L74;
                                                                                                         }
-                                                                                                        L93:;
-                                                                                                        functions_comparing_equal(stack, l11 + 72ull, l9, l11 + 80ull);
-                                                                                                        goto L67;
+                                                                                                        L92:;
+                                                                                                        functions_comparing_equal(stack, l10 + 72ull, l9, l10 + 80ull);
+                                                                                                        goto L74;
                                                                                                     }
-                                                                                                    L72:;
-                                                                                                    store32(l17 + 11u, 0u);
-                                                                                                    store8(l17 + 10u, (u8)l43);
-                                                                                                    store8(l17 + 9u, (u8)l37);
-                                                                                                    store8(l17 + 8u, (u8)1u);
-                                                                                                    store8(l17 + 15u, (u8)0u);
-                                                                                                    store32(l17 + 36u, 0u);
-                                                                                                    store32(l17 + 32u, l44);
-                                                                                                    store32(l17 + 20u, 0u);
-                                                                                                    const u32 t139 = load32(l11 + 56u);
-                                                                                                    store32(l17 + 16u, t139);
-                                                                                                    l13 = l15 - l1;
-                                                                                                    store64(l17, l13);
-                                                                                                    store64(l17 + 24u, l13 + l21);
+                                                                                                    L79:;
+                                                                                                    store32(l15 + 11u, 0u);
+                                                                                                    store8(l15 + 10u, (u8)l42);
+                                                                                                    store8(l15 + 9u, (u8)l32);
+                                                                                                    store8(l15 + 8u, (u8)1u);
+                                                                                                    store8(l15 + 15u, (u8)0u);
+                                                                                                    store32(l15 + 36u, 0u);
+                                                                                                    store32(l15 + 32u, l35);
+                                                                                                    store32(l15 + 20u, 0u);
+                                                                                                    const u32 t138 = load32(l10 + 60u);
+                                                                                                    store32(l15 + 16u, t138);
+                                                                                                    l11 = l17 - l12;
+                                                                                                    store64(l15, l11);
+                                                                                                    store64(l15 + 24u, l11 + l21);
                                                                                                     goto L12;
                                                                                                 }
-                                                                                                L71:;
-                                                                                                l2 = l15 - l1;
-                                                                                                l13 = l2 + l21;
-                                                                                                l35 = 0u;
-                                                                                                goto L66;
+                                                                                                L78:;
+                                                                                                l1 = l17 - l12;
+                                                                                                l11 = l1 + l21;
+                                                                                                l31 = 0u;
+                                                                                                goto L73;
                                                                                             }
-                                                                                            L70:;
+                                                                                            L77:;
                                                                                             store64(l9 + 44ull, 0ull);
-                                                                                            l33 = 0u;
-                                                                                            goto L68;
+                                                                                            l30 = 0u;
+                                                                                            goto L75;
                                                                                         }
-                                                                                        L69:;
-                                                                                        store32(l11 + 76u, 0u);
-                                                                                        store16(l11 + 72u, (u16)1u);
-                                                                                        goto L67;
+                                                                                        L76:;
+                                                                                        store32(l10 + 76u, 0u);
+                                                                                        store16(l10 + 72u, (u16)1u);
+                                                                                        goto L74;
                                                                                     }
-                                                                                    L68:;
-                                                                                    const u32 t140 = load32(l11 + 100u);
-                                                                                    l37 = t140;
-                                                                                    const u32 t141 = load32(l11 + 96u);
-                                                                                    l38 = t141;
+                                                                                    L75:;
+                                                                                    const u32 t139 = load32(l10 + 100u);
+                                                                                    l32 = t139;
+                                                                                    const u32 t140 = load32(l10 + 96u);
+                                                                                    l38 = t140;
                                                                                     {
                                                                                         {
                                                                                             {
                                                                                                 {
                                                                                                     {
-                                                                                                        if ((l30 & 1u) == 0) goto L146;
-                                                                                                        if (l37 >= l38) goto L146;
-                                                                                                        const u32 t147 = load32(l9 + 44ull);
-                                                                                                        const u32 t148 = load32(l9 + 48ull);
-                                                                                                        const u32 t149 = store_form_cells_place_of(stack, l9, t147, t148, l33);
-                                                                                                        l31 = t149;
-                                                                                                        const u64 t150 = load64(l9);
-                                                                                                        l16 = t150;
-                                                                                                        l13 = l16 + ((u64)l31 << 3);
-                                                                                                        const u32 t151 = load32(l13 + 12ull);
-                                                                                                        l43 = t151;
-                                                                                                        const u32 t152 = load32(l13 + 20ull);
-                                                                                                        l39 = t152;
-                                                                                                        l30 = l43 - l39;
-                                                                                                        if (l30 == 0) {
-                                                                                                            l30 = 0u;
-                                                                                                            goto L142;
+                                                                                                        if ((l34 & 1u) == 0) goto L145;
+                                                                                                        if (l32 >= l38) goto L145;
+                                                                                                        const u32 t146 = load32(l9 + 44ull);
+                                                                                                        const u32 t147 = load32(l9 + 48ull);
+                                                                                                        const u32 t148 = store_form_cells_place_of(stack, l9, t146, t147, l30);
+                                                                                                        l37 = t148;
+                                                                                                        const u64 t149 = load64(l9);
+                                                                                                        l13 = t149;
+                                                                                                        l11 = l13 + ((u64)l37 << 3);
+                                                                                                        const u32 t150 = load32(l11 + 12ull);
+                                                                                                        l44 = t150;
+                                                                                                        const u32 t151 = load32(l11 + 20ull);
+                                                                                                        l39 = t151;
+                                                                                                        l34 = l44 - l39;
+                                                                                                        if (l34 == 0) {
+                                                                                                            l34 = 0u;
+                                                                                                            goto L141;
                                                                                                         }
-                                                                                                        const u32 t154 = load32(l13 + 4ull);
-                                                                                                        l45 = (l31 + t154) + 3u;
-                                                                                                        l31 = l39 + l45;
+                                                                                                        const u32 t153 = load32(l11 + 4ull);
+                                                                                                        l42 = (l37 + t153) + 3u;
+                                                                                                        l37 = l39 + l42;
                                                                                                         {
-                                                                                                            const u32 t156 = load32(l9 + 28ull);
-                                                                                                            l39 = t156;
-                                                                                                            const u32 t157 = load32(l9 + 20ull);
-                                                                                                            const u32 t158 = load32(l9 + 24ull);
-                                                                                                            l41 = t158;
-                                                                                                            const u32 t159 = load32(l9 + 16ull);
-                                                                                                            if (l30 <= (l39 - (t157 + (l41 + t159)))) {
-                                                                                                                l12 = (u64)l30;
-                                                                                                                l18 = (u64)l31;
+                                                                                                            const u32 t155 = load32(l9 + 28ull);
+                                                                                                            l39 = t155;
+                                                                                                            const u32 t156 = load32(l9 + 20ull);
+                                                                                                            const u32 t157 = load32(l9 + 24ull);
+                                                                                                            l45 = t157;
+                                                                                                            const u32 t158 = load32(l9 + 16ull);
+                                                                                                            if (l34 <= (l39 - (t156 + (l45 + t158)))) {
+                                                                                                                l16 = (u64)l34;
+                                                                                                                l18 = (u64)l37;
                                                                                                                 {
                                                                                                                     {
-                                                                                                                        if (l30 >= 8u) {
-                                                                                                                            if (l30 == 8u) goto L161;
-                                                                                                                            l13 = l16 + (l18 << 3);
-                                                                                                                            l2 = l12;
-                                                                                                                            goto L162;
+                                                                                                                        if (l34 >= 8u) {
+                                                                                                                            if (l34 == 8u) goto L160;
+                                                                                                                            l11 = l13 + (l18 << 3);
+                                                                                                                            l1 = l16;
+                                                                                                                            goto L161;
                                                                                                                         }
-                                                                                                                        if (l30 >= 4u) {
-                                                                                                                            l13 = l16 + (l18 << 3);
-                                                                                                                            const u32 t165 = load8(l13 + 24ull);
-                                                                                                                            const u32 t166 = load8(l13 + 16ull);
-                                                                                                                            const u32 t167 = load8(l13 + 8ull);
-                                                                                                                            const u32 t168 = load8(l13);
-                                                                                                                            if (((t165 + t166) | (t167 + t168)) & 255u) goto L146;
-                                                                                                                            l2 = l12 + l18;
-                                                                                                                            l13 = l16 + (l2 << 3);
-                                                                                                                            const u32 t169 = load8(l13 - 8ull);
-                                                                                                                            const u32 t170 = load8(l13 - 16ull);
-                                                                                                                            const u32 t171 = load8(l13 - 24ull);
-                                                                                                                            const u32 t172 = load8(l13 - 32ull);
-                                                                                                                            if (((t169 + t170) | (t171 + t172)) & 255u) goto L146;
-                                                                                                                            l37 = l30 + l41;
-                                                                                                                            l13 = (u64)(l39 - l37);
-                                                                                                                            core_slice_edits_slice_T_copy_from_slice(stack, l16 + (l13 << 3), l16 + (l18 << 3), 4ull);
-                                                                                                                            const u64 t173 = l13 - l18;
-                                                                                                                            l13 = l2 - 4ull;
-                                                                                                                            core_slice_edits_slice_T_copy_from_slice(stack, l16 + ((t173 + l13) << 3), l16 + (l13 << 3), 4ull);
-                                                                                                                            goto L143;
+                                                                                                                        if (l34 >= 4u) {
+                                                                                                                            l11 = l13 + (l18 << 3);
+                                                                                                                            const u32 t164 = load8(l11 + 24ull);
+                                                                                                                            const u32 t165 = load8(l11 + 16ull);
+                                                                                                                            const u32 t166 = load8(l11 + 8ull);
+                                                                                                                            const u32 t167 = load8(l11);
+                                                                                                                            if (((t164 + t165) | (t166 + t167)) & 255u) goto L145;
+                                                                                                                            l1 = l16 + l18;
+                                                                                                                            l11 = l13 + (l1 << 3);
+                                                                                                                            const u32 t168 = load8(l11 - 8ull);
+                                                                                                                            const u32 t169 = load8(l11 - 16ull);
+                                                                                                                            const u32 t170 = load8(l11 - 24ull);
+                                                                                                                            const u32 t171 = load8(l11 - 32ull);
+                                                                                                                            if (((t168 + t169) | (t170 + t171)) & 255u) goto L145;
+                                                                                                                            l32 = l34 + l45;
+                                                                                                                            l11 = (u64)(l39 - l32);
+                                                                                                                            core_slice_edits_slice_T_copy_from_slice(stack, l13 + (l11 << 3), l13 + (l18 << 3), 4ull);
+                                                                                                                            const u64 t172 = l11 - l18;
+                                                                                                                            l11 = l1 - 4ull;
+                                                                                                                            core_slice_edits_slice_T_copy_from_slice(stack, l13 + ((t172 + l11) << 3), l13 + (l11 << 3), 4ull);
+                                                                                                                            goto L142;
                                                                                                                         }
-                                                                                                                        l13 = l16 + (l18 << 3);
-                                                                                                                        const u32 t174 = load8(l13);
-                                                                                                                        l31 = t174;
-                                                                                                                        if (l30 == 1u) goto L155;
-                                                                                                                        const u32 t175 = load8(l13 + 8ull);
-                                                                                                                        if (t175 | (l31 & 255u)) goto L146;
-                                                                                                                        l2 = l12 + l18;
-                                                                                                                        l13 = l16 + (l2 << 3);
-                                                                                                                        const u32 t176 = load8(l13 - 8ull);
-                                                                                                                        const u32 t177 = load8(l13 - 16ull);
-                                                                                                                        if (t176 | t177) goto L146;
-                                                                                                                        l37 = l30 + l41;
-                                                                                                                        l13 = (u64)(l39 - l37);
-                                                                                                                        core_slice_edits_slice_T_copy_from_slice(stack, l16 + (l13 << 3), l16 + (l18 << 3), 2ull);
-                                                                                                                        const u64 t178 = l13 - l18;
-                                                                                                                        l13 = l2 - 2ull;
-                                                                                                                        core_slice_edits_slice_T_copy_from_slice(stack, l16 + ((t178 + l13) << 3), l16 + (l13 << 3), 2ull);
-                                                                                                                        goto L143;
+                                                                                                                        l11 = l13 + (l18 << 3);
+                                                                                                                        const u32 t173 = load8(l11);
+                                                                                                                        l37 = t173;
+                                                                                                                        if (l34 == 1u) goto L154;
+                                                                                                                        const u32 t174 = load8(l11 + 8ull);
+                                                                                                                        if (t174 | (l37 & 255u)) goto L145;
+                                                                                                                        l1 = l16 + l18;
+                                                                                                                        l11 = l13 + (l1 << 3);
+                                                                                                                        const u32 t175 = load8(l11 - 8ull);
+                                                                                                                        const u32 t176 = load8(l11 - 16ull);
+                                                                                                                        if (t175 | t176) goto L145;
+                                                                                                                        l32 = l34 + l45;
+                                                                                                                        l11 = (u64)(l39 - l32);
+                                                                                                                        core_slice_edits_slice_T_copy_from_slice(stack, l13 + (l11 << 3), l13 + (l18 << 3), 2ull);
+                                                                                                                        const u64 t177 = l11 - l18;
+                                                                                                                        l11 = l1 - 2ull;
+                                                                                                                        core_slice_edits_slice_T_copy_from_slice(stack, l13 + ((t177 + l11) << 3), l13 + (l11 << 3), 2ull);
+                                                                                                                        goto L142;
                                                                                                                     }
-                                                                                                                    L162:;
-                                                                                                                    L179:;
+                                                                                                                    L161:;
+                                                                                                                    L178:;
                                                                                                                     {
-                                                                                                                        const u32 t180 = load8(l13 + 56ull);
-                                                                                                                        const u32 t181 = load8(l13 + 48ull);
-                                                                                                                        const u32 t182 = load8(l13 + 40ull);
-                                                                                                                        const u32 t183 = load8(l13 + 32ull);
-                                                                                                                        const u32 t184 = load8(l13 + 24ull);
-                                                                                                                        const u32 t185 = load8(l13 + 16ull);
-                                                                                                                        const u32 t186 = load8(l13 + 8ull);
-                                                                                                                        const u32 t187 = load8(l13);
-                                                                                                                        if (t180 | ((t181 + (t182 + (t183 + (t184 + (t185 + (t186 + t187)))))) & 255u)) goto L146;
-                                                                                                                        l13 = l13 + 64ull;
-                                                                                                                        l2 = l2 - 8ull;
-                                                                                                                        if (l2 >= 9ull) goto L179;
+                                                                                                                        const u32 t179 = load8(l11 + 56ull);
+                                                                                                                        const u32 t180 = load8(l11 + 48ull);
+                                                                                                                        const u32 t181 = load8(l11 + 40ull);
+                                                                                                                        const u32 t182 = load8(l11 + 32ull);
+                                                                                                                        const u32 t183 = load8(l11 + 24ull);
+                                                                                                                        const u32 t184 = load8(l11 + 16ull);
+                                                                                                                        const u32 t185 = load8(l11 + 8ull);
+                                                                                                                        const u32 t186 = load8(l11);
+                                                                                                                        if (t179 | ((t180 + (t181 + (t182 + (t183 + (t184 + (t185 + t186)))))) & 255u)) goto L145;
+                                                                                                                        l11 = l11 + 64ull;
+                                                                                                                        l1 = l1 - 8ull;
+                                                                                                                        if (l1 >= 9ull) goto L178;
                                                                                                                     }
                                                                                                                 }
-                                                                                                                L161:;
-                                                                                                                l2 = l12 + l18;
-                                                                                                                l13 = l16 + (l2 << 3);
-                                                                                                                const u32 t188 = load8(l13 - 56ull);
-                                                                                                                const u32 t189 = load8(l13 - 64ull);
-                                                                                                                const u32 t190 = load8(l13 - 48ull);
-                                                                                                                const u32 t191 = load8(l13 - 40ull);
-                                                                                                                const u32 t192 = load8(l13 - 32ull);
-                                                                                                                const u32 t193 = load8(l13 - 24ull);
-                                                                                                                const u32 t194 = load8(l13 - 16ull);
-                                                                                                                const u32 t195 = load8(l13 - 8ull);
-                                                                                                                if ((((((((t188 + t189) + t190) + t191) + t192) + t193) + t194) & 255u) | t195) goto L146;
-                                                                                                                l37 = l30 + l41;
-                                                                                                                l23 = (u64)(l39 - l37);
-                                                                                                                if (l30 > 24u) goto L145;
-                                                                                                                if (l30 != 8u) {
-                                                                                                                    l29 = l16 - 64ull;
-                                                                                                                    l13 = l29 + (l2 << 3);
-                                                                                                                    l2 = l29 + ((l12 + l23) << 3);
-                                                                                                                    L197:;
+                                                                                                                L160:;
+                                                                                                                l1 = l16 + l18;
+                                                                                                                l11 = l13 + (l1 << 3);
+                                                                                                                const u32 t187 = load8(l11 - 56ull);
+                                                                                                                const u32 t188 = load8(l11 - 64ull);
+                                                                                                                const u32 t189 = load8(l11 - 48ull);
+                                                                                                                const u32 t190 = load8(l11 - 40ull);
+                                                                                                                const u32 t191 = load8(l11 - 32ull);
+                                                                                                                const u32 t192 = load8(l11 - 24ull);
+                                                                                                                const u32 t193 = load8(l11 - 16ull);
+                                                                                                                const u32 t194 = load8(l11 - 8ull);
+                                                                                                                if ((((((((t187 + t188) + t189) + t190) + t191) + t192) + t193) & 255u) | t194) goto L145;
+                                                                                                                l32 = l34 + l45;
+                                                                                                                l24 = (u64)(l39 - l32);
+                                                                                                                if (l34 > 24u) goto L144;
+                                                                                                                if (l34 != 8u) {
+                                                                                                                    l29 = l13 - 64ull;
+                                                                                                                    l11 = l29 + (l1 << 3);
+                                                                                                                    l1 = l29 + ((l16 + l24) << 3);
+                                                                                                                    L196:;
                                                                                                                     {
-                                                                                                                        core_slice_edits_slice_T_copy_from_slice(stack, l2, l13, 8ull);
-                                                                                                                        l13 = l13 - 64ull;
-                                                                                                                        l2 = l2 - 64ull;
-                                                                                                                        l12 = l12 - 8ull;
-                                                                                                                        if (l12 > 8ull) goto L197;
+                                                                                                                        core_slice_edits_slice_T_copy_from_slice(stack, l1, l11, 8ull);
+                                                                                                                        l11 = l11 - 64ull;
+                                                                                                                        l1 = l1 - 64ull;
+                                                                                                                        l16 = l16 - 8ull;
+                                                                                                                        if (l16 > 8ull) goto L196;
                                                                                                                     }
                                                                                                                 }
-                                                                                                                core_slice_edits_slice_T_copy_from_slice(stack, l16 + (l23 << 3), l16 + (l18 << 3), 8ull);
-                                                                                                                store32(l9 + 24ull, l37);
-                                                                                                                goto L142;
+                                                                                                                core_slice_edits_slice_T_copy_from_slice(stack, l13 + (l24 << 3), l13 + (l18 << 3), 8ull);
+                                                                                                                store32(l9 + 24ull, l32);
+                                                                                                                goto L141;
                                                                                                             }
-                                                                                                            store_item_copies_load_items_over_spare(stack, l11 + 16ull, l9, l31, l43 + l45);
-                                                                                                            const u32 t198 = load8(l11 + 16u);
-                                                                                                            if (t198 != 1u) goto L146;
-                                                                                                            const u32 t199 = load32(l11 + 20u);
-                                                                                                            l30 = t199;
-                                                                                                            goto L142;
+                                                                                                            store_item_copies_load_items_over_spare(stack, l10 + 16ull, l9, l37, l42 + l44);
+                                                                                                            const u32 t197 = load8(l10 + 16u);
+                                                                                                            if (t197 != 1u) goto L145;
+                                                                                                            const u32 t198 = load32(l10 + 20u);
+                                                                                                            l34 = t198;
+                                                                                                            goto L141;
                                                                                                         }
-                                                                                                        L155:;
-                                                                                                        if ((l31 & 255u) == 0) goto L144;
+                                                                                                        L154:;
+                                                                                                        if ((l37 & 255u) == 0) goto L143;
                                                                                                     }
-                                                                                                    L146:;
-                                                                                                    const u32 t200 = forms_work_Work_fill_body(stack, l9, l33, l38, l37);
-                                                                                                    l37 = t200;
-                                                                                                    store32(l11 + 76u, 0u);
-                                                                                                    store8(l11 + 73u, (u8)0u);
-                                                                                                    store8(l11 + 72u, (u8)l37);
-                                                                                                    goto L67;
+                                                                                                    L145:;
+                                                                                                    const u32 t199 = forms_work_Work_fill_body(stack, l9, l30, l38, l32);
+                                                                                                    l32 = t199;
+                                                                                                    store32(l10 + 76u, 0u);
+                                                                                                    store8(l10 + 73u, (u8)0u);
+                                                                                                    store8(l10 + 72u, (u8)l32);
+                                                                                                    goto L74;
                                                                                                 }
-                                                                                                L145:;
-                                                                                                space_copies_copy_long(stack, l16, l18, l2, l23);
-                                                                                                goto L143;
+                                                                                                L144:;
+                                                                                                space_copies_copy_long(stack, l13, l18, l1, l24);
+                                                                                                goto L142;
                                                                                             }
-                                                                                            L144:;
-                                                                                            l37 = l30 + l41;
-                                                                                            l13 = l16 + ((u64)(l39 - l37) << 3);
-                                                                                            l2 = l16 + (l18 << 3);
-                                                                                            const u32 t201 = load16(l2);
-                                                                                            store16(l13, (u16)t201);
-                                                                                            const u32 t202 = load32(l2 + 4ull);
-                                                                                            store32(l13 + 4ull, t202);
+                                                                                            L143:;
+                                                                                            l32 = l34 + l45;
+                                                                                            l11 = l13 + ((u64)(l39 - l32) << 3);
+                                                                                            l1 = l13 + (l18 << 3);
+                                                                                            const u32 t200 = load16(l1);
+                                                                                            store16(l11, (u16)t200);
+                                                                                            const u32 t201 = load32(l1 + 4ull);
+                                                                                            store32(l11 + 4ull, t201);
                                                                                         }
-                                                                                        L143:;
-                                                                                        store32(l9 + 24ull, l37);
+                                                                                        L142:;
+                                                                                        store32(l9 + 24ull, l32);
                                                                                     }
-                                                                                    L142:;
-                                                                                    store32(l11 + 76u, l30);
-                                                                                    store16(l11 + 72u, (u16)2u);
+                                                                                    L141:;
+                                                                                    store32(l10 + 76u, l34);
+                                                                                    store16(l10 + 72u, (u16)2u);
                                                                                 }
-                                                                                L67:;
-                                                                                const u32 t203 = load32(l11 + 76u);
-                                                                                l33 = t203;
+                                                                                L74:;
+                                                                                const u32 t202 = load32(l10 + 76u);
+                                                                                l30 = t202;
                                                                                 {
-                                                                                    const u64 t205 = load8(l11 + 72u);
-                                                                                    switch ((u32)t205 - 1u) {
-                                                                                    case 0: goto L65;
-                                                                                    case 1: goto L64;
-                                                                                    case 2: goto L64;
-                                                                                    case 3: goto L204;
+                                                                                    const u64 t204 = load8(l10 + 72u);
+                                                                                    switch ((u32)t204 - 1u) {
+                                                                                    case 0: goto L72;
+                                                                                    case 1: goto L71;
+                                                                                    case 2: goto L71;
+                                                                                    case 3: goto L203;
                                                                                     default: goto L27;
                                                                                     }
                                                                                 }
-                                                                                L204:;
-                                                                                const u32 t206 = load32(l9 + 24ull);
-                                                                                const u32 t207 = load32(l9 + 20ull);
-                                                                                const u32 t208 = load32(l9 + 16ull);
-                                                                                l40 = t206 + (t207 + t208);
-                                                                                l2 = l15 - l1;
-                                                                                l13 = l2 + l21;
-                                                                                const u32 t209 = load8(l11 + 73u);
-                                                                                l35 = t209;
-                                                                                l36 = 1u << (l35 & 31);
-                                                                                if (l36 & 3u) goto L66;
-                                                                                if (l36 & 12u) goto L26;
-                                                                                l44 = (l40 > l44) ? l40 : l44;
+                                                                                L203:;
+                                                                                const u32 t205 = load32(l9 + 24ull);
+                                                                                const u32 t206 = load32(l9 + 20ull);
+                                                                                const u32 t207 = load32(l9 + 16ull);
+                                                                                l41 = t205 + (t206 + t207);
+                                                                                l1 = l17 - l12;
+                                                                                l11 = l1 + l21;
+                                                                                const u32 t208 = load8(l10 + 73u);
+                                                                                l31 = t208;
+                                                                                l33 = 1u << (l31 & 31);
+                                                                                if (l33 & 3u) goto L73;
+                                                                                if (l33 & 12u) goto L26;
+                                                                                l35 = (l35 < l41) ? l41 : l35;
                                                                                 goto L26;
                                                                             }
-                                                                            L66:;
-                                                                            l44 = (l40 > l44) ? l40 : l44;
-                                                                            l13 = l13 + 1ull;
+                                                                            L73:;
+                                                                            l35 = (l35 < l41) ? l41 : l35;
+                                                                            l11 = l11 + 1ull;
                                                                             goto L26;
                                                                         }
-                                                                        L65:;
-                                                                        const u32 t210 = load32(l9 + 20ull);
-                                                                        l34 = t210;
-                                                                        core_delivery_deliver(stack, l9, l32, l42);
-                                                                        v28 = l34 + (l35 + l36); goto L28;
+                                                                        L72:;
+                                                                        const u32 t209 = load32(l9 + 20ull);
+                                                                        l36 = t209;
+                                                                        core_delivery_deliver(stack, l9, l40, l43);
+                                                                        v28 = l36 + (l31 + l33); goto L28;
                                                                     }
-                                                                    L64:;
-                                                                    const u64 t211 = load64(l9);
-                                                                    const u64 t212 = load32(l9 + 16ull);
-                                                                    l13 = t211 + (t212 << 3);
+                                                                    L71:;
+                                                                    const u64 t210 = load64(l9);
+                                                                    const u64 t211 = load32(l9 + 16ull);
+                                                                    l11 = t210 + (t211 << 3);
                                                                     {
                                                                         {
-                                                                            const u32 t215 = load32(l9 + 32ull);
-                                                                            l35 = t215;
-                                                                            l36 = l35 <= l32;
-                                                                            if (l36) goto L214;
-                                                                            if (l34 != l35) goto L214;
-                                                                            const u32 t216 = load32((l13 + ((u64)l32 << 3)) + 4ull);
-                                                                            l35 = t216;
-                                                                            l36 = l35 ? (l34 - l35) : 0u;
-                                                                            goto L213;
+                                                                            const u32 t214 = load32(l9 + 32ull);
+                                                                            l31 = t214;
+                                                                            l33 = l31 <= l40;
+                                                                            if (l33) goto L213;
+                                                                            if (l31 != l36) goto L213;
+                                                                            const u32 t215 = load32((l11 + ((u64)l40 << 3)) + 4ull);
+                                                                            l31 = t215;
+                                                                            l33 = l31 ? (l36 - l31) : 0u;
+                                                                            goto L212;
                                                                         }
-                                                                        L214:;
-                                                                        if (l36) {
-                                                                            l36 = l35;
-                                                                            goto L213;
+                                                                        L213:;
+                                                                        if (l33) {
+                                                                            l33 = l31;
+                                                                            goto L212;
                                                                         }
-                                                                        L218:;
+                                                                        L217:;
                                                                         {
-                                                                            const u32 t219 = load32((l13 + ((u64)(l35 - 1u) << 3)) + 4ull);
-                                                                            l36 = t219;
-                                                                            l35 = l35 - l36;
-                                                                            l36 = l36 ? l35 : 0u;
-                                                                            if (l36 > l32) goto L218;
+                                                                            const u32 t218 = load32((l11 + ((u64)(l31 - 1u) << 3)) + 4ull);
+                                                                            l33 = t218;
+                                                                            l31 = l31 - l33;
+                                                                            l33 = l33 ? l31 : 0u;
+                                                                            if (l33 > l40) goto L217;
                                                                         }
                                                                     }
-                                                                    L213:;
-                                                                    store32(l9 + 20ull, l32);
-                                                                    store32(l9 + 32ull, l36);
-                                                                    v28 = l33 + l40;
+                                                                    L212:;
+                                                                    store32(l9 + 20ull, l40);
+                                                                    store32(l9 + 32ull, l33);
+                                                                    v28 = l30 + l41;
                                                                 }
                                                                 L28:;
-                                                                l35 = v28;
-                                                                store32(l11 + 52u, 0u);
-                                                                const u32 t220 = load32(l9 + 20ull);
-                                                                l36 = t220;
-                                                                store32(l11 + 56u, l36);
-                                                                const u32 t221 = load32(l9 + 24ull);
-                                                                const u32 t222 = load32(l9 + 16ull);
-                                                                l32 = t221 + (l36 + t222);
-                                                                l44 = (l35 > l44) ? l35 : l44;
-                                                                v22 = l1 - 1ull; goto L22;
+                                                                l31 = v28;
+                                                                store32(l10 + 56u, 0u);
+                                                                const u32 t219 = load32(l9 + 20ull);
+                                                                l33 = t219;
+                                                                store32(l10 + 60u, l33);
+                                                                const u32 t220 = load32(l9 + 24ull);
+                                                                const u32 t221 = load32(l9 + 16ull);
+                                                                l40 = t220 + (l33 + t221);
+                                                                l35 = (l31 > l35) ? l31 : l35;
+                                                                v22 = l12 - 1ull; goto L22;
                                                             }
                                                             L27:;
-                                                            l2 = l15 - l1;
-                                                            l13 = l2 + l21;
-                                                            l35 = 2u;
+                                                            l1 = l17 - l12;
+                                                            l11 = l1 + l21;
+                                                            l31 = 2u;
                                                         }
                                                         L26:;
-                                                        const u32 t223 = load32(l9 + 20ull);
-                                                        l36 = t223;
-                                                        store8(l17 + 10u, (u8)0u);
-                                                        store16(l17 + 8u, (u16)0u);
-                                                        store64(l17, l2);
-                                                        const u32 t224 = load32(l11 + 60u);
-                                                        store32(l17 + 11u, t224);
-                                                        const u32 t225 = load8(l11 + 64u);
-                                                        store8(l17 + 15u, (u8)t225);
-                                                        store16(l17 + 38u, (u16)0u);
-                                                        store8(l17 + 37u, (u8)l35);
-                                                        store8(l17 + 36u, (u8)1u);
-                                                        store32(l17 + 32u, l44);
-                                                        store64(l17 + 24u, l13);
-                                                        store32(l17 + 20u, 0u);
-                                                        store32(l17 + 16u, l36);
+                                                        const u32 t222 = load32(l9 + 20ull);
+                                                        l33 = t222;
+                                                        store8(l15 + 10u, (u8)0u);
+                                                        store16(l15 + 8u, (u16)0u);
+                                                        store64(l15, l1);
+                                                        const u32 t223 = load32(l10 + 64u);
+                                                        store32(l15 + 11u, t223);
+                                                        const u32 t224 = load8(l10 + 68u);
+                                                        store8(l15 + 15u, (u8)t224);
+                                                        store16(l15 + 38u, (u16)0u);
+                                                        store8(l15 + 37u, (u8)l31);
+                                                        store8(l15 + 36u, (u8)1u);
+                                                        store32(l15 + 32u, l35);
+                                                        store64(l15 + 24u, l11);
+                                                        store32(l15 + 20u, 0u);
+                                                        store32(l15 + 16u, l33);
                                                         goto L12;
                                                     }
                                                     L25:;
-                                                    v24 = (u32)l2 + 1u;
+                                                    v24 = (u32)l1 + 1u;
                                                 }
                                                 L24:;
-                                                l34 = v24;
-                                                store32(l9 + 24ull, l36 - l34);
-                                                l13 = (u64)l34;
+                                                l36 = v24;
+                                                store32(l9 + 24ull, l33 - l36);
+                                                l11 = (u64)l36;
                                             }
                                             L23:;
-                                            l44 = (l32 > l44) ? l32 : l44;
-                                            v22 = l1 - l13;
+                                            l35 = (l35 < l40) ? l40 : l35;
+                                            v22 = l12 - l11;
                                         }
                                         L22:;
-                                        l1 = v22;
-                                        if (l1 != 0ull) goto L21;
+                                        l12 = v22;
+                                        if (l12 != 0ull) goto L21;
                                     }
-                                    const u32 t226 = load32(l11 + 56u);
-                                    l35 = t226;
+                                    const u32 t225 = load32(l10 + 60u);
+                                    l31 = t225;
                                 }
-                                store32(l17 + 36u, 0u);
-                                store32(l17 + 32u, l44);
-                                store32(l17 + 20u, 0u);
-                                store32(l17 + 16u, l35);
-                                store64(l17 + 8u, 0ull);
-                                store64(l17, l15);
-                                store64(l17 + 24u, l15 + l21);
+                                store32(l15 + 36u, 0u);
+                                store32(l15 + 32u, l35);
+                                store32(l15 + 20u, 0u);
+                                store32(l15 + 16u, l31);
+                                store64(l15 + 8u, 0ull);
+                                store64(l15, l17);
+                                store64(l15 + 24u, l17 + l21);
                                 goto L12;
                             }
+                            L13:;
                             trap();
                         }
                         L12:;
-                        stack = l11 + 144ull;
-                        const u64 t227 = load64(l10 + 232u);
-                        store64(l0, t227);
-                        const u32 t228 = load32(l10 + 240u);
-                        store32(l8, t228);
-                        const u32 t229 = load16(l10 + 244u);
-                        store16(l5, (u16)t229);
-                        const u32 t230 = load32(l10 + 224u);
+                        stack = l10 + 144ull;
+                        const u64 t226 = load64(l8 + 232u);
+                        store64(l0, t226);
+                        const u32 t227 = load32(l8 + 240u);
+                        store32(l2, t227);
+                        const u32 t228 = load8(l8 + 245u);
+                        store8(l9 + 85ull, (u8)t228);
+                        const u32 t229 = load8(l8 + 244u);
+                        l30 = t229;
+                        store8(l5, (u8)l30);
+                        const u32 t230 = load32(l8 + 224u);
                         store32(l14, t230);
-                        const u32 t231 = load8(l10 + 216u);
-                        l30 = t231 == 1u;
-                        const u64 t232 = load64(l10 + 208u);
-                        l8 = t232;
-                        const u32 t233 = load8(l10 + 217u);
-                        l33 = t233;
+                        const u32 t231 = load8(l8 + 216u);
+                        l31 = t231 == 1u;
+                        const u32 t232 = load8(l8 + 217u);
+                        l34 = t232;
+                        const u64 t233 = load64(l8 + 208u);
+                        l2 = t233;
                     }
                     l5 = 0ull;
-                    l4 = l4 + l8;
+                    l4 = l2 + l4;
                     if (l4 == l7) goto L3;
                     {
                         u64 v235;
                         {
-                            {
-                                if (l6) goto L236;
-                                if (l30 == 0) goto L234;
+                            if (l6 == 0) {
+                                if (l31 == 0) goto L234;
                                 {
+                                    l31 = l34 & 255u;
+                                    if ((l31 - 2u) < 23u) goto L237;
+                                    const u64 t238 = load64(l8 + 120u);
+                                    l2 = t238;
                                     {
-                                        {
-                                            {
-                                                {
-                                                    l32 = l33 & 255u;
-                                                    if ((l32 - 2u) < 23u) goto L241;
-                                                    const u64 t242 = load64(l10 + 120u);
-                                                    l15 = t242;
-                                                    if (l32 == 1u) goto L238;
-                                                    const u64 t243 = load64(l10 + 112u);
-                                                    l12 = t243;
-                                                    const u32 t244 = load8(l22);
-                                                    l31 = t244;
-                                                    if (l15 <= 3ull) {
-                                                        if (l15 == 0) goto L239;
-                                                        l30 = l31 & 255u;
-                                                        const u32 t246 = load8(l12);
-                                                        if (l30 == t246) goto L241;
-                                                        const u32 t247 = load8(l12 + (l15 >> 1));
-                                                        if (t247 == l30) goto L241;
-                                                        const u32 t248 = load8((l12 + l15) - 1ull);
-                                                        if (t248 == (l31 & 255u)) goto L241;
-                                                        goto L239;
-                                                    }
-                                                    if (l15 <= 8ull) {
-                                                        l30 = l31 & 255u;
-                                                        const u32 t250 = load8(l12);
-                                                        if (l30 == t250) goto L241;
-                                                        const u32 t251 = load8(l12 + 1ull);
-                                                        if (t251 == l30) goto L241;
-                                                        l30 = l31 & 255u;
-                                                        const u32 t252 = load8(l12 + 2ull);
-                                                        if (l30 == t252) goto L241;
-                                                        const u32 t253 = load8(l12 + 3ull);
-                                                        if (t253 == l30) goto L241;
-                                                        l30 = l31 & 255u;
-                                                        l8 = l12 + l15;
-                                                        const u32 t254 = load8(l8 - 4ull);
-                                                        if (l30 == t254) goto L241;
-                                                        const u32 t255 = load8(l8 - 3ull);
-                                                        if (t255 == l30) goto L241;
-                                                        l30 = l31 & 255u;
-                                                        const u32 t256 = load8(l8 - 2ull);
-                                                        if (l30 == t256) goto L241;
-                                                        const u32 t257 = load8(l8 - 1ull);
-                                                        if (t257 == l30) goto L241;
-                                                        goto L239;
-                                                    }
-                                                    if (l15 <= 32ull) {
-                                                        l30 = l31 & 255u;
-                                                        const u32 t259 = load8(l12);
-                                                        if (l30 == t259) goto L241;
-                                                        const u32 t260 = load8(l12 + 1ull);
-                                                        if (t260 == l30) goto L241;
-                                                        l30 = l31 & 255u;
-                                                        const u32 t261 = load8(l12 + 2ull);
-                                                        if (l30 == t261) goto L241;
-                                                        const u32 t262 = load8(l12 + 3ull);
-                                                        if (t262 == l30) goto L241;
-                                                        l30 = l31 & 255u;
-                                                        const u32 t263 = load8(l12 + 4ull);
-                                                        if (l30 == t263) goto L241;
-                                                        const u32 t264 = load8(l12 + 5ull);
-                                                        if (t264 == l30) goto L241;
-                                                        l30 = l31 & 255u;
-                                                        const u32 t265 = load8(l12 + 6ull);
-                                                        if (l30 == t265) goto L241;
-                                                        const u32 t266 = load8(l12 + 7ull);
-                                                        if (t266 == l30) goto L241;
-                                                        l30 = l31 & 255u;
-                                                        l0 = l15 - 8ull;
-                                                        l8 = l12 + ((l0 < 8ull) ? l0 : 8ull);
-                                                        const u32 t267 = load8(l8);
-                                                        if (l30 == t267) goto L241;
-                                                        const u32 t268 = load8(l8 + 1ull);
-                                                        if (t268 == l30) goto L241;
-                                                        l30 = l31 & 255u;
-                                                        const u32 t269 = load8(l8 + 2ull);
-                                                        if (l30 == t269) goto L241;
-                                                        const u32 t270 = load8(l8 + 3ull);
-                                                        if (t270 == l30) goto L241;
-                                                        l30 = l31 & 255u;
-                                                        const u32 t271 = load8(l8 + 4ull);
-                                                        if (l30 == t271) goto L241;
-                                                        const u32 t272 = load8(l8 + 5ull);
-                                                        if (t272 == l30) goto L241;
-                                                        l30 = l31 & 255u;
-                                                        const u32 t273 = load8(l8 + 6ull);
-                                                        if (l30 == t273) goto L241;
-                                                        const u32 t274 = load8(l8 + 7ull);
-                                                        if (t274 == l30) goto L241;
-                                                        l30 = l31 & 255u;
-                                                        l8 = l12 + ((l0 < 16ull) ? l0 : 16ull);
-                                                        const u32 t275 = load8(l8);
-                                                        if (l30 == t275) goto L241;
-                                                        const u32 t276 = load8(l8 + 1ull);
-                                                        if (t276 == l30) goto L241;
-                                                        l30 = l31 & 255u;
-                                                        const u32 t277 = load8(l8 + 2ull);
-                                                        if (l30 == t277) goto L241;
-                                                        const u32 t278 = load8(l8 + 3ull);
-                                                        if (t278 == l30) goto L241;
-                                                        l30 = l31 & 255u;
-                                                        const u32 t279 = load8(l8 + 4ull);
-                                                        if (l30 == t279) goto L241;
-                                                        const u32 t280 = load8(l8 + 5ull);
-                                                        if (t280 == l30) goto L241;
-                                                        l30 = l31 & 255u;
-                                                        const u32 t281 = load8(l8 + 6ull);
-                                                        if (l30 == t281) goto L241;
-                                                        const u32 t282 = load8(l8 + 7ull);
-                                                        if (t282 == l30) goto L241;
-                                                        l30 = l31 & 255u;
-                                                        l8 = l0 + l12;
-                                                        const u32 t283 = load8(l8);
-                                                        if (l30 == t283) goto L241;
-                                                        const u32 t284 = load8(l8 + 1ull);
-                                                        if (t284 == l30) goto L241;
-                                                        l30 = l31 & 255u;
-                                                        const u32 t285 = load8(l8 + 2ull);
-                                                        if (l30 == t285) goto L241;
-                                                        const u32 t286 = load8(l8 + 3ull);
-                                                        if (t286 == l30) goto L241;
-                                                        l30 = l31 & 255u;
-                                                        const u32 t287 = load8(l8 + 4ull);
-                                                        if (l30 == t287) goto L241;
-                                                        const u32 t288 = load8(l8 + 5ull);
-                                                        if (t288 == l30) goto L241;
-                                                        l30 = l31 & 255u;
-                                                        const u32 t289 = load8(l8 + 6ull);
-                                                        if (l30 == t289) goto L241;
-                                                        const u32 t290 = load8(l8 + 7ull);
-                                                        if (t290 == l30) goto L241;
-                                                        goto L239;
-                                                    }
-                                                    if (l15 > 64ull) goto L240;
-                                                    l30 = l31 & 255u;
-                                                    const u32 t291 = load8(l12);
-                                                    if (l30 == t291) goto L241;
-                                                    const u32 t292 = load8(l12 + 1ull);
-                                                    if (t292 == l30) goto L241;
-                                                    l30 = l31 & 255u;
-                                                    const u32 t293 = load8(l12 + 2ull);
-                                                    if (l30 == t293) goto L241;
-                                                    const u32 t294 = load8(l12 + 3ull);
-                                                    if (t294 == l30) goto L241;
-                                                    l30 = l31 & 255u;
-                                                    const u32 t295 = load8(l12 + 4ull);
-                                                    if (l30 == t295) goto L241;
-                                                    const u32 t296 = load8(l12 + 5ull);
-                                                    if (t296 == l30) goto L241;
-                                                    l30 = l31 & 255u;
-                                                    const u32 t297 = load8(l12 + 6ull);
-                                                    if (l30 == t297) goto L241;
-                                                    const u32 t298 = load8(l12 + 7ull);
-                                                    if (t298 == l30) goto L241;
-                                                    l30 = l31 & 255u;
-                                                    const u32 t299 = load8(l12 + 8ull);
-                                                    if (l30 == t299) goto L241;
-                                                    const u32 t300 = load8(l12 + 9ull);
-                                                    if (t300 == l30) goto L241;
-                                                    l30 = l31 & 255u;
-                                                    const u32 t301 = load8(l12 + 10ull);
-                                                    if (l30 == t301) goto L241;
-                                                    const u32 t302 = load8(l12 + 11ull);
-                                                    if (t302 == l30) goto L241;
-                                                    l30 = l31 & 255u;
-                                                    const u32 t303 = load8(l12 + 12ull);
-                                                    if (l30 == t303) goto L241;
-                                                    const u32 t304 = load8(l12 + 13ull);
-                                                    if (t304 == l30) goto L241;
-                                                    l30 = l31 & 255u;
-                                                    const u32 t305 = load8(l12 + 14ull);
-                                                    if (l30 == t305) goto L241;
-                                                    const u32 t306 = load8(l12 + 15ull);
-                                                    if (t306 == l30) goto L241;
-                                                    l30 = l31 & 255u;
-                                                    const u32 t307 = load8(l12 + 16ull);
-                                                    if (l30 == t307) goto L241;
-                                                    const u32 t308 = load8(l12 + 17ull);
-                                                    if (t308 == l30) goto L241;
-                                                    l30 = l31 & 255u;
-                                                    const u32 t309 = load8(l12 + 18ull);
-                                                    if (l30 == t309) goto L241;
-                                                    const u32 t310 = load8(l12 + 19ull);
-                                                    if (t310 == l30) goto L241;
-                                                    l30 = l31 & 255u;
-                                                    const u32 t311 = load8(l12 + 20ull);
-                                                    if (l30 == t311) goto L241;
-                                                    const u32 t312 = load8(l12 + 21ull);
-                                                    if (t312 == l30) goto L241;
-                                                    l30 = l31 & 255u;
-                                                    const u32 t313 = load8(l12 + 22ull);
-                                                    if (l30 == t313) goto L241;
-                                                    const u32 t314 = load8(l12 + 23ull);
-                                                    if (t314 == l30) goto L241;
-                                                    l30 = l31 & 255u;
-                                                    const u32 t315 = load8(l12 + 24ull);
-                                                    if (l30 == t315) goto L241;
-                                                    const u32 t316 = load8(l12 + 25ull);
-                                                    if (t316 == l30) goto L241;
-                                                    l30 = l31 & 255u;
-                                                    const u32 t317 = load8(l12 + 26ull);
-                                                    if (l30 == t317) goto L241;
-                                                    const u32 t318 = load8(l12 + 27ull);
-                                                    if (t318 == l30) goto L241;
-                                                    l30 = l31 & 255u;
-                                                    const u32 t319 = load8(l12 + 28ull);
-                                                    if (l30 == t319) goto L241;
-                                                    const u32 t320 = load8(l12 + 29ull);
-                                                    if (t320 == l30) goto L241;
-                                                    l30 = l31 & 255u;
-                                                    const u32 t321 = load8(l12 + 30ull);
-                                                    if (l30 == t321) goto L241;
-                                                    const u32 t322 = load8(l12 + 31ull);
-                                                    if (t322 == l30) goto L241;
-                                                    l30 = l31 & 255u;
-                                                    l8 = l12 + l15;
-                                                    const u32 t323 = load8(l8 - 32ull);
-                                                    if (l30 == t323) goto L241;
-                                                    const u32 t324 = load8(l8 - 31ull);
-                                                    if (t324 == l30) goto L241;
-                                                    l30 = l31 & 255u;
-                                                    const u32 t325 = load8(l8 - 30ull);
-                                                    if (l30 == t325) goto L241;
-                                                    const u32 t326 = load8(l8 - 29ull);
-                                                    if (t326 == l30) goto L241;
-                                                    l30 = l31 & 255u;
-                                                    const u32 t327 = load8(l8 - 28ull);
-                                                    if (l30 == t327) goto L241;
-                                                    const u32 t328 = load8(l8 - 27ull);
-                                                    if (t328 == l30) goto L241;
-                                                    l30 = l31 & 255u;
-                                                    const u32 t329 = load8(l8 - 26ull);
-                                                    if (l30 == t329) goto L241;
-                                                    const u32 t330 = load8(l8 - 25ull);
-                                                    if (t330 == l30) goto L241;
-                                                    l30 = l31 & 255u;
-                                                    const u32 t331 = load8(l8 - 24ull);
-                                                    if (l30 == t331) goto L241;
-                                                    const u32 t332 = load8(l8 - 23ull);
-                                                    if (t332 == l30) goto L241;
-                                                    l30 = l31 & 255u;
-                                                    const u32 t333 = load8(l8 - 22ull);
-                                                    if (l30 == t333) goto L241;
-                                                    const u32 t334 = load8(l8 - 21ull);
-                                                    if (t334 == l30) goto L241;
-                                                    l30 = l31 & 255u;
-                                                    const u32 t335 = load8(l8 - 20ull);
-                                                    if (l30 == t335) goto L241;
-                                                    const u32 t336 = load8(l8 - 19ull);
-                                                    if (t336 == l30) goto L241;
-                                                    l30 = l31 & 255u;
-                                                    const u32 t337 = load8(l8 - 18ull);
-                                                    if (l30 == t337) goto L241;
-                                                    const u32 t338 = load8(l8 - 17ull);
-                                                    if (t338 == l30) goto L241;
-                                                    l30 = l31 & 255u;
-                                                    const u32 t339 = load8(l8 - 16ull);
-                                                    if (l30 == t339) goto L241;
-                                                    const u32 t340 = load8(l8 - 15ull);
-                                                    if (t340 == l30) goto L241;
-                                                    l30 = l31 & 255u;
-                                                    const u32 t341 = load8(l8 - 14ull);
-                                                    if (l30 == t341) goto L241;
-                                                    const u32 t342 = load8(l8 - 13ull);
-                                                    if (t342 == l30) goto L241;
-                                                    l30 = l31 & 255u;
-                                                    const u32 t343 = load8(l8 - 12ull);
-                                                    if (l30 == t343) goto L241;
-                                                    const u32 t344 = load8(l8 - 11ull);
-                                                    if (t344 == l30) goto L241;
-                                                    l30 = l31 & 255u;
-                                                    const u32 t345 = load8(l8 - 10ull);
-                                                    if (l30 == t345) goto L241;
-                                                    const u32 t346 = load8(l8 - 9ull);
-                                                    if (t346 == l30) goto L241;
-                                                    l30 = l31 & 255u;
-                                                    const u32 t347 = load8(l8 - 8ull);
-                                                    if (l30 == t347) goto L241;
-                                                    const u32 t348 = load8(l8 - 7ull);
-                                                    if (t348 == l30) goto L241;
-                                                    l30 = l31 & 255u;
-                                                    const u32 t349 = load8(l8 - 6ull);
-                                                    if (l30 == t349) goto L241;
-                                                    const u32 t350 = load8(l8 - 5ull);
-                                                    if (t350 == l30) goto L241;
-                                                    l30 = l31 & 255u;
-                                                    const u32 t351 = load8(l8 - 4ull);
-                                                    if (l30 == t351) goto L241;
-                                                    const u32 t352 = load8(l8 - 3ull);
-                                                    if (t352 == l30) goto L241;
-                                                    l30 = l31 & 255u;
-                                                    const u32 t353 = load8(l8 - 2ull);
-                                                    if (l30 == t353) goto L241;
-                                                    const u32 t354 = load8(l8 - 1ull);
-                                                    if (t354 != l30) goto L239;
-                                                }
-                                                L241:;
-                                                const u64 t355 = load64(l10 + 80u);
-                                                const u64 t356 = load64(l10 + 88u);
-                                                v235 = t355 - t356; goto L235;
-                                            }
-                                            L240:;
-                                            l1 = l15 & 18446744073709551552ull;
-                                            l2 = 0ull;
-                                            l14 = l12;
-                                            {
-                                                L358:;
-                                                {
-                                                    l38 = 0u;
-                                                    l0 = 0ull;
-                                                    L359:;
-                                                    {
-                                                        l32 = l31 & 255u;
-                                                        l8 = l0 + l14;
-                                                        const u32 t360 = load8(l8);
-                                                        const u32 t361 = load8(l8 + 1ull);
-                                                        const u32 t362 = load8(l8 + 2ull);
-                                                        const u32 t363 = load8(l8 + 3ull);
-                                                        l38 = (((l38 | (l32 == t360)) | (t361 == l32)) | (t362 == l32)) | (t363 == l32);
-                                                        l0 = l0 + 4ull;
-                                                        if (l0 != 64ull) goto L359;
-                                                    }
-                                                    if (l38 & 1u) goto L357;
-                                                    l14 = l14 + 64ull;
-                                                    l2 = l2 + 64ull;
-                                                    if ((l15 - l2) > 63ull) goto L358;
-                                                }
-                                                l2 = l1;
-                                            }
-                                            L357:;
-                                            {
-                                                l0 = l15 - l2;
-                                                if (l0 < 32ull) goto L364;
-                                                l8 = l2 + l12;
-                                                L365:;
-                                                {
-                                                    {
-                                                        l32 = l31 & 255u;
-                                                        const u32 t367 = load8(l8);
-                                                        if (l32 == t367) goto L366;
-                                                        const u32 t368 = load8(l8 + 1ull);
-                                                        if (t368 == l32) goto L366;
-                                                        l32 = l31 & 255u;
-                                                        const u32 t369 = load8(l8 + 2ull);
-                                                        if (l32 == t369) goto L366;
-                                                        const u32 t370 = load8(l8 + 3ull);
-                                                        if (t370 == l32) goto L366;
-                                                        l32 = l31 & 255u;
-                                                        const u32 t371 = load8(l8 + 4ull);
-                                                        if (l32 == t371) goto L366;
-                                                        const u32 t372 = load8(l8 + 5ull);
-                                                        if (t372 == l32) goto L366;
-                                                        l32 = l31 & 255u;
-                                                        const u32 t373 = load8(l8 + 6ull);
-                                                        if (l32 == t373) goto L366;
-                                                        const u32 t374 = load8(l8 + 7ull);
-                                                        if (t374 == l32) goto L366;
-                                                        l32 = l31 & 255u;
-                                                        const u32 t375 = load8(l8 + 8ull);
-                                                        if (l32 == t375) goto L366;
-                                                        const u32 t376 = load8(l8 + 9ull);
-                                                        if (t376 == l32) goto L366;
-                                                        l32 = l31 & 255u;
-                                                        const u32 t377 = load8(l8 + 10ull);
-                                                        if (l32 == t377) goto L366;
-                                                        const u32 t378 = load8(l8 + 11ull);
-                                                        if (t378 == l32) goto L366;
-                                                        l32 = l31 & 255u;
-                                                        const u32 t379 = load8(l8 + 12ull);
-                                                        if (l32 == t379) goto L366;
-                                                        const u32 t380 = load8(l8 + 13ull);
-                                                        if (t380 == l32) goto L366;
-                                                        l32 = l31 & 255u;
-                                                        const u32 t381 = load8(l8 + 14ull);
-                                                        if (l32 == t381) goto L366;
-                                                        const u32 t382 = load8(l8 + 15ull);
-                                                        if (t382 == l32) goto L366;
-                                                        l32 = l31 & 255u;
-                                                        const u32 t383 = load8(l8 + 16ull);
-                                                        if (l32 == t383) goto L366;
-                                                        const u32 t384 = load8(l8 + 17ull);
-                                                        if (t384 == l32) goto L366;
-                                                        l32 = l31 & 255u;
-                                                        const u32 t385 = load8(l8 + 18ull);
-                                                        if (l32 == t385) goto L366;
-                                                        const u32 t386 = load8(l8 + 19ull);
-                                                        if (t386 == l32) goto L366;
-                                                        l32 = l31 & 255u;
-                                                        const u32 t387 = load8(l8 + 20ull);
-                                                        if (l32 == t387) goto L366;
-                                                        const u32 t388 = load8(l8 + 21ull);
-                                                        if (t388 == l32) goto L366;
-                                                        l32 = l31 & 255u;
-                                                        const u32 t389 = load8(l8 + 22ull);
-                                                        if (l32 == t389) goto L366;
-                                                        const u32 t390 = load8(l8 + 23ull);
-                                                        if (t390 == l32) goto L366;
-                                                        l32 = l31 & 255u;
-                                                        const u32 t391 = load8(l8 + 24ull);
-                                                        if (l32 == t391) goto L366;
-                                                        const u32 t392 = load8(l8 + 25ull);
-                                                        if (t392 == l32) goto L366;
-                                                        l32 = l31 & 255u;
-                                                        const u32 t393 = load8(l8 + 26ull);
-                                                        if (l32 == t393) goto L366;
-                                                        const u32 t394 = load8(l8 + 27ull);
-                                                        if (t394 == l32) goto L366;
-                                                        l32 = l31 & 255u;
-                                                        const u32 t395 = load8(l8 + 28ull);
-                                                        if (l32 == t395) goto L366;
-                                                        const u32 t396 = load8(l8 + 29ull);
-                                                        if (t396 == l32) goto L366;
-                                                        l32 = l31 & 255u;
-                                                        const u32 t397 = load8(l8 + 30ull);
-                                                        if (l32 == t397) goto L366;
-                                                        const u32 t398 = load8(l8 + 31ull);
-                                                        if (t398 == l32) goto L366;
-                                                        l8 = l8 + 32ull;
-                                                        l0 = l0 - 32ull;
-                                                        if (l0 > 31ull) goto L365;
-                                                        goto L364;
-                                                    }
-                                                    L366:;
-                                                }
-                                                if (l0 > 31ull) goto L236;
-                                            }
-                                            L364:;
-                                            l32 = l31 & 255u;
-                                            l8 = l12 + l15;
-                                            const u32 t399 = load8(l8 - 32ull);
-                                            if (l32 == t399) goto L236;
-                                            const u32 t400 = load8(l8 - 31ull);
-                                            if (t400 == l32) goto L236;
-                                            l32 = l31 & 255u;
-                                            const u32 t401 = load8(l8 - 30ull);
-                                            if (l32 == t401) goto L236;
-                                            const u32 t402 = load8(l8 - 29ull);
-                                            if (t402 == l32) goto L236;
-                                            l32 = l31 & 255u;
-                                            const u32 t403 = load8(l8 - 28ull);
-                                            if (l32 == t403) goto L236;
-                                            const u32 t404 = load8(l8 - 27ull);
-                                            if (t404 == l32) goto L236;
-                                            l32 = l31 & 255u;
-                                            const u32 t405 = load8(l8 - 26ull);
-                                            if (l32 == t405) goto L236;
-                                            const u32 t406 = load8(l8 - 25ull);
-                                            if (t406 == l32) goto L236;
-                                            l32 = l31 & 255u;
-                                            const u32 t407 = load8(l8 - 24ull);
-                                            if (l32 == t407) goto L236;
-                                            const u32 t408 = load8(l8 - 23ull);
-                                            if (t408 == l32) goto L236;
-                                            l32 = l31 & 255u;
-                                            const u32 t409 = load8(l8 - 22ull);
-                                            if (l32 == t409) goto L236;
-                                            const u32 t410 = load8(l8 - 21ull);
-                                            if (t410 == l32) goto L236;
-                                            l32 = l31 & 255u;
-                                            const u32 t411 = load8(l8 - 20ull);
-                                            if (l32 == t411) goto L236;
-                                            const u32 t412 = load8(l8 - 19ull);
-                                            if (t412 == l32) goto L236;
-                                            l32 = l31 & 255u;
-                                            const u32 t413 = load8(l8 - 18ull);
-                                            if (l32 == t413) goto L236;
-                                            const u32 t414 = load8(l8 - 17ull);
-                                            if (t414 == l32) goto L236;
-                                            l32 = l31 & 255u;
-                                            const u32 t415 = load8(l8 - 16ull);
-                                            if (l32 == t415) goto L236;
-                                            const u32 t416 = load8(l8 - 15ull);
-                                            if (t416 == l32) goto L236;
-                                            l32 = l31 & 255u;
-                                            const u32 t417 = load8(l8 - 14ull);
-                                            if (l32 == t417) goto L236;
-                                            const u32 t418 = load8(l8 - 13ull);
-                                            if (t418 == l32) goto L236;
-                                            l32 = l31 & 255u;
-                                            const u32 t419 = load8(l8 - 12ull);
-                                            if (l32 == t419) goto L236;
-                                            const u32 t420 = load8(l8 - 11ull);
-                                            if (t420 == l32) goto L236;
-                                            l32 = l31 & 255u;
-                                            const u32 t421 = load8(l8 - 10ull);
-                                            if (l32 == t421) goto L236;
-                                            const u32 t422 = load8(l8 - 9ull);
-                                            if (t422 == l32) goto L236;
-                                            l32 = l31 & 255u;
-                                            const u32 t423 = load8(l8 - 8ull);
-                                            if (l32 == t423) goto L236;
-                                            const u32 t424 = load8(l8 - 7ull);
-                                            if (t424 == l32) goto L236;
-                                            l32 = l31 & 255u;
-                                            const u32 t425 = load8(l8 - 6ull);
-                                            if (l32 == t425) goto L236;
-                                            const u32 t426 = load8(l8 - 5ull);
-                                            if (t426 == l32) goto L236;
-                                            l32 = l31 & 255u;
-                                            const u32 t427 = load8(l8 - 4ull);
-                                            if (l32 == t427) goto L236;
-                                            const u32 t428 = load8(l8 - 3ull);
-                                            if (t428 == l32) goto L236;
-                                            l32 = l31 & 255u;
-                                            const u32 t429 = load8(l8 - 2ull);
-                                            if (l32 == t429) goto L236;
-                                            const u32 t430 = load8(l8 - 1ull);
-                                            if (t430 == l32) goto L236;
+                                        if (l31 != 1u) {
+                                            const u64 t241 = load64(l8 + 112u);
+                                            l0 = t241;
+                                            const u32 t242 = load8(l23);
+                                            store8(l8 + 208u, (u8)t242);
+                                            l14 = l2 - 64ull;
+                                            l14 = (l2 < l14) ? 0ull : l14;
+                                            const u32 t243 = core_slice_reads_slice_T_contains(stack, l0 + l14, l2 - l14, l8 + 208ull);
+                                            if (t243) goto L237;
+                                            const u32 t244 = core_slice_reads_slice_T_contains(stack, l0, l14, l8 + 208ull);
+                                            if (t244) goto L237;
+                                            const u32 t245 = load32(l9 + 24ull);
+                                            const u32 t246 = load32(l9 + 20ull);
+                                            const u32 t247 = load32(l9 + 16ull);
+                                            const u64 t248 = load32(l9 + 8ull);
+                                            if ((l2 + (u64)((t245 + (t246 + t247)))) > (t248 + 1ull)) goto L239;
+                                            l46 = 7u;
+                                            goto L3;
                                         }
-                                        L239:;
-                                        const u32 t431 = load32(l9 + 24ull);
-                                        const u32 t432 = load32(l9 + 20ull);
-                                        const u32 t433 = load32(l9 + 16ull);
-                                        const u64 t434 = load32(l9 + 8ull);
-                                        if ((l15 + (u64)((t431 + (t432 + t433)))) > (t434 + 1ull)) goto L237;
+                                        if ((l2 == 0) == 0) goto L239;
                                         l46 = 7u;
                                         goto L3;
                                     }
-                                    L238:;
-                                    if ((l15 == 0) == 0) goto L237;
-                                    l46 = 7u;
-                                    goto L3;
+                                    L239:;
+                                    const u64 t249 = load64(l8 + 80u);
+                                    const u64 t250 = load64(l8 + 88u);
+                                    v235 = t249 - t250; goto L235;
                                 }
                                 L237:;
-                                const u64 t435 = load64(l10 + 80u);
-                                const u64 t436 = load64(l10 + 88u);
-                                v235 = t435 - t436; goto L235;
+                                const u64 t251 = load64(l8 + 80u);
+                                const u64 t252 = load64(l8 + 88u);
+                                v235 = t251 - t252; goto L235;
                             }
-                            L236:;
-                            if (l30 == 0) goto L234;
-                            const u64 t437 = load64(l10 + 80u);
-                            const u64 t438 = load64(l10 + 88u);
-                            v235 = t437 - t438;
+                            if (l31 == 0) goto L234;
+                            const u64 t253 = load64(l8 + 80u);
+                            const u64 t254 = load64(l8 + 88u);
+                            v235 = t253 - t254;
                         }
                         L235:;
-                        l8 = v235;
-                        if ((1u << (l33 & 31)) & 33553399u) goto L234;
-                        const u32 t439 = load32(l9 + 24ull);
-                        l30 = t439;
-                        if (l30 == 0) goto L234;
-                        const u64 t440 = load64(l9);
-                        l0 = t440;
-                        const u32 t441 = load32(l9 + 28ull);
-                        const u32 t442 = load8((l0 + ((u64)(t441 - l30) << 3)) + 1ull);
-                        if (t442 != 41u) goto L234;
-                        const u32 t443 = load32(l9 + 32ull);
-                        l30 = t443;
-                        if (l30 == 0) goto L234;
-                        const u32 t444 = load32(l9 + 60ull);
-                        l32 = t444;
-                        const u32 t445 = load32(l9 + 20ull);
-                        l38 = t445;
-                        if (((l33 & 255u) != 10u) & ((u64)l38 <= l8)) goto L234;
-                        l33 = 0u;
-                        store8(l10 + 160u, (u8)0u);
-                        store64(l10 + 152u, 0ull);
-                        store64(l10 + 144u, 0ull);
-                        store32(l10 + 216u, l32);
-                        store32(l10 + 212u, l38);
-                        store32(l10 + 208u, l30);
-                        store32(l10 + 220u, 0u);
-                        functions_arguments_Arguments_next(stack, l10 + 64ull, l10 + 208ull, l9);
-                        const u32 t446 = load32(l9 + 16ull);
-                        l30 = t446;
-                        const u32 t447 = load32(l10 + 68u);
-                        l32 = t447;
-                        const u32 t448 = load32(l10 + 64u);
-                        l38 = t448;
-                        store8(l10 + 170u, (u8)0u);
-                        store16(l10 + 168u, (u16)0u);
+                        l2 = v235;
+                        if ((1u << (l34 & 31)) & 33553399u) goto L234;
+                        const u32 t255 = load32(l9 + 24ull);
+                        l31 = t255;
+                        if (l31 == 0) goto L234;
+                        const u64 t256 = load64(l9);
+                        l0 = t256;
+                        const u32 t257 = load32(l9 + 28ull);
+                        const u32 t258 = load8((l0 + ((u64)(t257 - l31) << 3)) + 1ull);
+                        if (t258 != 41u) goto L234;
+                        const u32 t259 = load32(l9 + 32ull);
+                        l31 = t259;
+                        if (l31 == 0) goto L234;
+                        const u32 t260 = load32(l9 + 60ull);
+                        l35 = t260;
+                        const u32 t261 = load32(l9 + 20ull);
+                        l38 = t261;
+                        if (((l34 & 255u) != 10u) & ((u64)l38 <= l2)) goto L234;
+                        l30 = 0u;
+                        store8(l8 + 160u, (u8)0u);
+                        store64(l8 + 152u, 0ull);
+                        store64(l8 + 144u, 0ull);
+                        store32(l8 + 216u, l35);
+                        store32(l8 + 212u, l38);
+                        store32(l8 + 208u, l31);
+                        store32(l8 + 220u, 0u);
+                        functions_arguments_Arguments_next(stack, l8 + 64ull, l8 + 208ull, l9);
+                        const u32 t262 = load32(l9 + 16ull);
+                        l31 = t262;
+                        const u32 t263 = load32(l8 + 68u);
+                        l34 = t263;
+                        const u32 t264 = load32(l8 + 64u);
+                        l35 = t264;
+                        store8(l8 + 170u, (u8)0u);
+                        store16(l8 + 168u, (u16)0u);
                         {
-                            l14 = (u64)(l30 + l38);
-                            if (((u64)(l30 + l32) - l14) == 2ull) {
+                            l14 = (u64)(l31 + l35);
+                            if (((u64)(l31 + l34) - l14) == 2ull) {
                                 l14 = l0 + (l14 << 3);
-                                functions_function_function_of(stack, l10 + 168ull, l14, l14 + 8ull);
-                                const u32 t451 = load8(l10 + 169u);
-                                l38 = t451;
-                                const u32 t452 = load8(l10 + 168u);
-                                l32 = t452;
-                                const u64 t453 = load64(l10 + 216u);
-                                store64(l19 + 8u, t453);
-                                const u64 t454 = load64(l10 + 208u);
-                                store64(l19, t454);
-                                const u64 t455 = load64(l19);
-                                store64(l10 + 248u, t455);
-                                const u64 t456 = load64(l19 + 8u);
-                                store64(l10 + 256u, t456);
-                                functions_arguments_Arguments_next(stack, l10 + 48ull, l10 + 248ull, l9);
-                                if (l32 == 0) goto L449;
-                                const u32 t457 = load32(l10 + 52u);
-                                l32 = t457;
-                                const u32 t458 = load32(l10 + 48u);
-                                l31 = t458;
-                                if ((1u << (l38 & 31)) & 33553399u) goto L449;
-                                if (l38 == 3u) {
-                                    l33 = l32 - l31;
-                                    goto L449;
+                                functions_function_function_of(stack, l8 + 168ull, l14, l14 + 8ull);
+                                const u32 t267 = load8(l8 + 169u);
+                                l35 = t267;
+                                const u32 t268 = load8(l8 + 168u);
+                                l34 = t268;
+                                const u64 t269 = load64(l8 + 216u);
+                                store64(l19 + 8u, t269);
+                                const u64 t270 = load64(l8 + 208u);
+                                store64(l19, t270);
+                                const u64 t271 = load64(l19);
+                                store64(l8 + 248u, t271);
+                                const u64 t272 = load64(l19 + 8u);
+                                store64(l8 + 256u, t272);
+                                functions_arguments_Arguments_next(stack, l8 + 48ull, l8 + 248ull, l9);
+                                if (l34 == 0) goto L265;
+                                const u32 t273 = load32(l8 + 52u);
+                                l34 = t273;
+                                const u32 t274 = load32(l8 + 48u);
+                                l38 = t274;
+                                if ((1u << (l35 & 31)) & 33553399u) goto L265;
+                                if (l35 == 3u) {
+                                    l30 = l34 - l38;
+                                    goto L265;
                                 }
-                                store64(l10 + 200u, 0ull);
-                                store64(l10 + 192u, 0ull);
-                                store64(l10 + 184u, 0ull);
-                                store64(l10 + 176u, 0ull);
-                                store64(l10 + 168u, 0ull);
+                                store64(l8 + 200u, 0ull);
+                                store64(l8 + 192u, 0ull);
+                                store64(l8 + 184u, 0ull);
+                                store64(l8 + 176u, 0ull);
+                                store64(l8 + 168u, 0ull);
                                 {
                                     {
-                                        u32 v462;
+                                        u32 v278;
                                         {
-                                            const u32 t463 = load32(l9 + 40ull);
-                                            l33 = t463;
-                                            if (l33 >= 8u) {
-                                                forms_work_Work_find_among_more(stack, l10 + 32ull, l9, l31, l32);
-                                                const u32 t465 = load32(l10 + 36u);
-                                                l33 = t465;
-                                                const u32 t466 = load8(l10 + 32u);
-                                                v462 = t466; goto L462;
+                                            const u32 t279 = load32(l9 + 40ull);
+                                            l30 = t279;
+                                            if (l30 >= 8u) {
+                                                forms_work_Work_find_among_more(stack, l8 + 32ull, l9, l38, l34);
+                                                const u32 t281 = load8(l8 + 32u);
+                                                l31 = t281;
+                                                const u32 t282 = load32(l8 + 36u);
+                                                v278 = t282; goto L278;
                                             }
                                             {
-                                                if (l33 == 0) goto L467;
-                                                const u64 t468 = load32(l0 + 4ull);
-                                                l15 = (u64)(l30 + l32);
-                                                l14 = (u64)(l30 + l31);
-                                                if (t468 != (l15 - l14)) goto L467;
-                                                l2 = 17ull - (l14 << 3);
-                                                l14 = (l15 ^ 18446744073709551615ull) + l14;
-                                                l0 = l0 + (l15 << 3);
-                                                L469:;
+                                                if (l30 == 0) goto L283;
+                                                const u64 t284 = load32(l0 + 4ull);
+                                                l1 = (u64)(l31 + l34);
+                                                l14 = (u64)(l31 + l38);
+                                                if (t284 != (l1 - l14)) goto L283;
+                                                l10 = 17ull - (l14 << 3);
+                                                l14 = (l1 ^ 18446744073709551615ull) + l14;
+                                                l0 = l0 + (l1 << 3);
+                                                L285:;
                                                 {
                                                     l14 = l14 + 1ull;
-                                                    if (l14 == 0) goto L461;
-                                                    l15 = l0 - 7ull;
-                                                    l12 = l0 + l2;
+                                                    if (l14 == 0) goto L277;
+                                                    l1 = l0 - 7ull;
+                                                    l12 = l0 + l10;
                                                     l0 = l0 - 8ull;
-                                                    const u32 t470 = load8(l12);
-                                                    const u32 t471 = load8(l15);
-                                                    if (t470 == t471) goto L469;
+                                                    const u32 t286 = load8(l12);
+                                                    const u32 t287 = load8(l1);
+                                                    if (t286 == t287) goto L285;
                                                 }
                                             }
-                                            L467:;
-                                            forms_work_Work_find_among_few(stack, l10 + 40ull, l9, l31, l32);
-                                            const u32 t472 = load32(l10 + 44u);
-                                            l33 = t472;
-                                            const u32 t473 = load8(l10 + 40u);
-                                            v462 = t473;
+                                            L283:;
+                                            forms_work_Work_find_among_few(stack, l8 + 40ull, l9, l38, l34);
+                                            const u32 t288 = load8(l8 + 40u);
+                                            l31 = t288;
+                                            const u32 t289 = load32(l8 + 44u);
+                                            v278 = t289;
                                         }
-                                        L462:;
-                                        if ((v462 & 255u) == 1u) goto L460;
-                                        l33 = 0u;
-                                        goto L449;
+                                        L278:;
+                                        l30 = v278;
+                                        if ((l31 & 255u) == 1u) goto L276;
+                                        l30 = 0u;
+                                        goto L265;
                                     }
-                                    L461:;
+                                    L277:;
                                     store64(l9 + 44ull, 0ull);
-                                    l33 = 0u;
+                                    l30 = 0u;
                                 }
-                                L460:;
-                                forms_work_Work_stored(stack, l10 + 168ull, l9, l33);
-                                const u64 t474 = load64(l10 + 192u);
-                                l15 = t474;
-                                l12 = l15 & 4294967295ull;
+                                L276:;
+                                forms_work_Work_stored(stack, l8 + 168ull, l9, l30);
+                                const u64 t290 = load64(l8 + 192u);
+                                l1 = t290;
+                                l12 = l1 & 4294967295ull;
                                 if (l12 == 0) {
-                                    l33 = 3u;
-                                    goto L449;
+                                    l30 = 3u;
+                                    goto L265;
                                 }
-                                const u64 t476 = load64(l10 + 184u);
-                                l14 = t476;
-                                l33 = 3u;
+                                const u64 t292 = load64(l8 + 184u);
+                                l14 = t292;
+                                l30 = 3u;
                                 l0 = 0ull;
-                                L477:;
+                                L293:;
                                 {
-                                    u32 v478;
+                                    u32 v294;
                                     {
                                         {
                                             {
                                                 {
-                                                    if (l0 < l15) {
-                                                        l2 = 0ull;
-                                                        const u64 t483 = load8(l14);
-                                                        switch ((u32)t483 - 1u) {
-                                                        case 0: goto L479;
-                                                        case 1: goto L479;
-                                                        case 2: goto L480;
-                                                        case 3: goto L479;
-                                                        default: goto L481;
+                                                    if (l0 < l1) {
+                                                        l10 = 0ull;
+                                                        const u64 t299 = load8(l14);
+                                                        switch ((u32)t299 - 1u) {
+                                                        case 0: goto L295;
+                                                        case 1: goto L295;
+                                                        case 2: goto L296;
+                                                        case 3: goto L295;
+                                                        default: goto L297;
                                                         }
                                                     }
-                                                    v478 = 0u; goto L478;
+                                                    v294 = 0u; goto L294;
                                                 }
-                                                L481:;
-                                                v478 = 1u; goto L478;
+                                                L297:;
+                                                v294 = 1u; goto L294;
                                             }
-                                            L480:;
-                                            const u64 t484 = load32(l14 + 4ull);
-                                            l2 = t484;
+                                            L296:;
+                                            const u64 t300 = load32(l14 + 4ull);
+                                            l10 = t300;
                                         }
-                                        L479:;
-                                        const u64 t485 = itoa_integer_write_unsigned(stack, l2, l10 + 208ull);
-                                        v478 = 42u - (u32)t485;
+                                        L295:;
+                                        const u64 t301 = itoa_integer_write_unsigned(stack, l10, l8 + 208ull);
+                                        v294 = 42u - (u32)t301;
                                     }
-                                    L478:;
-                                    l30 = v478;
+                                    L294:;
+                                    l31 = v294;
                                     l14 = l14 + 8ull;
-                                    l33 = l30 + l33;
+                                    l30 = l30 + l31;
                                     l0 = l0 + 1ull;
-                                    if (l12 != l0) goto L477;
+                                    if (l12 != l0) goto L293;
                                 }
-                                goto L449;
+                                goto L265;
                             }
-                            const u64 t486 = load64(l10 + 216u);
-                            store64(l19 + 8u, t486);
-                            const u64 t487 = load64(l10 + 208u);
-                            store64(l19, t487);
-                            const u64 t488 = load64(l19);
-                            store64(l10 + 248u, t488);
-                            const u64 t489 = load64(l19 + 8u);
-                            store64(l10 + 256u, t489);
-                            functions_arguments_Arguments_next(stack, l10 + 56ull, l10 + 248ull, l9);
+                            const u64 t302 = load64(l8 + 216u);
+                            store64(l19 + 8u, t302);
+                            const u64 t303 = load64(l8 + 208u);
+                            store64(l19, t303);
+                            const u64 t304 = load64(l19);
+                            store64(l8 + 248u, t304);
+                            const u64 t305 = load64(l19 + 8u);
+                            store64(l8 + 256u, t305);
+                            functions_arguments_Arguments_next(stack, l8 + 56ull, l8 + 248ull, l9);
                         }
-                        L449:;
-                        l0 = (u64)l33;
-                        if (l8 >= l0) goto L234;
-                        l46 = 8u;
-                        l5 = l0;
-                        goto L3;
+                        L265:;
+                        l0 = (u64)l30;
+                        if (l0 > l2) {
+                            l46 = 8u;
+                            l5 = l0;
+                            goto L3;
+                        }
+                        const u32 t307 = load8(l9 + 84ull);
+                        l30 = t307;
                     }
                     L234:;
-                    l30 = 1u;
+                    l31 = 1u;
                     {
-                        const u32 t491 = load8(l9 + 84ull);
-                        if (t491 == 1u) {
-                            const u32 t493 = load8(l9 + 85ull);
-                            l33 = t493;
-                            goto L490;
+                        if ((l30 & 255u) == 1u) {
+                            const u32 t310 = load8(l9 + 85ull);
+                            l30 = t310;
+                            goto L308;
                         }
-                        const u64 t494 = load64(l9 + 72ull);
-                        l8 = t494;
-                        const u64 t495 = load64(l9 + 64ull);
-                        if (l8 == t495) {
+                        const u64 t311 = load64(l9 + 72ull);
+                        l2 = t311;
+                        const u64 t312 = load64(l9 + 64ull);
+                        if (l2 == t312) {
                             store16(l9 + 84ull, (u16)769u);
-                            l33 = 3u;
-                            goto L490;
+                            l30 = 3u;
+                            goto L308;
                         }
-                        const u32 t497 = load32(l9 + 16ull);
-                        l38 = t497;
+                        const u32 t314 = load32(l9 + 16ull);
+                        l35 = t314;
                         l0 = l9 + 20ull;
                         {
                             {
                                 {
                                     {
-                                        u32 v502;
+                                        u32 v319;
                                         {
                                             {
                                                 {
@@ -22697,400 +22542,400 @@ static void engine_turn(u64 stack, u64 l0, u64 l1, u64 l2, u64 l3, u64 l4, u64 l
                                                                         {
                                                                             {
                                                                                 {
-                                                                                    const u32 t513 = load32(l9 + 24ull);
-                                                                                    l30 = t513;
-                                                                                    if (l30) {
-                                                                                        const u32 t515 = load32(l0);
-                                                                                        l45 = t515;
-                                                                                        l31 = l45 + l38;
-                                                                                        const u32 t516 = load32(l9 + 60ull);
-                                                                                        l42 = t516;
-                                                                                        const u64 t517 = load64(l9);
-                                                                                        l0 = t517;
-                                                                                        const u32 t518 = load32(l9 + 28ull);
-                                                                                        const u32 t519 = load8((l0 + ((u64)(t518 - l30) << 3)) + 1ull);
-                                                                                        l33 = t519;
-                                                                                        if (l33 == 41u) {
-                                                                                            const u32 t521 = load32(l9 + 32ull);
-                                                                                            l35 = t521;
-                                                                                            if (l35) goto L512;
-                                                                                            store32(l9 + 24ull, l30 - 1u);
-                                                                                            goto L509;
+                                                                                    const u32 t330 = load32(l9 + 24ull);
+                                                                                    l31 = t330;
+                                                                                    if (l31) {
+                                                                                        const u32 t332 = load32(l0);
+                                                                                        l40 = t332;
+                                                                                        l38 = l40 + l35;
+                                                                                        const u32 t333 = load32(l9 + 60ull);
+                                                                                        l33 = t333;
+                                                                                        const u64 t334 = load64(l9);
+                                                                                        l0 = t334;
+                                                                                        const u32 t335 = load32(l9 + 28ull);
+                                                                                        const u32 t336 = load8((l0 + ((u64)(t335 - l31) << 3)) + 1ull);
+                                                                                        l30 = t336;
+                                                                                        if (l30 == 41u) {
+                                                                                            const u32 t338 = load32(l9 + 32ull);
+                                                                                            l41 = t338;
+                                                                                            if (l41) goto L329;
+                                                                                            store32(l9 + 24ull, l31 - 1u);
+                                                                                            goto L326;
                                                                                         }
-                                                                                        store32(l10 + 144u, 0u);
-                                                                                        store32(l10 + 208u, l42);
+                                                                                        store32(l8 + 144u, 0u);
+                                                                                        store32(l8 + 208u, l33);
                                                                                         {
                                                                                             {
                                                                                                 {
                                                                                                     {
-                                                                                                        switch (l33 - 13u) {
-                                                                                                        case 0: goto L522;
-                                                                                                        case 22: goto L524;
-                                                                                                        case 27: goto L511;
-                                                                                                        case 31: goto L525;
-                                                                                                        default: goto L523;
+                                                                                                        switch (l30 - 13u) {
+                                                                                                        case 0: goto L339;
+                                                                                                        case 22: goto L341;
+                                                                                                        case 27: goto L328;
+                                                                                                        case 31: goto L342;
+                                                                                                        default: goto L340;
                                                                                                         }
                                                                                                     }
-                                                                                                    L525:;
-                                                                                                    (void)core_scan_begin_argument(stack, l9, 1ull, l10 + 208ull, 0u);
-                                                                                                    goto L510;
+                                                                                                    L342:;
+                                                                                                    (void)core_scan_begin_argument(stack, l9, 1ull, l8 + 208ull, 0u);
+                                                                                                    goto L327;
                                                                                                 }
-                                                                                                L524:;
-                                                                                                (void)core_scan_number_sign(stack, l9, 1ull, l10 + 208ull, 0u);
-                                                                                                goto L510;
+                                                                                                L341:;
+                                                                                                (void)core_scan_number_sign(stack, l9, 1ull, l8 + 208ull, 0u);
+                                                                                                goto L327;
                                                                                             }
-                                                                                            L523:;
-                                                                                            if (((l33 - 9u) & 255u) < 2u) goto L522;
-                                                                                            (void)core_scan_add_characters(stack, l9, 1ull, l10 + 208ull, l10 + 144ull);
-                                                                                            goto L510;
+                                                                                            L340:;
+                                                                                            if (((l30 - 9u) & 255u) < 2u) goto L339;
+                                                                                            (void)core_scan_add_characters(stack, l9, 1ull, l8 + 208ull, l8 + 144ull);
+                                                                                            goto L327;
                                                                                         }
-                                                                                        L522:;
-                                                                                        store32(l9 + 24ull, l30 - 1u);
-                                                                                        goto L510;
+                                                                                        L339:;
+                                                                                        store32(l9 + 24ull, l31 - 1u);
+                                                                                        goto L327;
                                                                                     }
                                                                                     store32(l9 + 32ull, 0u);
                                                                                     store32(l0, 0u);
-                                                                                    l30 = 11u;
-                                                                                    const u32 t529 = load32(l9 + 28ull);
-                                                                                    l33 = t529;
-                                                                                    if ((l33 - l38) <= 10u) {
-                                                                                        const u32 t531 = space_space_Space_try_claim_spare(stack, l9, 11ull);
-                                                                                        if (t531 == 0) goto L501;
-                                                                                        const u32 t532 = load32(l9 + 24ull);
-                                                                                        l30 = t532 + 11u;
-                                                                                        const u32 t533 = load32(l9 + 28ull);
-                                                                                        l33 = t533;
+                                                                                    l31 = 11u;
+                                                                                    const u32 t346 = load32(l9 + 28ull);
+                                                                                    l30 = t346;
+                                                                                    if ((l30 - l35) <= 10u) {
+                                                                                        const u32 t348 = space_space_Space_try_claim_spare(stack, l9, 11ull);
+                                                                                        if (t348 == 0) goto L318;
+                                                                                        const u32 t349 = load32(l9 + 24ull);
+                                                                                        l31 = t349 + 11u;
+                                                                                        const u32 t350 = load32(l9 + 28ull);
+                                                                                        l30 = t350;
                                                                                     }
-                                                                                    const u64 t534 = load64(l9);
-                                                                                    l8 = t534 + ((u64)(l33 - l30) << 3);
-                                                                                    store64(l8 + 56u, 0ull);
-                                                                                    store64(l8 + 48u, 0ull);
-                                                                                    store64(l8 + 40u, 0ull);
-                                                                                    store64(l8 + 32u, 0ull);
-                                                                                    store64(l8 + 24u, 0ull);
-                                                                                    store64(l8 + 16u, 0ull);
-                                                                                    store64(l8 + 8u, 0ull);
-                                                                                    store64(l8, 0ull);
-                                                                                    store16(l8 + 80u, (u16)10496u);
-                                                                                    store16(l8 + 72u, (u16)10496u);
-                                                                                    store16(l8 + 64u, (u16)29440u);
-                                                                                    store32(l8 + 84ull, 0u);
-                                                                                    store32(l8 + 76ull, 0u);
-                                                                                    store32(l8 + 68ull, 0u);
-                                                                                    store8(l8 + 57ull, (u8)114u);
-                                                                                    store8(l8 + 49ull, (u8)40u);
-                                                                                    store8(l8 + 41ull, (u8)35u);
-                                                                                    store8(l8 + 33ull, (u8)44u);
-                                                                                    store8(l8 + 25ull, (u8)115u);
-                                                                                    store8(l8 + 17ull, (u8)112u);
-                                                                                    store8(l8 + 9ull, (u8)40u);
-                                                                                    store8(l8 + 1ull, (u8)35u);
-                                                                                    store32(l9 + 24ull, l30);
-                                                                                    const u32 t535 = load32(l9 + 20ull);
-                                                                                    l32 = t535;
-                                                                                    const u32 t536 = load32(l9 + 16ull);
-                                                                                    v502 = l32 + (t536 + l30); goto L502;
+                                                                                    const u64 t351 = load64(l9);
+                                                                                    l2 = t351 + ((u64)(l30 - l31) << 3);
+                                                                                    store64(l2 + 56u, 0ull);
+                                                                                    store64(l2 + 48u, 0ull);
+                                                                                    store64(l2 + 40u, 0ull);
+                                                                                    store64(l2 + 32u, 0ull);
+                                                                                    store64(l2 + 24u, 0ull);
+                                                                                    store64(l2 + 16u, 0ull);
+                                                                                    store64(l2 + 8u, 0ull);
+                                                                                    store64(l2, 0ull);
+                                                                                    store16(l2 + 80u, (u16)10496u);
+                                                                                    store16(l2 + 72u, (u16)10496u);
+                                                                                    store16(l2 + 64u, (u16)29440u);
+                                                                                    store32(l2 + 84ull, 0u);
+                                                                                    store32(l2 + 76ull, 0u);
+                                                                                    store32(l2 + 68ull, 0u);
+                                                                                    store8(l2 + 57ull, (u8)114u);
+                                                                                    store8(l2 + 49ull, (u8)40u);
+                                                                                    store8(l2 + 41ull, (u8)35u);
+                                                                                    store8(l2 + 33ull, (u8)44u);
+                                                                                    store8(l2 + 25ull, (u8)115u);
+                                                                                    store8(l2 + 17ull, (u8)112u);
+                                                                                    store8(l2 + 9ull, (u8)40u);
+                                                                                    store8(l2 + 1ull, (u8)35u);
+                                                                                    store32(l9 + 24ull, l31);
+                                                                                    const u32 t352 = load32(l9 + 20ull);
+                                                                                    l34 = t352;
+                                                                                    const u32 t353 = load32(l9 + 16ull);
+                                                                                    v319 = l34 + (t353 + l31); goto L319;
                                                                                 }
-                                                                                L512:;
-                                                                                l30 = l30 - 1u;
-                                                                                store32(l9 + 24ull, l30);
-                                                                                store64(l10 + 264u, 0ull);
-                                                                                store64(l10 + 144u, 0ull);
-                                                                                store64(l10 + 152u, 0ull);
-                                                                                store64(l10 + 248u, 0ull);
-                                                                                store64(l10 + 256u, 0ull);
-                                                                                l32 = l35 - 1u;
-                                                                                const u32 t537 = load8((l0 + ((u64)(l32 + l38) << 3)) + 1ull);
-                                                                                l33 = t537;
-                                                                                store8(l10 + 210u, (u8)0u);
-                                                                                store16(l10 + 208u, (u16)0u);
+                                                                                L329:;
+                                                                                l31 = l31 - 1u;
+                                                                                store32(l9 + 24ull, l31);
+                                                                                store64(l8 + 264u, 0ull);
+                                                                                store64(l8 + 144u, 0ull);
+                                                                                store64(l8 + 152u, 0ull);
+                                                                                store64(l8 + 248u, 0ull);
+                                                                                store64(l8 + 256u, 0ull);
+                                                                                l34 = l41 - 1u;
+                                                                                const u32 t354 = load8((l0 + ((u64)(l34 + l35) << 3)) + 1ull);
+                                                                                l30 = t354;
+                                                                                store8(l8 + 210u, (u8)0u);
+                                                                                store16(l8 + 208u, (u16)0u);
                                                                                 {
-                                                                                    l8 = (u64)(l35 + l38);
-                                                                                    l14 = (u64)l31 - l8;
-                                                                                    if (l14 < 2ull) goto L538;
-                                                                                    l8 = l0 + (l8 << 3);
+                                                                                    l2 = (u64)(l35 + l41);
+                                                                                    l14 = (u64)l38 - l2;
+                                                                                    if (l14 < 2ull) goto L355;
+                                                                                    l2 = l0 + (l2 << 3);
                                                                                     if (l14 != 2ull) {
-                                                                                        const u32 t540 = load8(l8 + 16ull);
-                                                                                        if (t540 != 2u) goto L538;
+                                                                                        const u32 t357 = load8(l2 + 16ull);
+                                                                                        if (t357 != 2u) goto L355;
                                                                                     }
-                                                                                    functions_function_function_of(stack, l10 + 208ull, l8, l8 + 8ull);
-                                                                                    const u32 t541 = load8(l10 + 208u);
-                                                                                    if (t541 != 1u) goto L538;
-                                                                                    l33 = l33 == 0;
-                                                                                    l43 = l35 + 3u;
+                                                                                    functions_function_function_of(stack, l8 + 208ull, l2, l2 + 8ull);
+                                                                                    const u32 t358 = load8(l8 + 208u);
+                                                                                    if (t358 != 1u) goto L355;
+                                                                                    l30 = l30 == 0;
+                                                                                    l36 = l41 + 3u;
                                                                                     {
                                                                                         {
                                                                                             {
                                                                                                 {
                                                                                                     {
                                                                                                         {
-                                                                                                            const u32 t548 = load8(l10 + 209u);
-                                                                                                            l41 = t548;
-                                                                                                            switch (l41 - 1u) {
-                                                                                                            case 0: goto L547;
-                                                                                                            case 1: goto L544;
-                                                                                                            case 2: goto L546;
-                                                                                                            case 3: goto L544;
-                                                                                                            case 4: goto L544;
-                                                                                                            case 5: goto L544;
-                                                                                                            case 6: goto L544;
-                                                                                                            case 7: goto L544;
-                                                                                                            case 8: goto L544;
-                                                                                                            case 9: goto L545;
-                                                                                                            case 10: goto L544;
-                                                                                                            case 11: goto L544;
-                                                                                                            case 12: goto L544;
-                                                                                                            case 13: goto L544;
-                                                                                                            case 14: goto L544;
-                                                                                                            case 15: goto L544;
-                                                                                                            case 16: goto L544;
-                                                                                                            case 17: goto L544;
-                                                                                                            case 18: goto L544;
-                                                                                                            case 19: goto L544;
-                                                                                                            case 20: goto L544;
-                                                                                                            case 21: goto L544;
-                                                                                                            case 22: goto L544;
-                                                                                                            case 23: goto L544;
-                                                                                                            default: goto L543;
+                                                                                                            const u32 t365 = load8(l8 + 209u);
+                                                                                                            l37 = t365;
+                                                                                                            switch (l37 - 1u) {
+                                                                                                            case 0: goto L364;
+                                                                                                            case 1: goto L361;
+                                                                                                            case 2: goto L363;
+                                                                                                            case 3: goto L361;
+                                                                                                            case 4: goto L361;
+                                                                                                            case 5: goto L361;
+                                                                                                            case 6: goto L361;
+                                                                                                            case 7: goto L361;
+                                                                                                            case 8: goto L361;
+                                                                                                            case 9: goto L362;
+                                                                                                            case 10: goto L361;
+                                                                                                            case 11: goto L361;
+                                                                                                            case 12: goto L361;
+                                                                                                            case 13: goto L361;
+                                                                                                            case 14: goto L361;
+                                                                                                            case 15: goto L361;
+                                                                                                            case 16: goto L361;
+                                                                                                            case 17: goto L361;
+                                                                                                            case 18: goto L361;
+                                                                                                            case 19: goto L361;
+                                                                                                            case 20: goto L361;
+                                                                                                            case 21: goto L361;
+                                                                                                            case 22: goto L361;
+                                                                                                            case 23: goto L361;
+                                                                                                            default: goto L360;
                                                                                                             }
                                                                                                         }
-                                                                                                        L547:;
-                                                                                                        l1 = l10 + 264ull;
+                                                                                                        L364:;
+                                                                                                        l10 = l8 + 264ull;
                                                                                                         l0 = l9;
-                                                                                                        l12 = l10 + 112ull;
-                                                                                                        l2 = stack - 16ull;
-                                                                                                        stack = l2;
-                                                                                                        u32 v549;
+                                                                                                        l1 = l8 + 112ull;
+                                                                                                        l12 = stack - 16ull;
+                                                                                                        stack = l12;
+                                                                                                        u32 v366;
                                                                                                         {
                                                                                                             {
                                                                                                                 {
-                                                                                                                    l36 = 4u;
-                                                                                                                    const u32 t552 = load8(l12 + 17ull);
-                                                                                                                    if (t552) { v549 = 1u; goto L549; }
+                                                                                                                    l30 = 4u;
+                                                                                                                    const u32 t369 = load8(l1 + 17ull);
+                                                                                                                    if (t369) { v366 = 1u; goto L366; }
                                                                                                                     {
-                                                                                                                        const u64 t554 = load64(l12 + 8u);
-                                                                                                                        l15 = t554;
-                                                                                                                        if (l15 == 0) {
-                                                                                                                            const u32 t556 = load8(l12 + 16ull);
-                                                                                                                            if (t556) goto L553;
-                                                                                                                            store8(l12 + 17ull, (u8)1u);
-                                                                                                                            v549 = 1u; goto L549;
+                                                                                                                        const u64 t371 = load64(l1 + 8u);
+                                                                                                                        l2 = t371;
+                                                                                                                        if (l2 == 0) {
+                                                                                                                            const u32 t373 = load8(l1 + 16ull);
+                                                                                                                            if (t373) goto L370;
+                                                                                                                            store8(l1 + 17ull, (u8)1u);
+                                                                                                                            v366 = 1u; goto L366;
                                                                                                                         }
-                                                                                                                        store64(l12 + 8u, l15 - 1ull);
-                                                                                                                        const u64 t557 = load64(l12);
-                                                                                                                        l15 = t557;
-                                                                                                                        store64(l12, l15 + 1ull);
-                                                                                                                        const u32 t558 = load8(l15);
-                                                                                                                        l36 = t558;
-                                                                                                                        store64(l2 + 8u, 0ull);
-                                                                                                                        store8(l2 + 9u, (u8)l36);
-                                                                                                                        const u32 t559 = load32(l0 + 28ull);
-                                                                                                                        l12 = l0 + 20ull;
-                                                                                                                        const u32 t560 = load32(l12);
-                                                                                                                        l34 = t560;
-                                                                                                                        const u32 t561 = load32(l0 + 16ull);
-                                                                                                                        l39 = l34 + t561;
-                                                                                                                        const u32 t562 = load32(l0 + 24ull);
-                                                                                                                        if (t559 != (l39 + t562)) {
-                                                                                                                            l15 = l0 + 32ull;
-                                                                                                                            const u32 t564 = load32(l15);
-                                                                                                                            l33 = t564;
-                                                                                                                            const u64 t565 = load64(l0);
-                                                                                                                            l0 = t565 + ((u64)l39 << 3);
+                                                                                                                        store64(l1 + 8u, l2 - 1ull);
+                                                                                                                        const u64 t374 = load64(l1);
+                                                                                                                        l2 = t374;
+                                                                                                                        store64(l1, l2 + 1ull);
+                                                                                                                        const u32 t375 = load8(l2);
+                                                                                                                        l30 = t375;
+                                                                                                                        store64(l12 + 8u, 0ull);
+                                                                                                                        store8(l12 + 9u, (u8)l30);
+                                                                                                                        const u32 t376 = load32(l0 + 28ull);
+                                                                                                                        l1 = l0 + 20ull;
+                                                                                                                        const u32 t377 = load32(l1);
+                                                                                                                        l32 = t377;
+                                                                                                                        const u32 t378 = load32(l0 + 16ull);
+                                                                                                                        l33 = l32 + t378;
+                                                                                                                        const u32 t379 = load32(l0 + 24ull);
+                                                                                                                        if (t376 != (l33 + t379)) {
+                                                                                                                            l2 = l0 + 32ull;
+                                                                                                                            const u32 t381 = load32(l2);
+                                                                                                                            l36 = t381;
+                                                                                                                            const u64 t382 = load64(l0);
+                                                                                                                            l0 = t382 + ((u64)l33 << 3);
                                                                                                                             store8(l0, (u8)0u);
                                                                                                                             store32(l0 + 4ull, 0u);
-                                                                                                                            store8(l0 + 1ull, (u8)l36);
-                                                                                                                            store32(l12, l34 + 1u);
-                                                                                                                            store32(l15, l33);
-                                                                                                                            goto L550;
+                                                                                                                            store8(l0 + 1ull, (u8)l30);
+                                                                                                                            store32(l1, l32 + 1u);
+                                                                                                                            store32(l2, l36);
+                                                                                                                            goto L367;
                                                                                                                         }
-                                                                                                                        const u32 t566 = space_space_Space_push_over_spare(stack, l0, l2 + 8ull);
-                                                                                                                        if (t566) goto L550;
-                                                                                                                        l36 = 0u;
-                                                                                                                        v549 = 0u; goto L549;
+                                                                                                                        const u32 t383 = space_space_Space_push_over_spare(stack, l0, l12 + 8ull);
+                                                                                                                        if (t383) goto L367;
+                                                                                                                        l30 = 0u;
+                                                                                                                        v366 = 0u; goto L366;
                                                                                                                     }
-                                                                                                                    L553:;
-                                                                                                                    l12 = l12 + 24ull;
-                                                                                                                    const u64 t567 = load64(l12);
-                                                                                                                    store64(l12, t567 + 1ull);
-                                                                                                                    v549 = 4u; goto L549;
+                                                                                                                    L370:;
+                                                                                                                    l1 = l1 + 24ull;
+                                                                                                                    const u64 t384 = load64(l1);
+                                                                                                                    store64(l1, t384 + 1ull);
+                                                                                                                    v366 = 4u; goto L366;
                                                                                                                 }
                                                                                                                 trap();
                                                                                                             }
-                                                                                                            L550:;
-                                                                                                            l36 = 1u;
-                                                                                                            v549 = 0u;
+                                                                                                            L367:;
+                                                                                                            l30 = 1u;
+                                                                                                            v366 = 0u;
                                                                                                         }
-                                                                                                        L549:;
-                                                                                                        l34 = v549;
-                                                                                                        store8(l1, (u8)l36);
-                                                                                                        store32(l1 + 4ull, 0u);
-                                                                                                        store8(l1 + 1ull, (u8)l34);
-                                                                                                        stack = l2 + 16ull;
-                                                                                                        goto L542;
+                                                                                                        L366:;
+                                                                                                        l32 = v366;
+                                                                                                        store8(l10, (u8)l30);
+                                                                                                        store32(l10 + 4ull, 0u);
+                                                                                                        store8(l10 + 1ull, (u8)l32);
+                                                                                                        stack = l12 + 16ull;
+                                                                                                        goto L359;
                                                                                                     }
-                                                                                                    L546:;
-                                                                                                    store16(l24, (u16)0u);
-                                                                                                    store8(l24 + 2u, (u8)0u);
-                                                                                                    store8(l10 + 156u, (u8)l33);
-                                                                                                    store32(l10 + 152u, l42);
-                                                                                                    store32(l10 + 148u, l45);
-                                                                                                    store32(l10 + 144u, l43);
-                                                                                                    l12 = l10 + 264ull;
+                                                                                                    L363:;
+                                                                                                    store16(l25, (u16)0u);
+                                                                                                    store8(l25 + 2u, (u8)0u);
+                                                                                                    store8(l8 + 156u, (u8)l30);
+                                                                                                    store32(l8 + 152u, l33);
+                                                                                                    store32(l8 + 148u, l40);
+                                                                                                    store32(l8 + 144u, l36);
+                                                                                                    l17 = l8 + 264ull;
                                                                                                     l1 = l9;
-                                                                                                    l11 = l10 + 144ull;
-                                                                                                    l8 = l10 + 72ull;
-                                                                                                    l2 = stack - 32ull;
-                                                                                                    stack = l2;
+                                                                                                    l10 = l8 + 144ull;
+                                                                                                    l12 = l8 + 72ull;
+                                                                                                    l0 = stack - 32ull;
+                                                                                                    stack = l0;
                                                                                                     {
-                                                                                                        l0 = l2;
+                                                                                                        l2 = l0;
                                                                                                         {
-                                                                                                            const u64 t570 = load64(l11 + 8u);
-                                                                                                            store64(l0 + 24u, t570);
-                                                                                                            const u64 t571 = load64(l11);
-                                                                                                            store64(l0 + 16u, t571);
-                                                                                                            functions_arguments_Arguments_next(stack, l0 + 8ull, l0 + 16ull, l1);
+                                                                                                            const u64 t387 = load64(l10 + 8u);
+                                                                                                            store64(l2 + 24u, t387);
+                                                                                                            const u64 t388 = load64(l10);
+                                                                                                            store64(l2 + 16u, t388);
+                                                                                                            functions_arguments_Arguments_next(stack, l2 + 8ull, l2 + 16ull, l1);
                                                                                                             l33 = 3u;
-                                                                                                            u32 v572;
+                                                                                                            u32 v389;
                                                                                                             {
-                                                                                                                const u32 t573 = load32(l0 + 12u);
-                                                                                                                l34 = t573;
-                                                                                                                const u32 t574 = load32(l0 + 8u);
-                                                                                                                l39 = t574;
-                                                                                                                if (l34 == l39) { v572 = 0u; goto L572; }
-                                                                                                                const u64 t575 = load64(l1);
-                                                                                                                const u32 t576 = load32(l1 + 16ull);
-                                                                                                                const u32 t577 = l39;
-                                                                                                                l39 = t576;
-                                                                                                                l14 = (u64)(t577 + l39);
-                                                                                                                l11 = t575 + (l14 << 3);
+                                                                                                                const u32 t390 = load32(l2 + 12u);
+                                                                                                                l30 = t390;
+                                                                                                                const u32 t391 = load32(l2 + 8u);
+                                                                                                                l32 = t391;
+                                                                                                                if (l30 == l32) { v389 = 0u; goto L389; }
+                                                                                                                const u64 t392 = load64(l1);
+                                                                                                                const u32 t393 = load32(l1 + 16ull);
+                                                                                                                const u32 t394 = l32;
+                                                                                                                l32 = t393;
+                                                                                                                l13 = (u64)(t394 + l32);
+                                                                                                                l10 = t392 + (l13 << 3);
                                                                                                                 {
-                                                                                                                    l15 = (u64)(l34 + l39);
-                                                                                                                    l1 = l15 - l14;
+                                                                                                                    l11 = (u64)(l30 + l32);
+                                                                                                                    l1 = l11 - l13;
                                                                                                                     if (l1 <= 15ull) {
                                                                                                                         {
-                                                                                                                            L581:;
+                                                                                                                            L398:;
                                                                                                                             {
-                                                                                                                                l34 = 0u;
-                                                                                                                                const u32 t582 = load8(l11);
-                                                                                                                                if (t582 == 0) {
-                                                                                                                                    const u32 t584 = load8(l11 + 1ull);
-                                                                                                                                    l34 = t584;
+                                                                                                                                l30 = 0u;
+                                                                                                                                const u32 t399 = load8(l10);
+                                                                                                                                if (t399 == 0) {
+                                                                                                                                    const u32 t401 = load8(l10 + 1ull);
+                                                                                                                                    l30 = t401;
                                                                                                                                 }
                                                                                                                                 {
-                                                                                                                                    l2 = l8 + 16ull;
-                                                                                                                                    const u64 t586 = load64(l2);
-                                                                                                                                    l14 = t586;
-                                                                                                                                    const u64 t587 = load64(l8 + 8ull);
-                                                                                                                                    if (l14 < t587) {
-                                                                                                                                        const u64 t589 = load64(l8);
-                                                                                                                                        store8(t589 + l14, (u8)l34);
-                                                                                                                                        const u64 t590 = load64(l2);
-                                                                                                                                        store64(l2, t590 + 1ull);
-                                                                                                                                        goto L585;
+                                                                                                                                    l0 = l12 + 16ull;
+                                                                                                                                    const u64 t403 = load64(l0);
+                                                                                                                                    l13 = t403;
+                                                                                                                                    const u64 t404 = load64(l12 + 8ull);
+                                                                                                                                    if (l13 < t404) {
+                                                                                                                                        const u64 t406 = load64(l12);
+                                                                                                                                        store8(t406 + l13, (u8)l30);
+                                                                                                                                        const u64 t407 = load64(l0);
+                                                                                                                                        store64(l0, t407 + 1ull);
+                                                                                                                                        goto L402;
                                                                                                                                     }
-                                                                                                                                    l2 = l8 + 24ull;
-                                                                                                                                    const u32 t591 = load8(l2);
-                                                                                                                                    if (t591 == 1u) goto L580;
-                                                                                                                                    store8(l8 + 25ull, (u8)l34);
-                                                                                                                                    store8(l2, (u8)1u);
+                                                                                                                                    l0 = l12 + 24ull;
+                                                                                                                                    const u32 t408 = load8(l0);
+                                                                                                                                    if (t408 == 1u) goto L397;
+                                                                                                                                    store8(l12 + 25ull, (u8)l30);
+                                                                                                                                    store8(l0, (u8)1u);
                                                                                                                                 }
-                                                                                                                                L585:;
-                                                                                                                                l11 = l11 + 8ull;
+                                                                                                                                L402:;
+                                                                                                                                l10 = l10 + 8ull;
                                                                                                                                 l1 = l1 - 1ull;
-                                                                                                                                if ((l1 == 0) == 0) goto L581;
+                                                                                                                                if ((l1 == 0) == 0) goto L398;
                                                                                                                             }
-                                                                                                                            v572 = 0u; goto L572;
+                                                                                                                            v389 = 0u; goto L389;
                                                                                                                         }
-                                                                                                                        L580:;
-                                                                                                                        l8 = l8 + 32ull;
-                                                                                                                        const u64 t592 = load64(l8);
-                                                                                                                        store64(l8, t592 + 1ull);
-                                                                                                                        goto L578;
+                                                                                                                        L397:;
+                                                                                                                        l12 = l12 + 32ull;
+                                                                                                                        const u64 t409 = load64(l12);
+                                                                                                                        store64(l12, t409 + 1ull);
+                                                                                                                        goto L395;
                                                                                                                     }
-                                                                                                                    l2 = l8 + 16ull;
-                                                                                                                    const u64 t593 = load64(l2);
-                                                                                                                    const u64 t594 = load64(l8);
-                                                                                                                    const u64 t595 = load64(l8 + 8ull);
-                                                                                                                    const u64 t596 = c_filling_put_characters(stack, l11, l1, t593, t594, t595);
-                                                                                                                    l16 = t596;
-                                                                                                                    const u64 t597 = load64(l2);
-                                                                                                                    const u64 t598 = l2;
-                                                                                                                    l2 = l16 + t597;
-                                                                                                                    store64(t598, l2);
-                                                                                                                    if (l1 == l16) { v572 = 0u; goto L572; }
-                                                                                                                    l11 = l11 + (l16 << 3);
-                                                                                                                    l1 = (l14 + l16) - l15;
+                                                                                                                    l0 = l12 + 16ull;
+                                                                                                                    const u64 t410 = load64(l0);
+                                                                                                                    const u64 t411 = load64(l12);
+                                                                                                                    const u64 t412 = load64(l12 + 8ull);
+                                                                                                                    const u64 t413 = c_filling_put_characters(stack, l10, l1, t410, t411, t412);
+                                                                                                                    l16 = t413;
+                                                                                                                    const u64 t414 = load64(l0);
+                                                                                                                    const u64 t415 = l0;
+                                                                                                                    l0 = l16 + t414;
+                                                                                                                    store64(t415, l0);
+                                                                                                                    if (l1 == l16) { v389 = 0u; goto L389; }
+                                                                                                                    l10 = l10 + (l16 << 3);
+                                                                                                                    l1 = (l13 + l16) - l11;
                                                                                                                     {
-                                                                                                                        L600:;
+                                                                                                                        L417:;
                                                                                                                         {
-                                                                                                                            l34 = 0u;
-                                                                                                                            const u32 t601 = load8(l11);
-                                                                                                                            if (t601 == 0) {
-                                                                                                                                const u32 t603 = load8(l11 + 1ull);
-                                                                                                                                l34 = t603;
+                                                                                                                            l30 = 0u;
+                                                                                                                            const u32 t418 = load8(l10);
+                                                                                                                            if (t418 == 0) {
+                                                                                                                                const u32 t420 = load8(l10 + 1ull);
+                                                                                                                                l30 = t420;
                                                                                                                             }
                                                                                                                             {
-                                                                                                                                const u64 t605 = load64(l8 + 8ull);
-                                                                                                                                if (t605 > l2) {
-                                                                                                                                    const u64 t607 = load64(l8);
-                                                                                                                                    store8(t607 + l2, (u8)l34);
-                                                                                                                                    l2 = l8 + 16ull;
-                                                                                                                                    const u64 t608 = load64(l2);
-                                                                                                                                    const u64 t609 = l2;
-                                                                                                                                    l2 = t608 + 1ull;
-                                                                                                                                    store64(t609, l2);
-                                                                                                                                    goto L604;
+                                                                                                                                const u64 t422 = load64(l12 + 8ull);
+                                                                                                                                if (t422 > l0) {
+                                                                                                                                    const u64 t424 = load64(l12);
+                                                                                                                                    store8(t424 + l0, (u8)l30);
+                                                                                                                                    l0 = l12 + 16ull;
+                                                                                                                                    const u64 t425 = load64(l0);
+                                                                                                                                    const u64 t426 = l0;
+                                                                                                                                    l0 = t425 + 1ull;
+                                                                                                                                    store64(t426, l0);
+                                                                                                                                    goto L421;
                                                                                                                                 }
-                                                                                                                                l14 = l8 + 24ull;
-                                                                                                                                const u32 t610 = load8(l14);
-                                                                                                                                if (t610 == 1u) goto L599;
-                                                                                                                                store8(l8 + 25ull, (u8)l34);
-                                                                                                                                store8(l14, (u8)1u);
+                                                                                                                                l13 = l12 + 24ull;
+                                                                                                                                const u32 t427 = load8(l13);
+                                                                                                                                if (t427 == 1u) goto L416;
+                                                                                                                                store8(l12 + 25ull, (u8)l30);
+                                                                                                                                store8(l13, (u8)1u);
                                                                                                                             }
-                                                                                                                            L604:;
-                                                                                                                            l11 = l11 + 8ull;
+                                                                                                                            L421:;
+                                                                                                                            l10 = l10 + 8ull;
                                                                                                                             l1 = l1 + 1ull;
-                                                                                                                            if ((l1 == 0) == 0) goto L600;
+                                                                                                                            if ((l1 == 0) == 0) goto L417;
                                                                                                                         }
-                                                                                                                        v572 = 0u; goto L572;
+                                                                                                                        v389 = 0u; goto L389;
                                                                                                                     }
-                                                                                                                    L599:;
-                                                                                                                    l8 = l8 + 32ull;
-                                                                                                                    const u64 t611 = load64(l8);
-                                                                                                                    store64(l8, t611 + 1ull);
+                                                                                                                    L416:;
+                                                                                                                    l12 = l12 + 32ull;
+                                                                                                                    const u64 t428 = load64(l12);
+                                                                                                                    store64(l12, t428 + 1ull);
                                                                                                                 }
-                                                                                                                L578:;
+                                                                                                                L395:;
                                                                                                                 l33 = 4u;
-                                                                                                                v572 = 5u;
+                                                                                                                v389 = 5u;
                                                                                                             }
-                                                                                                            L572:;
-                                                                                                            l34 = v572;
-                                                                                                            store8(l12, (u8)l33);
-                                                                                                            store32(l12 + 4ull, 0u);
-                                                                                                            store8(l12 + 1ull, (u8)l34);
-                                                                                                            stack = l0 + 32ull;
-                                                                                                            goto L568;
+                                                                                                            L389:;
+                                                                                                            l30 = v389;
+                                                                                                            store8(l17, (u8)l33);
+                                                                                                            store32(l17 + 4ull, 0u);
+                                                                                                            store8(l17 + 1ull, (u8)l30);
+                                                                                                            stack = l2 + 32ull;
+                                                                                                            goto L385;
                                                                                                         }
                                                                                                         trap();
                                                                                                     }
-                                                                                                    L568:;
-                                                                                                    goto L542;
+                                                                                                    L385:;
+                                                                                                    goto L359;
                                                                                                 }
-                                                                                                L545:;
-                                                                                                store16(l25, (u16)0u);
-                                                                                                store8(l25 + 2u, (u8)0u);
-                                                                                                store8(l10 + 260u, (u8)l33);
-                                                                                                store32(l10 + 256u, l42);
-                                                                                                store32(l10 + 252u, l45);
-                                                                                                store32(l10 + 248u, l43);
-                                                                                                l15 = l10 + 264ull;
+                                                                                                L362:;
+                                                                                                store16(l26, (u16)0u);
+                                                                                                store8(l26 + 2u, (u8)0u);
+                                                                                                store8(l8 + 260u, (u8)l30);
+                                                                                                store32(l8 + 256u, l33);
+                                                                                                store32(l8 + 252u, l40);
+                                                                                                store32(l8 + 248u, l36);
+                                                                                                l16 = l8 + 264ull;
                                                                                                 l0 = l9;
-                                                                                                l14 = l10 + 248ull;
-                                                                                                l16 = l10 + 72ull;
-                                                                                                l8 = stack - 80ull;
-                                                                                                stack = l8;
-                                                                                                u32 v612;
+                                                                                                l12 = l8 + 248ull;
+                                                                                                l10 = l8 + 72ull;
+                                                                                                l1 = stack - 80ull;
+                                                                                                stack = l1;
+                                                                                                u32 v429;
                                                                                                 {
                                                                                                     {
                                                                                                         {
@@ -23098,227 +22943,227 @@ static void engine_turn(u64 stack, u64 l0, u64 l1, u64 l2, u64 l3, u64 l4, u64 l
                                                                                                                 {
                                                                                                                     {
                                                                                                                         {
-                                                                                                                            const u64 t619 = load64(l14 + 8u);
-                                                                                                                            store64(l8 + 32u, t619);
-                                                                                                                            const u64 t620 = load64(l14);
-                                                                                                                            store64(l8 + 24u, t620);
-                                                                                                                            functions_arguments_Arguments_next(stack, l8 + 16ull, l8 + 24ull, l0);
-                                                                                                                            const u32 t621 = load32(l8 + 20u);
-                                                                                                                            l39 = t621;
-                                                                                                                            const u32 t622 = load32(l8 + 16u);
-                                                                                                                            l34 = t622;
-                                                                                                                            store64(l8 + 72u, 0ull);
-                                                                                                                            store64(l8 + 64u, 0ull);
-                                                                                                                            store64(l8 + 56u, 0ull);
-                                                                                                                            store64(l8 + 48u, 0ull);
-                                                                                                                            store64(l8 + 40u, 0ull);
-                                                                                                                            u32 v623;
+                                                                                                                            const u64 t436 = load64(l12 + 8u);
+                                                                                                                            store64(l1 + 32u, t436);
+                                                                                                                            const u64 t437 = load64(l12);
+                                                                                                                            store64(l1 + 24u, t437);
+                                                                                                                            functions_arguments_Arguments_next(stack, l1 + 16ull, l1 + 24ull, l0);
+                                                                                                                            const u32 t438 = load32(l1 + 20u);
+                                                                                                                            l32 = t438;
+                                                                                                                            const u32 t439 = load32(l1 + 16u);
+                                                                                                                            l30 = t439;
+                                                                                                                            store64(l1 + 72u, 0ull);
+                                                                                                                            store64(l1 + 64u, 0ull);
+                                                                                                                            store64(l1 + 56u, 0ull);
+                                                                                                                            store64(l1 + 48u, 0ull);
+                                                                                                                            store64(l1 + 40u, 0ull);
+                                                                                                                            u32 v440;
                                                                                                                             {
-                                                                                                                                const u32 t624 = load32(l0 + 40ull);
-                                                                                                                                l33 = t624;
+                                                                                                                                const u32 t441 = load32(l0 + 40ull);
+                                                                                                                                l33 = t441;
                                                                                                                                 if (l33 >= 8u) {
-                                                                                                                                    forms_work_Work_find_among_more(stack, l8, l0, l34, l39);
-                                                                                                                                    const u32 t626 = load32(l8 + 4u);
-                                                                                                                                    l34 = t626;
-                                                                                                                                    const u32 t627 = load8(l8);
-                                                                                                                                    v623 = t627; goto L623;
+                                                                                                                                    forms_work_Work_find_among_more(stack, l1, l0, l30, l32);
+                                                                                                                                    const u32 t443 = load32(l1 + 4u);
+                                                                                                                                    l30 = t443;
+                                                                                                                                    const u32 t444 = load8(l1);
+                                                                                                                                    v440 = t444; goto L440;
                                                                                                                                 }
                                                                                                                                 {
-                                                                                                                                    if (l33 == 0) goto L628;
-                                                                                                                                    const u64 t629 = load64(l0);
-                                                                                                                                    l12 = t629;
-                                                                                                                                    const u64 t630 = load32(l12 + 4ull);
-                                                                                                                                    const u32 t631 = load32(l0 + 16ull);
-                                                                                                                                    l33 = t631;
-                                                                                                                                    l14 = (u64)(l33 + l39);
-                                                                                                                                    l11 = (u64)(l33 + l34);
-                                                                                                                                    if (t630 != (l14 - l11)) goto L628;
-                                                                                                                                    l2 = 17ull - (l11 << 3);
-                                                                                                                                    l11 = (l14 ^ 18446744073709551615ull) + l11;
-                                                                                                                                    l14 = l12 + (l14 << 3);
-                                                                                                                                    L632:;
+                                                                                                                                    if (l33 == 0) goto L445;
+                                                                                                                                    const u64 t446 = load64(l0);
+                                                                                                                                    l13 = t446;
+                                                                                                                                    const u64 t447 = load32(l13 + 4ull);
+                                                                                                                                    const u32 t448 = load32(l0 + 16ull);
+                                                                                                                                    l33 = t448;
+                                                                                                                                    l12 = (u64)(l33 + l32);
+                                                                                                                                    l2 = (u64)(l30 + l33);
+                                                                                                                                    if (t447 != (l12 - l2)) goto L445;
+                                                                                                                                    l17 = 17ull - (l2 << 3);
+                                                                                                                                    l2 = (l12 ^ 18446744073709551615ull) + l2;
+                                                                                                                                    l12 = l13 + (l12 << 3);
+                                                                                                                                    L449:;
                                                                                                                                     {
-                                                                                                                                        l11 = l11 + 1ull;
-                                                                                                                                        if (l11 == 0) goto L617;
-                                                                                                                                        l12 = l14 - 7ull;
-                                                                                                                                        l1 = l2 + l14;
-                                                                                                                                        l14 = l14 - 8ull;
-                                                                                                                                        const u32 t633 = load8(l1);
-                                                                                                                                        const u32 t634 = load8(l12);
-                                                                                                                                        if (t633 == t634) goto L632;
+                                                                                                                                        l2 = l2 + 1ull;
+                                                                                                                                        if (l2 == 0) goto L434;
+                                                                                                                                        l13 = l12 - 7ull;
+                                                                                                                                        l11 = l12 + l17;
+                                                                                                                                        l12 = l12 - 8ull;
+                                                                                                                                        const u32 t450 = load8(l11);
+                                                                                                                                        const u32 t451 = load8(l13);
+                                                                                                                                        if (t450 == t451) goto L449;
                                                                                                                                     }
                                                                                                                                 }
-                                                                                                                                L628:;
-                                                                                                                                forms_work_Work_find_among_few(stack, l8 + 8ull, l0, l34, l39);
-                                                                                                                                const u32 t635 = load32(l8 + 12u);
-                                                                                                                                l34 = t635;
-                                                                                                                                const u32 t636 = load8(l8 + 8u);
-                                                                                                                                v623 = t636;
+                                                                                                                                L445:;
+                                                                                                                                forms_work_Work_find_among_few(stack, l1 + 8ull, l0, l30, l32);
+                                                                                                                                const u32 t452 = load32(l1 + 12u);
+                                                                                                                                l30 = t452;
+                                                                                                                                const u32 t453 = load8(l1 + 8u);
+                                                                                                                                v440 = t453;
                                                                                                                             }
-                                                                                                                            L623:;
-                                                                                                                            if ((v623 & 255u) != 1u) goto L615;
-                                                                                                                            goto L616;
+                                                                                                                            L440:;
+                                                                                                                            if ((v440 & 255u) != 1u) goto L432;
+                                                                                                                            goto L433;
                                                                                                                         }
                                                                                                                         trap();
                                                                                                                     }
-                                                                                                                    L617:;
+                                                                                                                    L434:;
                                                                                                                     store64(l0 + 44ull, 0ull);
-                                                                                                                    l34 = 0u;
+                                                                                                                    l30 = 0u;
                                                                                                                 }
-                                                                                                                L616:;
-                                                                                                                forms_work_Work_stored(stack, l8 + 40ull, l0, l34);
-                                                                                                                const u64 t637 = load64(l8 + 64u);
-                                                                                                                l14 = t637;
-                                                                                                                const u32 t638 = load32(l8 + 72u);
-                                                                                                                l39 = t638;
-                                                                                                                const u32 t639 = core_display_show_items2(stack, l8 + 40ull, 0u, l39, l16);
-                                                                                                                if (t639 & 255u) goto L613;
-                                                                                                                l0 = l16 + 16ull;
-                                                                                                                const u64 t640 = load64(l0);
-                                                                                                                l11 = t640;
-                                                                                                                l12 = l16 + 8ull;
-                                                                                                                const u64 t641 = load64(l12);
-                                                                                                                if (l11 >= t641) {
-                                                                                                                    l14 = l16 + 24ull;
-                                                                                                                    const u32 t643 = load8(l14);
-                                                                                                                    if (t643 == 1u) goto L614;
-                                                                                                                    store16(l14, (u16)15361u);
-                                                                                                                    goto L614;
+                                                                                                                L433:;
+                                                                                                                forms_work_Work_stored(stack, l1 + 40ull, l0, l30);
+                                                                                                                const u64 t454 = load64(l1 + 64u);
+                                                                                                                l12 = t454;
+                                                                                                                const u32 t455 = load32(l1 + 72u);
+                                                                                                                l32 = t455;
+                                                                                                                const u32 t456 = core_display_show_items2(stack, l1 + 40ull, 0u, l32, l10);
+                                                                                                                if (t456 & 255u) goto L430;
+                                                                                                                l0 = l10 + 16ull;
+                                                                                                                const u64 t457 = load64(l0);
+                                                                                                                l2 = t457;
+                                                                                                                l13 = l10 + 8ull;
+                                                                                                                const u64 t458 = load64(l13);
+                                                                                                                if (l2 >= t458) {
+                                                                                                                    l12 = l10 + 24ull;
+                                                                                                                    const u32 t460 = load8(l12);
+                                                                                                                    if (t460 == 1u) goto L431;
+                                                                                                                    store16(l12, (u16)15361u);
+                                                                                                                    goto L431;
                                                                                                                 }
-                                                                                                                const u64 t644 = load64(l16);
-                                                                                                                store8(t644 + l11, (u8)60u);
-                                                                                                                const u64 t645 = load64(l0);
-                                                                                                                l11 = t645 + 1ull;
-                                                                                                                store64(l0, l11);
+                                                                                                                const u64 t461 = load64(l10);
+                                                                                                                store8(t461 + l2, (u8)60u);
+                                                                                                                const u64 t462 = load64(l0);
+                                                                                                                l2 = t462 + 1ull;
+                                                                                                                store64(l0, l2);
                                                                                                                 {
-                                                                                                                    const u64 t647 = load64(l12);
-                                                                                                                    l0 = t647;
-                                                                                                                    if (l0 <= l11) {
-                                                                                                                        l12 = l16 + 24ull;
-                                                                                                                        const u32 t649 = load8(l12);
-                                                                                                                        if (t649 == 1u) goto L614;
-                                                                                                                        store16(l12, (u16)24065u);
-                                                                                                                        goto L646;
+                                                                                                                    const u64 t464 = load64(l13);
+                                                                                                                    l0 = t464;
+                                                                                                                    if (l0 <= l2) {
+                                                                                                                        l13 = l10 + 24ull;
+                                                                                                                        const u32 t466 = load8(l13);
+                                                                                                                        if (t466 == 1u) goto L431;
+                                                                                                                        store16(l13, (u16)24065u);
+                                                                                                                        goto L463;
                                                                                                                     }
-                                                                                                                    const u64 t650 = load64(l16);
-                                                                                                                    store8(t650 + l11, (u8)94u);
-                                                                                                                    l11 = l16 + 16ull;
-                                                                                                                    const u64 t651 = load64(l11);
-                                                                                                                    const u64 t652 = l11;
-                                                                                                                    l11 = t651 + 1ull;
-                                                                                                                    store64(t652, l11);
-                                                                                                                    const u64 t653 = load64(l16 + 8ull);
-                                                                                                                    l0 = t653;
+                                                                                                                    const u64 t467 = load64(l10);
+                                                                                                                    store8(t467 + l2, (u8)94u);
+                                                                                                                    l2 = l10 + 16ull;
+                                                                                                                    const u64 t468 = load64(l2);
+                                                                                                                    const u64 t469 = l2;
+                                                                                                                    l2 = t468 + 1ull;
+                                                                                                                    store64(t469, l2);
+                                                                                                                    const u64 t470 = load64(l10 + 8ull);
+                                                                                                                    l0 = t470;
                                                                                                                 }
-                                                                                                                L646:;
+                                                                                                                L463:;
                                                                                                                 {
-                                                                                                                    if (l0 <= l11) {
-                                                                                                                        l11 = l16 + 24ull;
-                                                                                                                        const u32 t656 = load8(l11);
-                                                                                                                        if (t656 == 1u) goto L614;
-                                                                                                                        store16(l11, (u16)15873u);
-                                                                                                                        goto L654;
+                                                                                                                    if (l0 <= l2) {
+                                                                                                                        l2 = l10 + 24ull;
+                                                                                                                        const u32 t473 = load8(l2);
+                                                                                                                        if (t473 == 1u) goto L431;
+                                                                                                                        store16(l2, (u16)15873u);
+                                                                                                                        goto L471;
                                                                                                                     }
-                                                                                                                    const u64 t657 = load64(l16);
-                                                                                                                    store8(t657 + l11, (u8)62u);
-                                                                                                                    l11 = l16 + 16ull;
-                                                                                                                    const u64 t658 = load64(l11);
-                                                                                                                    store64(l11, t658 + 1ull);
+                                                                                                                    const u64 t474 = load64(l10);
+                                                                                                                    store8(t474 + l2, (u8)62u);
+                                                                                                                    l2 = l10 + 16ull;
+                                                                                                                    const u64 t475 = load64(l2);
+                                                                                                                    store64(l2, t475 + 1ull);
                                                                                                                 }
-                                                                                                                L654:;
-                                                                                                                const u32 t659 = core_display_show_items2(stack, l8 + 40ull, l39, (u32)l14, l16);
-                                                                                                                if (t659 & 255u) goto L613;
+                                                                                                                L471:;
+                                                                                                                const u32 t476 = core_display_show_items2(stack, l1 + 40ull, l32, (u32)l12, l10);
+                                                                                                                if (t476 & 255u) goto L430;
                                                                                                             }
-                                                                                                            L615:;
-                                                                                                            l34 = 3u;
-                                                                                                            v612 = 0u; goto L612;
+                                                                                                            L432:;
+                                                                                                            l30 = 3u;
+                                                                                                            v429 = 0u; goto L429;
                                                                                                         }
-                                                                                                        L614:;
-                                                                                                        l14 = l16 + 32ull;
-                                                                                                        const u64 t660 = load64(l14);
-                                                                                                        store64(l14, t660 + 1ull);
+                                                                                                        L431:;
+                                                                                                        l12 = l10 + 32ull;
+                                                                                                        const u64 t477 = load64(l12);
+                                                                                                        store64(l12, t477 + 1ull);
                                                                                                     }
-                                                                                                    L613:;
-                                                                                                    l34 = 4u;
-                                                                                                    v612 = 5u;
+                                                                                                    L430:;
+                                                                                                    l30 = 4u;
+                                                                                                    v429 = 5u;
                                                                                                 }
-                                                                                                L612:;
-                                                                                                l39 = v612;
-                                                                                                store8(l15, (u8)l34);
-                                                                                                store32(l15 + 4ull, 0u);
-                                                                                                store8(l15 + 1ull, (u8)l39);
-                                                                                                stack = l8 + 80ull;
-                                                                                                goto L542;
+                                                                                                L429:;
+                                                                                                l32 = v429;
+                                                                                                store8(l16, (u8)l30);
+                                                                                                store32(l16 + 4ull, 0u);
+                                                                                                store8(l16 + 1ull, (u8)l32);
+                                                                                                stack = l1 + 80ull;
+                                                                                                goto L359;
                                                                                             }
-                                                                                            L544:;
-                                                                                            const u32 t661 = load8(l10 + 210u);
-                                                                                            l37 = t661;
-                                                                                            l40 = 0u;
-                                                                                            store16(l26, (u16)0u);
-                                                                                            store8(l26 + 2u, (u8)0u);
-                                                                                            store8(l10 + 180u, (u8)l33);
-                                                                                            store32(l10 + 176u, l42);
-                                                                                            store32(l10 + 172u, l45);
-                                                                                            store32(l10 + 168u, l43);
-                                                                                            store64(l10 + 272u, 0ull);
+                                                                                            L361:;
+                                                                                            const u32 t478 = load8(l8 + 210u);
+                                                                                            l39 = t478;
+                                                                                            l32 = 0u;
+                                                                                            store16(l27, (u16)0u);
+                                                                                            store8(l27 + 2u, (u8)0u);
+                                                                                            store8(l8 + 180u, (u8)l30);
+                                                                                            store32(l8 + 176u, l33);
+                                                                                            store32(l8 + 172u, l40);
+                                                                                            store32(l8 + 168u, l36);
+                                                                                            store64(l8 + 272u, 0ull);
                                                                                             {
-                                                                                                if ((l41 - 5u) < 20u) goto L662;
-                                                                                                l33 = 0u;
+                                                                                                if ((l37 - 5u) < 20u) goto L479;
+                                                                                                l30 = 0u;
                                                                                                 {
-                                                                                                    switch (l41 - 3u) {
-                                                                                                    case 0: goto L662;
-                                                                                                    case 1: goto L504;
-                                                                                                    default: goto L663;
+                                                                                                    switch (l37 - 3u) {
+                                                                                                    case 0: goto L479;
+                                                                                                    case 1: goto L321;
+                                                                                                    default: goto L480;
                                                                                                     }
                                                                                                 }
-                                                                                                L663:;
-                                                                                                l0 = l10 + 272ull;
-                                                                                                l1 = l10 + 168ull;
-                                                                                                l2 = stack - 32ull;
-                                                                                                stack = l2;
+                                                                                                L480:;
+                                                                                                l2 = l8 + 272ull;
+                                                                                                l1 = l8 + 168ull;
+                                                                                                l0 = stack - 32ull;
+                                                                                                stack = l0;
                                                                                                 {
                                                                                                     {
-                                                                                                        const u64 t666 = load64(l1 + 8u);
-                                                                                                        store64(l2 + 24u, t666);
-                                                                                                        const u64 t667 = load64(l1);
-                                                                                                        store64(l2 + 16u, t667);
-                                                                                                        functions_arguments_Arguments_next(stack, l2 + 8ull, l2 + 16ull, l9);
-                                                                                                        const u32 t668 = load32(l2 + 8u);
-                                                                                                        l33 = t668;
-                                                                                                        const u32 t669 = load32(l2 + 12u);
-                                                                                                        if (l33 != t669) {
-                                                                                                            const u64 t671 = load64(l9);
-                                                                                                            const u32 t672 = load32(l9 + 16ull);
-                                                                                                            l1 = t671 + ((u64)(t672 + l33) << 3);
-                                                                                                            const u32 t673 = load8(l1);
-                                                                                                            const u64 t674 = l22;
-                                                                                                            u32 v675;
-                                                                                                            if (t673) {
-                                                                                                                v675 = 0u;
+                                                                                                        const u64 t483 = load64(l1 + 8u);
+                                                                                                        store64(l0 + 24u, t483);
+                                                                                                        const u64 t484 = load64(l1);
+                                                                                                        store64(l0 + 16u, t484);
+                                                                                                        functions_arguments_Arguments_next(stack, l0 + 8ull, l0 + 16ull, l9);
+                                                                                                        const u32 t485 = load32(l0 + 8u);
+                                                                                                        l30 = t485;
+                                                                                                        const u32 t486 = load32(l0 + 12u);
+                                                                                                        if (l30 != t486) {
+                                                                                                            const u64 t488 = load64(l9);
+                                                                                                            const u32 t489 = load32(l9 + 16ull);
+                                                                                                            l1 = t488 + ((u64)(t489 + l30) << 3);
+                                                                                                            const u32 t490 = load8(l1);
+                                                                                                            const u64 t491 = l23;
+                                                                                                            u32 v492;
+                                                                                                            if (t490) {
+                                                                                                                v492 = 0u;
                                                                                                             } else {
-                                                                                                                const u32 t676 = load8(l1 + 1ull);
-                                                                                                                v675 = t676;
+                                                                                                                const u32 t493 = load8(l1 + 1ull);
+                                                                                                                v492 = t493;
                                                                                                             }
-                                                                                                            store8(t674, (u8)v675);
+                                                                                                            store8(t491, (u8)v492);
                                                                                                         }
-                                                                                                        store16(l0, (u16)3u);
-                                                                                                        store32(l0 + 4ull, 0u);
-                                                                                                        stack = l2 + 32ull;
-                                                                                                        goto L664;
+                                                                                                        store16(l2, (u16)3u);
+                                                                                                        store32(l2 + 4ull, 0u);
+                                                                                                        stack = l0 + 32ull;
+                                                                                                        goto L481;
                                                                                                     }
                                                                                                     trap();
                                                                                                 }
-                                                                                                L664:;
-                                                                                                const u32 t677 = load32(l10 + 276u);
-                                                                                                l40 = t677;
-                                                                                                const u32 t678 = load8(l10 + 273u);
-                                                                                                l33 = t678;
-                                                                                                const u32 t679 = load8(l10 + 272u);
-                                                                                                l41 = t679;
-                                                                                                goto L504;
+                                                                                                L481:;
+                                                                                                const u32 t494 = load32(l8 + 276u);
+                                                                                                l32 = t494;
+                                                                                                const u32 t495 = load8(l8 + 273u);
+                                                                                                l30 = t495;
+                                                                                                const u32 t496 = load8(l8 + 272u);
+                                                                                                l37 = t496;
+                                                                                                goto L321;
                                                                                             }
-                                                                                            L662:;
-                                                                                            store64(l10 + 280u, 0ull);
+                                                                                            L479:;
+                                                                                            store64(l8 + 280u, 0ull);
                                                                                             {
                                                                                                 {
                                                                                                     {
@@ -23339,659 +23184,659 @@ static void engine_turn(u64 stack, u64 l0, u64 l1, u64 l2, u64 l3, u64 l4, u64 l
                                                                                                                                                                 {
                                                                                                                                                                     {
                                                                                                                                                                         {
-                                                                                                                                                                            switch (l41 - 5u) {
-                                                                                                                                                                            case 0: goto L686;
-                                                                                                                                                                            case 1: goto L685;
-                                                                                                                                                                            case 2: goto L683;
-                                                                                                                                                                            case 3: goto L682;
-                                                                                                                                                                            case 4: goto L681;
-                                                                                                                                                                            case 6: goto L684;
-                                                                                                                                                                            case 7: goto L691;
-                                                                                                                                                                            case 8: goto L690;
-                                                                                                                                                                            case 9: goto L689;
-                                                                                                                                                                            case 10: goto L688;
-                                                                                                                                                                            case 11: goto L687;
-                                                                                                                                                                            case 12: goto L699;
-                                                                                                                                                                            case 13: goto L698;
-                                                                                                                                                                            case 14: goto L697;
-                                                                                                                                                                            case 15: goto L696;
-                                                                                                                                                                            case 16: goto L695;
-                                                                                                                                                                            case 17: goto L694;
-                                                                                                                                                                            case 18: goto L693;
-                                                                                                                                                                            case 19: goto L692;
-                                                                                                                                                                            default: goto L680;
+                                                                                                                                                                            switch (l37 - 5u) {
+                                                                                                                                                                            case 0: goto L503;
+                                                                                                                                                                            case 1: goto L502;
+                                                                                                                                                                            case 2: goto L500;
+                                                                                                                                                                            case 3: goto L499;
+                                                                                                                                                                            case 4: goto L498;
+                                                                                                                                                                            case 6: goto L501;
+                                                                                                                                                                            case 7: goto L508;
+                                                                                                                                                                            case 8: goto L507;
+                                                                                                                                                                            case 9: goto L506;
+                                                                                                                                                                            case 10: goto L505;
+                                                                                                                                                                            case 11: goto L504;
+                                                                                                                                                                            case 12: goto L516;
+                                                                                                                                                                            case 13: goto L515;
+                                                                                                                                                                            case 14: goto L514;
+                                                                                                                                                                            case 15: goto L513;
+                                                                                                                                                                            case 16: goto L512;
+                                                                                                                                                                            case 17: goto L511;
+                                                                                                                                                                            case 18: goto L510;
+                                                                                                                                                                            case 19: goto L509;
+                                                                                                                                                                            default: goto L497;
                                                                                                                                                                             }
                                                                                                                                                                         }
-                                                                                                                                                                        L699:;
-                                                                                                                                                                        functions_comparing_equal(stack, l10 + 280ull, l9, l10 + 168ull);
-                                                                                                                                                                        goto L505;
+                                                                                                                                                                        L516:;
+                                                                                                                                                                        functions_comparing_equal(stack, l8 + 280ull, l9, l8 + 168ull);
+                                                                                                                                                                        goto L322;
                                                                                                                                                                     }
-                                                                                                                                                                    L698:;
-                                                                                                                                                                    functions_comparing_greater(stack, l10 + 280ull, l9, l10 + 168ull);
-                                                                                                                                                                    goto L505;
+                                                                                                                                                                    L515:;
+                                                                                                                                                                    functions_comparing_greater(stack, l8 + 280ull, l9, l8 + 168ull);
+                                                                                                                                                                    goto L322;
                                                                                                                                                                 }
-                                                                                                                                                                L697:;
-                                                                                                                                                                functions_arithmetic_arithmetic(stack, l10 + 280ull, l9, l37, l10 + 168ull);
-                                                                                                                                                                goto L505;
+                                                                                                                                                                L514:;
+                                                                                                                                                                functions_arithmetic_arithmetic(stack, l8 + 280ull, l9, l39, l8 + 168ull);
+                                                                                                                                                                goto L322;
                                                                                                                                                             }
-                                                                                                                                                            L696:;
-                                                                                                                                                            functions_bit_strings_union(stack, l10 + 280ull, l9, l10 + 168ull);
-                                                                                                                                                            goto L505;
+                                                                                                                                                            L513:;
+                                                                                                                                                            functions_bit_strings_union(stack, l8 + 280ull, l9, l8 + 168ull);
+                                                                                                                                                            goto L322;
                                                                                                                                                         }
-                                                                                                                                                        L695:;
-                                                                                                                                                        functions_bit_strings_intersection(stack, l10 + 280ull, l9, l10 + 168ull);
-                                                                                                                                                        goto L505;
+                                                                                                                                                        L512:;
+                                                                                                                                                        functions_bit_strings_intersection(stack, l8 + 280ull, l9, l8 + 168ull);
+                                                                                                                                                        goto L322;
                                                                                                                                                     }
-                                                                                                                                                    L694:;
-                                                                                                                                                    l15 = l10 + 280ull;
-                                                                                                                                                    l12 = l10 + 168ull;
-                                                                                                                                                    l0 = stack - 64ull;
-                                                                                                                                                    stack = l0;
+                                                                                                                                                    L511:;
+                                                                                                                                                    l12 = l8 + 280ull;
+                                                                                                                                                    l2 = l8 + 168ull;
+                                                                                                                                                    l1 = stack - 64ull;
+                                                                                                                                                    stack = l1;
                                                                                                                                                     {
-                                                                                                                                                        l1 = l0;
+                                                                                                                                                        l0 = l1;
                                                                                                                                                         {
-                                                                                                                                                            store64(l1 + 32u, 0ull);
-                                                                                                                                                            store64(l1 + 56u, 0ull);
-                                                                                                                                                            const u64 t702 = load64(l12);
-                                                                                                                                                            store64(l1 + 40u, t702);
-                                                                                                                                                            const u64 t703 = load64(l12 + 8u);
-                                                                                                                                                            store64(l1 + 48u, t703);
-                                                                                                                                                            functions_arguments_Arguments_next(stack, l1 + 8ull, l1 + 40ull, l9);
-                                                                                                                                                            const u32 t704 = load32(l9 + 16ull);
-                                                                                                                                                            l34 = t704;
-                                                                                                                                                            const u32 t705 = load32(l1 + 8u);
-                                                                                                                                                            l36 = t705;
-                                                                                                                                                            const u32 t706 = load32(l1 + 12u);
-                                                                                                                                                            l39 = t706;
-                                                                                                                                                            l12 = (u64)(l34 + l39);
-                                                                                                                                                            l0 = (u64)(l34 + l36) - l12;
-                                                                                                                                                            const u64 t707 = load64(l9);
-                                                                                                                                                            l12 = (t707 + (l12 << 3)) - 8ull;
-                                                                                                                                                            l33 = l39;
-                                                                                                                                                            L708:;
+                                                                                                                                                            store64(l0 + 32u, 0ull);
+                                                                                                                                                            store64(l0 + 56u, 0ull);
+                                                                                                                                                            const u64 t519 = load64(l2);
+                                                                                                                                                            store64(l0 + 40u, t519);
+                                                                                                                                                            const u64 t520 = load64(l2 + 8u);
+                                                                                                                                                            store64(l0 + 48u, t520);
+                                                                                                                                                            functions_arguments_Arguments_next(stack, l0 + 8ull, l0 + 40ull, l9);
+                                                                                                                                                            const u32 t521 = load32(l9 + 16ull);
+                                                                                                                                                            l32 = t521;
+                                                                                                                                                            const u32 t522 = load32(l0 + 8u);
+                                                                                                                                                            l36 = t522;
+                                                                                                                                                            const u32 t523 = load32(l0 + 12u);
+                                                                                                                                                            l33 = t523;
+                                                                                                                                                            l2 = (u64)(l32 + l33);
+                                                                                                                                                            l1 = (u64)(l32 + l36) - l2;
+                                                                                                                                                            const u64 t524 = load64(l9);
+                                                                                                                                                            l2 = (t524 + (l2 << 3)) - 8ull;
+                                                                                                                                                            l30 = l33;
+                                                                                                                                                            L525:;
                                                                                                                                                             {
                                                                                                                                                                 {
-                                                                                                                                                                    l34 = l33;
-                                                                                                                                                                    if (l0 == 0) goto L709;
-                                                                                                                                                                    const u32 t710 = load8(l12);
-                                                                                                                                                                    if (t710) goto L709;
-                                                                                                                                                                    l0 = l0 + 1ull;
-                                                                                                                                                                    l33 = l34 - 1u;
-                                                                                                                                                                    l2 = l12 + 1ull;
-                                                                                                                                                                    l12 = l12 - 8ull;
-                                                                                                                                                                    const u32 t711 = load8(l2);
-                                                                                                                                                                    if ((t711 & 248u) == 48u) goto L708;
+                                                                                                                                                                    l32 = l30;
+                                                                                                                                                                    if (l1 == 0) goto L526;
+                                                                                                                                                                    const u32 t527 = load8(l2);
+                                                                                                                                                                    if (t527) goto L526;
+                                                                                                                                                                    l1 = l1 + 1ull;
+                                                                                                                                                                    l30 = l32 - 1u;
+                                                                                                                                                                    l10 = l2 + 1ull;
+                                                                                                                                                                    l2 = l2 - 8ull;
+                                                                                                                                                                    const u32 t528 = load8(l10);
+                                                                                                                                                                    if ((t528 & 248u) == 48u) goto L525;
                                                                                                                                                                 }
-                                                                                                                                                                L709:;
+                                                                                                                                                                L526:;
                                                                                                                                                             }
-                                                                                                                                                            store32(l1 + 28u, l39);
-                                                                                                                                                            store32(l1 + 24u, l34);
-                                                                                                                                                            store32(l1 + 20u, 2u);
-                                                                                                                                                            functions_bit_strings_give_bits(stack, l1 + 56ull, l9, l36, l34, l1 + 20ull);
-                                                                                                                                                            const u32 t712 = load16(l1 + 56u);
-                                                                                                                                                            store16(l15, (u16)t712);
-                                                                                                                                                            const u32 t713 = load32(l1 + 60u);
-                                                                                                                                                            store32(l15 + 4ull, t713);
-                                                                                                                                                            stack = l1 + 64ull;
-                                                                                                                                                            goto L700;
+                                                                                                                                                            store32(l0 + 28u, l33);
+                                                                                                                                                            store32(l0 + 24u, l32);
+                                                                                                                                                            store32(l0 + 20u, 2u);
+                                                                                                                                                            functions_bit_strings_give_bits(stack, l0 + 56ull, l9, l36, l32, l0 + 20ull);
+                                                                                                                                                            const u32 t529 = load16(l0 + 56u);
+                                                                                                                                                            store16(l12, (u16)t529);
+                                                                                                                                                            const u32 t530 = load32(l0 + 60u);
+                                                                                                                                                            store32(l12 + 4ull, t530);
+                                                                                                                                                            stack = l0 + 64ull;
+                                                                                                                                                            goto L517;
                                                                                                                                                         }
                                                                                                                                                         trap();
                                                                                                                                                     }
-                                                                                                                                                    L700:;
-                                                                                                                                                    goto L505;
+                                                                                                                                                    L517:;
+                                                                                                                                                    goto L322;
                                                                                                                                                 }
-                                                                                                                                                L693:;
-                                                                                                                                                functions_bit_strings_shift(stack, l10 + 280ull, l9, l10 + 168ull);
-                                                                                                                                                goto L505;
+                                                                                                                                                L510:;
+                                                                                                                                                functions_bit_strings_shift(stack, l8 + 280ull, l9, l8 + 168ull);
+                                                                                                                                                goto L322;
                                                                                                                                             }
-                                                                                                                                            L692:;
-                                                                                                                                            functions_bit_strings_rotate(stack, l10 + 280ull, l9, l10 + 168ull);
-                                                                                                                                            goto L505;
+                                                                                                                                            L509:;
+                                                                                                                                            functions_bit_strings_rotate(stack, l8 + 280ull, l9, l8 + 168ull);
+                                                                                                                                            goto L322;
                                                                                                                                         }
-                                                                                                                                        L691:;
-                                                                                                                                        functions_form_parts_call_segment(stack, l10 + 280ull, l9, l10 + 168ull);
-                                                                                                                                        goto L505;
+                                                                                                                                        L508:;
+                                                                                                                                        functions_form_parts_call_segment(stack, l8 + 280ull, l9, l8 + 168ull);
+                                                                                                                                        goto L322;
                                                                                                                                     }
-                                                                                                                                    L690:;
-                                                                                                                                    functions_form_parts_call_character(stack, l10 + 280ull, l9, l10 + 168ull);
-                                                                                                                                    goto L505;
+                                                                                                                                    L507:;
+                                                                                                                                    functions_form_parts_call_character(stack, l8 + 280ull, l9, l8 + 168ull);
+                                                                                                                                    goto L322;
                                                                                                                                 }
-                                                                                                                                L689:;
-                                                                                                                                functions_form_parts_call_number(stack, l10 + 280ull, l9, l10 + 168ull);
-                                                                                                                                goto L505;
+                                                                                                                                L506:;
+                                                                                                                                functions_form_parts_call_number(stack, l8 + 280ull, l9, l8 + 168ull);
+                                                                                                                                goto L322;
                                                                                                                             }
-                                                                                                                            L688:;
-                                                                                                                            functions_form_parts_initial_part(stack, l10 + 280ull, l9, l10 + 168ull);
-                                                                                                                            goto L505;
+                                                                                                                            L505:;
+                                                                                                                            functions_form_parts_initial_part(stack, l8 + 280ull, l9, l8 + 168ull);
+                                                                                                                            goto L322;
                                                                                                                         }
-                                                                                                                        L687:;
-                                                                                                                        functions_form_parts_call_restore(stack, l10 + 280ull, l9, l10 + 168ull);
-                                                                                                                        goto L505;
+                                                                                                                        L504:;
+                                                                                                                        functions_form_parts_call_restore(stack, l8 + 280ull, l9, l8 + 168ull);
+                                                                                                                        goto L322;
                                                                                                                     }
-                                                                                                                    L686:;
-                                                                                                                    functions_form_calls_define_string(stack, l10 + 280ull, l9, l10 + 168ull);
-                                                                                                                    goto L505;
+                                                                                                                    L503:;
+                                                                                                                    functions_form_calls_define_string(stack, l8 + 280ull, l9, l8 + 168ull);
+                                                                                                                    goto L322;
                                                                                                                 }
-                                                                                                                L685:;
-                                                                                                                functions_form_calls_segment_string(stack, l10 + 280ull, l9, l10 + 168ull);
-                                                                                                                goto L505;
+                                                                                                                L502:;
+                                                                                                                functions_form_calls_segment_string(stack, l8 + 280ull, l9, l8 + 168ull);
+                                                                                                                goto L322;
                                                                                                             }
-                                                                                                            L684:;
-                                                                                                            const u64 t714 = load64(l10 + 176u);
-                                                                                                            store64(l10 + 216u, t714);
-                                                                                                            const u64 t715 = load64(l10 + 168u);
-                                                                                                            store64(l10 + 208u, t715);
-                                                                                                            const u32 t716 = load8(l10 + 220u);
-                                                                                                            l40 = t716;
-                                                                                                            functions_arguments_Arguments_next(stack, l10 + 24ull, l10 + 208ull, l9);
-                                                                                                            const u32 t717 = load32(l10 + 28u);
-                                                                                                            l33 = t717;
-                                                                                                            const u32 t718 = load32(l10 + 24u);
-                                                                                                            l42 = t718;
-                                                                                                            u32 v719;
+                                                                                                            L501:;
+                                                                                                            const u64 t531 = load64(l8 + 176u);
+                                                                                                            store64(l8 + 216u, t531);
+                                                                                                            const u64 t532 = load64(l8 + 168u);
+                                                                                                            store64(l8 + 208u, t532);
+                                                                                                            const u32 t533 = load8(l8 + 220u);
+                                                                                                            l32 = t533;
+                                                                                                            functions_arguments_Arguments_next(stack, l8 + 24ull, l8 + 208ull, l9);
+                                                                                                            const u32 t534 = load32(l8 + 28u);
+                                                                                                            l30 = t534;
+                                                                                                            const u32 t535 = load32(l8 + 24u);
+                                                                                                            l33 = t535;
+                                                                                                            u32 v536;
                                                                                                             {
-                                                                                                                const u32 t720 = load32(l9 + 40ull);
-                                                                                                                l41 = t720;
-                                                                                                                if (l41 >= 8u) {
-                                                                                                                    forms_work_Work_find_among_more(stack, l10 + 8ull, l9, l42, l33);
-                                                                                                                    const u32 t722 = load32(l10 + 12u);
-                                                                                                                    l42 = t722;
-                                                                                                                    const u32 t723 = load8(l10 + 8u);
-                                                                                                                    v719 = t723; goto L719;
+                                                                                                                const u32 t537 = load32(l9 + 40ull);
+                                                                                                                l37 = t537;
+                                                                                                                if (l37 >= 8u) {
+                                                                                                                    forms_work_Work_find_among_more(stack, l8 + 8ull, l9, l33, l30);
+                                                                                                                    const u32 t539 = load32(l8 + 12u);
+                                                                                                                    l33 = t539;
+                                                                                                                    const u32 t540 = load8(l8 + 8u);
+                                                                                                                    v536 = t540; goto L536;
                                                                                                                 }
                                                                                                                 {
-                                                                                                                    if (l41 == 0) goto L724;
-                                                                                                                    const u64 t725 = load32(l0 + 4ull);
-                                                                                                                    l8 = (u64)(l33 + l38);
-                                                                                                                    l14 = (u64)(l38 + l42);
-                                                                                                                    if (t725 != (l8 - l14)) goto L724;
+                                                                                                                    if (l37 == 0) goto L541;
+                                                                                                                    const u64 t542 = load32(l0 + 4ull);
+                                                                                                                    l2 = (u64)(l30 + l35);
+                                                                                                                    l14 = (u64)(l33 + l35);
+                                                                                                                    if (t542 != (l2 - l14)) goto L541;
                                                                                                                     l12 = 17ull - (l14 << 3);
-                                                                                                                    l14 = (l8 ^ 18446744073709551615ull) + l14;
-                                                                                                                    l8 = l0 + (l8 << 3);
-                                                                                                                    L726:;
+                                                                                                                    l14 = (l2 ^ 18446744073709551615ull) + l14;
+                                                                                                                    l2 = l0 + (l2 << 3);
+                                                                                                                    L543:;
                                                                                                                     {
                                                                                                                         l14 = l14 + 1ull;
-                                                                                                                        if (l14 == 0) goto L508;
-                                                                                                                        l0 = l8 - 7ull;
-                                                                                                                        l15 = l8 + l12;
-                                                                                                                        l8 = l8 - 8ull;
-                                                                                                                        const u32 t727 = load8(l15);
-                                                                                                                        const u32 t728 = load8(l0);
-                                                                                                                        if (t727 == t728) goto L726;
+                                                                                                                        if (l14 == 0) goto L325;
+                                                                                                                        l0 = l2 - 7ull;
+                                                                                                                        l1 = l2 + l12;
+                                                                                                                        l2 = l2 - 8ull;
+                                                                                                                        const u32 t544 = load8(l1);
+                                                                                                                        const u32 t545 = load8(l0);
+                                                                                                                        if (t544 == t545) goto L543;
                                                                                                                     }
                                                                                                                 }
-                                                                                                                L724:;
-                                                                                                                forms_work_Work_find_among_few(stack, l10 + 16ull, l9, l42, l33);
-                                                                                                                const u32 t729 = load32(l10 + 20u);
-                                                                                                                l42 = t729;
-                                                                                                                const u32 t730 = load8(l10 + 16u);
-                                                                                                                v719 = t730;
+                                                                                                                L541:;
+                                                                                                                forms_work_Work_find_among_few(stack, l8 + 16ull, l9, l33, l30);
+                                                                                                                const u32 t546 = load32(l8 + 20u);
+                                                                                                                l33 = t546;
+                                                                                                                const u32 t547 = load8(l8 + 16u);
+                                                                                                                v536 = t547;
                                                                                                             }
-                                                                                                            L719:;
-                                                                                                            if ((v719 & 255u) != 1u) goto L507;
-                                                                                                            goto L506;
+                                                                                                            L536:;
+                                                                                                            if ((v536 & 255u) != 1u) goto L324;
+                                                                                                            goto L323;
                                                                                                         }
-                                                                                                        L683:;
-                                                                                                        functions_form_calls_delete_definition(stack, l10 + 280ull, l9, l10 + 168ull);
-                                                                                                        goto L505;
+                                                                                                        L500:;
+                                                                                                        functions_form_calls_delete_definition(stack, l8 + 280ull, l9, l8 + 168ull);
+                                                                                                        goto L322;
                                                                                                     }
-                                                                                                    L682:;
-                                                                                                    functions_form_calls_delete_all(stack, l10 + 280ull, l9);
-                                                                                                    goto L505;
+                                                                                                    L499:;
+                                                                                                    functions_form_calls_delete_all(stack, l8 + 280ull, l9);
+                                                                                                    goto L322;
                                                                                                 }
-                                                                                                L681:;
-                                                                                                functions_form_calls_list_names(stack, l10 + 280ull, l9, l10 + 168ull);
-                                                                                                goto L505;
+                                                                                                L498:;
+                                                                                                functions_form_calls_list_names(stack, l8 + 280ull, l9, l8 + 168ull);
+                                                                                                goto L322;
                                                                                             }
-                                                                                            L680:;
-                                                                                            store8(l10 + 280u, (u8)1u);
-                                                                                            goto L505;
+                                                                                            L497:;
+                                                                                            store8(l8 + 280u, (u8)1u);
+                                                                                            goto L322;
                                                                                         }
-                                                                                        L543:;
-                                                                                        l12 = l10 + 264ull;
+                                                                                        L360:;
+                                                                                        l10 = l8 + 264ull;
                                                                                         l0 = l9;
-                                                                                        const u32 t731 = load8(l9 + 56ull);
-                                                                                        l37 = t731;
-                                                                                        l11 = l10 + 112ull;
-                                                                                        l16 = stack - 16ull;
-                                                                                        stack = l16;
+                                                                                        const u32 t548 = load8(l9 + 56ull);
+                                                                                        l32 = t548;
+                                                                                        l1 = l8 + 112ull;
+                                                                                        l12 = stack - 16ull;
+                                                                                        stack = l12;
                                                                                         {
                                                                                             {
-                                                                                                l2 = l0 + 20ull;
-                                                                                                const u32 t734 = load32(l2);
-                                                                                                l36 = t734;
-                                                                                                devices_slice_source_SliceSourceSource_take_held(stack, l11, l37, l0);
-                                                                                                const u64 t735 = l12;
-                                                                                                u32 v736;
+                                                                                                l16 = l0 + 20ull;
+                                                                                                const u32 t551 = load32(l16);
+                                                                                                l33 = t551;
+                                                                                                devices_slice_source_SliceSourceSource_take_held(stack, l1, l32, l0);
+                                                                                                const u64 t552 = l10;
+                                                                                                u32 v553;
                                                                                                 {
                                                                                                     {
                                                                                                         {
-                                                                                                            const u32 t739 = load8(l11 + 17ull);
-                                                                                                            if (t739) goto L738;
-                                                                                                            L740:;
+                                                                                                            const u32 t556 = load8(l1 + 17ull);
+                                                                                                            if (t556) goto L555;
+                                                                                                            L557:;
                                                                                                             {
-                                                                                                                const u64 t741 = load64(l11 + 8u);
-                                                                                                                l14 = t741;
-                                                                                                                if (l14 == 0) {
-                                                                                                                    const u32 t743 = load8(l11 + 16ull);
-                                                                                                                    if (t743) goto L737;
-                                                                                                                    store8(l11 + 17ull, (u8)1u);
-                                                                                                                    goto L738;
+                                                                                                                const u64 t558 = load64(l1 + 8u);
+                                                                                                                l2 = t558;
+                                                                                                                if (l2 == 0) {
+                                                                                                                    const u32 t560 = load8(l1 + 16ull);
+                                                                                                                    if (t560) goto L554;
+                                                                                                                    store8(l1 + 17ull, (u8)1u);
+                                                                                                                    goto L555;
                                                                                                                 }
-                                                                                                                store64(l11 + 8u, l14 - 1ull);
-                                                                                                                const u64 t744 = load64(l11);
-                                                                                                                l14 = t744;
-                                                                                                                store64(l11, l14 + 1ull);
-                                                                                                                const u32 t745 = load8(l14);
-                                                                                                                l41 = t745;
-                                                                                                                if (l41 == l37) {
-                                                                                                                    l41 = 0u;
-                                                                                                                    v736 = 1u; goto L736;
+                                                                                                                store64(l1 + 8u, l2 - 1ull);
+                                                                                                                const u64 t561 = load64(l1);
+                                                                                                                l2 = t561;
+                                                                                                                store64(l1, l2 + 1ull);
+                                                                                                                const u32 t562 = load8(l2);
+                                                                                                                l30 = t562;
+                                                                                                                if (l30 == l32) {
+                                                                                                                    l30 = 0u;
+                                                                                                                    v553 = 1u; goto L553;
                                                                                                                 }
-                                                                                                                store64(l16 + 8u, 0ull);
-                                                                                                                store8(l16 + 9u, (u8)l41);
+                                                                                                                store64(l12 + 8u, 0ull);
+                                                                                                                store8(l12 + 9u, (u8)l30);
                                                                                                                 {
-                                                                                                                    const u32 t748 = load32(l0 + 28ull);
-                                                                                                                    l14 = l0 + 20ull;
-                                                                                                                    const u32 t749 = load32(l14);
-                                                                                                                    l34 = t749;
-                                                                                                                    const u32 t750 = load32(l0 + 16ull);
-                                                                                                                    l39 = l34 + t750;
-                                                                                                                    const u32 t751 = load32(l0 + 24ull);
-                                                                                                                    if (t748 == (l39 + t751)) {
-                                                                                                                        const u32 t753 = space_space_Space_push_over_spare(stack, l0, l16 + 8ull);
-                                                                                                                        if (t753) goto L747;
-                                                                                                                        l41 = 0u;
-                                                                                                                        v736 = 0u; goto L736;
+                                                                                                                    const u32 t565 = load32(l0 + 28ull);
+                                                                                                                    l2 = l0 + 20ull;
+                                                                                                                    const u32 t566 = load32(l2);
+                                                                                                                    l36 = t566;
+                                                                                                                    const u32 t567 = load32(l0 + 16ull);
+                                                                                                                    l37 = l36 + t567;
+                                                                                                                    const u32 t568 = load32(l0 + 24ull);
+                                                                                                                    if (t565 == (l37 + t568)) {
+                                                                                                                        const u32 t570 = space_space_Space_push_over_spare(stack, l0, l12 + 8ull);
+                                                                                                                        if (t570) goto L564;
+                                                                                                                        l30 = 0u;
+                                                                                                                        v553 = 0u; goto L553;
                                                                                                                     }
-                                                                                                                    l1 = l0 + 32ull;
-                                                                                                                    const u32 t754 = load32(l1);
-                                                                                                                    l33 = t754;
-                                                                                                                    const u64 t755 = load64(l0);
-                                                                                                                    l15 = t755 + ((u64)l39 << 3);
-                                                                                                                    store8(l15, (u8)0u);
-                                                                                                                    store32(l15 + 4ull, 0u);
-                                                                                                                    store8(l15 + 1ull, (u8)l41);
-                                                                                                                    store32(l14, l34 + 1u);
-                                                                                                                    store32(l1, l33);
+                                                                                                                    l17 = l0 + 32ull;
+                                                                                                                    const u32 t571 = load32(l17);
+                                                                                                                    l39 = t571;
+                                                                                                                    const u64 t572 = load64(l0);
+                                                                                                                    l13 = t572 + ((u64)l37 << 3);
+                                                                                                                    store8(l13, (u8)0u);
+                                                                                                                    store32(l13 + 4ull, 0u);
+                                                                                                                    store8(l13 + 1ull, (u8)l30);
+                                                                                                                    store32(l2, l36 + 1u);
+                                                                                                                    store32(l17, l39);
                                                                                                                 }
-                                                                                                                L747:;
-                                                                                                                devices_slice_source_SliceSourceSource_take_held(stack, l11, l37, l0);
-                                                                                                                const u32 t756 = load8(l11 + 17ull);
-                                                                                                                if (t756 == 0) goto L740;
+                                                                                                                L564:;
+                                                                                                                devices_slice_source_SliceSourceSource_take_held(stack, l1, l32, l0);
+                                                                                                                const u32 t573 = load8(l1 + 17ull);
+                                                                                                                if (t573 == 0) goto L557;
                                                                                                             }
                                                                                                         }
-                                                                                                        L738:;
-                                                                                                        const u32 t757 = load32(l2);
-                                                                                                        l41 = t757 == l36;
-                                                                                                        v736 = l41 ? 4u : 1u; goto L736;
+                                                                                                        L555:;
+                                                                                                        const u32 t574 = load32(l16);
+                                                                                                        l30 = t574 == l33;
+                                                                                                        v553 = l30 ? 4u : 1u; goto L553;
                                                                                                     }
-                                                                                                    L737:;
-                                                                                                    l0 = l11 + 24ull;
-                                                                                                    const u64 t758 = load64(l0);
-                                                                                                    store64(l0, t758 + 1ull);
-                                                                                                    l41 = 4u;
-                                                                                                    v736 = 4u;
+                                                                                                    L554:;
+                                                                                                    l0 = l1 + 24ull;
+                                                                                                    const u64 t575 = load64(l0);
+                                                                                                    store64(l0, t575 + 1ull);
+                                                                                                    l30 = 4u;
+                                                                                                    v553 = 4u;
                                                                                                 }
-                                                                                                L736:;
-                                                                                                store8(t735, (u8)v736);
-                                                                                                store32(l12 + 4ull, 0u);
-                                                                                                store8(l12 + 1ull, (u8)l41);
-                                                                                                stack = l16 + 16ull;
-                                                                                                goto L732;
+                                                                                                L553:;
+                                                                                                store8(t552, (u8)v553);
+                                                                                                store32(l10 + 4ull, 0u);
+                                                                                                store8(l10 + 1ull, (u8)l30);
+                                                                                                stack = l12 + 16ull;
+                                                                                                goto L549;
                                                                                             }
                                                                                             trap();
                                                                                         }
-                                                                                        L732:;
+                                                                                        L549:;
                                                                                     }
-                                                                                    L542:;
-                                                                                    const u32 t759 = load32(l10 + 268u);
-                                                                                    l40 = t759;
-                                                                                    const u32 t760 = load8(l10 + 265u);
-                                                                                    l33 = t760;
-                                                                                    const u32 t761 = load8(l10 + 264u);
-                                                                                    l41 = t761;
-                                                                                    goto L504;
+                                                                                    L359:;
+                                                                                    const u32 t576 = load32(l8 + 268u);
+                                                                                    l32 = t576;
+                                                                                    const u32 t577 = load8(l8 + 265u);
+                                                                                    l30 = t577;
+                                                                                    const u32 t578 = load8(l8 + 264u);
+                                                                                    l37 = t578;
+                                                                                    goto L321;
                                                                                 }
-                                                                                L538:;
-                                                                                l40 = 0u;
-                                                                                goto L503;
+                                                                                L355:;
+                                                                                l32 = 0u;
+                                                                                goto L320;
                                                                             }
-                                                                            L511:;
+                                                                            L328:;
                                                                             core_scan_protect(stack, l9);
                                                                         }
-                                                                        L510:;
-                                                                        const u64 t762 = load64(l9 + 72ull);
-                                                                        l8 = t762;
-                                                                        const u32 t763 = load32(l9 + 20ull);
-                                                                        l45 = t763;
+                                                                        L327:;
+                                                                        const u64 t579 = load64(l9 + 72ull);
+                                                                        l2 = t579;
+                                                                        const u32 t580 = load32(l9 + 20ull);
+                                                                        l40 = t580;
                                                                     }
-                                                                    L509:;
-                                                                    store64(l9 + 72ull, l8 + 1ull);
-                                                                    store32(l9 + 60ull, l45);
-                                                                    l8 = l9 + 80ull;
-                                                                    l30 = l30 + l31;
-                                                                    const u32 t764 = load32(l8);
-                                                                    l33 = t764;
-                                                                    store32(l8, (l30 > l33) ? l30 : l33);
+                                                                    L326:;
+                                                                    store64(l9 + 72ull, l2 + 1ull);
+                                                                    store32(l9 + 60ull, l40);
+                                                                    l2 = l9 + 80ull;
+                                                                    l31 = l31 + l38;
+                                                                    const u32 t581 = load32(l2);
+                                                                    l30 = t581;
+                                                                    store32(l2, (l30 < l31) ? l31 : l30);
+                                                                    l31 = 0u;
                                                                     l30 = 0u;
-                                                                    l33 = 0u;
-                                                                    goto L490;
+                                                                    goto L308;
                                                                 }
-                                                                L508:;
+                                                                L325:;
                                                                 store64(l9 + 44ull, 0ull);
-                                                                l42 = 0u;
-                                                                goto L506;
+                                                                l33 = 0u;
+                                                                goto L323;
                                                             }
-                                                            L507:;
-                                                            store32(l10 + 284u, 0u);
-                                                            store16(l10 + 280u, (u16)1u);
-                                                            goto L505;
+                                                            L324:;
+                                                            store32(l8 + 284u, 0u);
+                                                            store16(l8 + 280u, (u16)1u);
+                                                            goto L322;
                                                         }
-                                                        L506:;
-                                                        const u32 t765 = load32(l10 + 212u);
-                                                        l33 = t765;
-                                                        const u32 t766 = load32(l10 + 208u);
-                                                        l41 = t766;
+                                                        L323:;
+                                                        const u32 t582 = load32(l8 + 212u);
+                                                        l30 = t582;
+                                                        const u32 t583 = load32(l8 + 208u);
+                                                        l37 = t583;
                                                         {
                                                             {
                                                                 {
                                                                     {
                                                                         {
-                                                                            if ((l40 & 1u) == 0) goto L771;
-                                                                            if (l33 >= l41) goto L771;
-                                                                            const u32 t772 = load32(l9 + 44ull);
-                                                                            const u32 t773 = load32(l9 + 48ull);
-                                                                            const u32 t774 = store_form_cells_place_of(stack, l9, t772, t773, l42);
-                                                                            l43 = t774;
-                                                                            const u64 t775 = load64(l9);
-                                                                            l14 = t775;
-                                                                            l8 = l14 + ((u64)l43 << 3);
-                                                                            const u32 t776 = load32(l8 + 12ull);
-                                                                            l34 = t776;
-                                                                            const u32 t777 = load32(l8 + 20ull);
-                                                                            l37 = t777;
-                                                                            l40 = l34 - l37;
-                                                                            if (l40 == 0) {
-                                                                                l40 = 0u;
-                                                                                goto L767;
+                                                                            if ((l32 & 1u) == 0) goto L588;
+                                                                            if (l30 >= l37) goto L588;
+                                                                            const u32 t589 = load32(l9 + 44ull);
+                                                                            const u32 t590 = load32(l9 + 48ull);
+                                                                            const u32 t591 = store_form_cells_place_of(stack, l9, t589, t590, l33);
+                                                                            l36 = t591;
+                                                                            const u64 t592 = load64(l9);
+                                                                            l14 = t592;
+                                                                            l2 = l14 + ((u64)l36 << 3);
+                                                                            const u32 t593 = load32(l2 + 12ull);
+                                                                            l43 = t593;
+                                                                            const u32 t594 = load32(l2 + 20ull);
+                                                                            l39 = t594;
+                                                                            l32 = l43 - l39;
+                                                                            if (l32 == 0) {
+                                                                                l32 = 0u;
+                                                                                goto L584;
                                                                             }
-                                                                            const u32 t779 = load32(l8 + 4ull);
-                                                                            l39 = (l43 + t779) + 3u;
-                                                                            l43 = l37 + l39;
+                                                                            const u32 t596 = load32(l2 + 4ull);
+                                                                            l44 = (l36 + t596) + 3u;
+                                                                            l36 = l39 + l44;
                                                                             {
-                                                                                const u32 t781 = load32(l9 + 28ull);
-                                                                                l37 = t781;
-                                                                                const u32 t782 = load32(l9 + 20ull);
-                                                                                const u32 t783 = load32(l9 + 24ull);
-                                                                                l36 = t783;
-                                                                                const u32 t784 = load32(l9 + 16ull);
-                                                                                if (l40 <= (l37 - (t782 + (l36 + t784)))) {
-                                                                                    l15 = (u64)l40;
-                                                                                    l12 = (u64)l43;
+                                                                                const u32 t598 = load32(l9 + 28ull);
+                                                                                l39 = t598;
+                                                                                const u32 t599 = load32(l9 + 20ull);
+                                                                                const u32 t600 = load32(l9 + 24ull);
+                                                                                l42 = t600;
+                                                                                const u32 t601 = load32(l9 + 16ull);
+                                                                                if (l32 <= (l39 - (t599 + (l42 + t601)))) {
+                                                                                    l1 = (u64)l32;
+                                                                                    l12 = (u64)l36;
                                                                                     {
                                                                                         {
-                                                                                            if (l40 >= 8u) {
-                                                                                                if (l40 == 8u) goto L786;
-                                                                                                l8 = l14 + (l12 << 3);
-                                                                                                l0 = l15;
-                                                                                                goto L787;
+                                                                                            if (l32 >= 8u) {
+                                                                                                if (l32 == 8u) goto L603;
+                                                                                                l2 = l14 + (l12 << 3);
+                                                                                                l0 = l1;
+                                                                                                goto L604;
                                                                                             }
-                                                                                            if (l40 >= 4u) {
-                                                                                                l8 = l14 + (l12 << 3);
-                                                                                                const u32 t790 = load8(l8 + 24ull);
-                                                                                                const u32 t791 = load8(l8 + 16ull);
-                                                                                                const u32 t792 = load8(l8 + 8ull);
-                                                                                                const u32 t793 = load8(l8);
-                                                                                                if (((t790 + t791) | (t792 + t793)) & 255u) goto L771;
-                                                                                                l0 = l14 + ((l12 + l15) << 3);
-                                                                                                const u32 t794 = load8(l0 - 8ull);
-                                                                                                const u32 t795 = load8(l0 - 16ull);
-                                                                                                const u32 t796 = load8(l0 - 24ull);
+                                                                                            if (l32 >= 4u) {
+                                                                                                l2 = l14 + (l12 << 3);
+                                                                                                const u32 t607 = load8(l2 + 24ull);
+                                                                                                const u32 t608 = load8(l2 + 16ull);
+                                                                                                const u32 t609 = load8(l2 + 8ull);
+                                                                                                const u32 t610 = load8(l2);
+                                                                                                if (((t607 + t608) | (t609 + t610)) & 255u) goto L588;
+                                                                                                l0 = l14 + ((l1 + l12) << 3);
+                                                                                                const u32 t611 = load8(l0 - 8ull);
+                                                                                                const u32 t612 = load8(l0 - 16ull);
+                                                                                                const u32 t613 = load8(l0 - 24ull);
                                                                                                 l0 = l0 - 32ull;
-                                                                                                const u32 t797 = load8(l0);
-                                                                                                if (((t794 + t795) | (t796 + t797)) & 255u) goto L771;
-                                                                                                l33 = l36 + l40;
-                                                                                                l12 = (u64)(l37 - l33);
-                                                                                                core_slice_edits_slice_T_copy_from_slice(stack, l14 + (l12 << 3), l8, 4ull);
-                                                                                                core_slice_edits_slice_T_copy_from_slice(stack, (((l12 + l15) << 3) + l14) - 32ull, l0, 4ull);
-                                                                                                goto L768;
+                                                                                                const u32 t614 = load8(l0);
+                                                                                                if (((t611 + t612) | (t613 + t614)) & 255u) goto L588;
+                                                                                                l30 = l32 + l42;
+                                                                                                l12 = (u64)(l39 - l30);
+                                                                                                core_slice_edits_slice_T_copy_from_slice(stack, l14 + (l12 << 3), l2, 4ull);
+                                                                                                core_slice_edits_slice_T_copy_from_slice(stack, (((l1 + l12) << 3) + l14) - 32ull, l0, 4ull);
+                                                                                                goto L585;
                                                                                             }
-                                                                                            l8 = l14 + (l12 << 3);
-                                                                                            const u32 t798 = load8(l8);
-                                                                                            l43 = t798;
-                                                                                            if (l40 == 1u) goto L780;
-                                                                                            const u32 t799 = load8(l8 + 8ull);
-                                                                                            if (t799 | (l43 & 255u)) goto L771;
-                                                                                            l0 = l14 + ((l12 + l15) << 3);
-                                                                                            const u32 t800 = load8(l0 - 8ull);
+                                                                                            l2 = l14 + (l12 << 3);
+                                                                                            const u32 t615 = load8(l2);
+                                                                                            l36 = t615;
+                                                                                            if (l32 == 1u) goto L597;
+                                                                                            const u32 t616 = load8(l2 + 8ull);
+                                                                                            if (t616 | (l36 & 255u)) goto L588;
+                                                                                            l0 = l14 + ((l1 + l12) << 3);
+                                                                                            const u32 t617 = load8(l0 - 8ull);
                                                                                             l0 = l0 - 16ull;
-                                                                                            const u32 t801 = load8(l0);
-                                                                                            if (t800 | t801) goto L771;
-                                                                                            l33 = l36 + l40;
-                                                                                            l12 = (u64)(l37 - l33);
-                                                                                            core_slice_edits_slice_T_copy_from_slice(stack, l14 + (l12 << 3), l8, 2ull);
-                                                                                            core_slice_edits_slice_T_copy_from_slice(stack, (((l12 + l15) << 3) + l14) - 16ull, l0, 2ull);
-                                                                                            goto L768;
+                                                                                            const u32 t618 = load8(l0);
+                                                                                            if (t617 | t618) goto L588;
+                                                                                            l30 = l32 + l42;
+                                                                                            l12 = (u64)(l39 - l30);
+                                                                                            core_slice_edits_slice_T_copy_from_slice(stack, l14 + (l12 << 3), l2, 2ull);
+                                                                                            core_slice_edits_slice_T_copy_from_slice(stack, (((l1 + l12) << 3) + l14) - 16ull, l0, 2ull);
+                                                                                            goto L585;
                                                                                         }
-                                                                                        L787:;
-                                                                                        L802:;
+                                                                                        L604:;
+                                                                                        L619:;
                                                                                         {
-                                                                                            const u32 t803 = load8(l8 + 56ull);
-                                                                                            const u32 t804 = load8(l8 + 48ull);
-                                                                                            const u32 t805 = load8(l8 + 40ull);
-                                                                                            const u32 t806 = load8(l8 + 32ull);
-                                                                                            const u32 t807 = load8(l8 + 24ull);
-                                                                                            const u32 t808 = load8(l8 + 16ull);
-                                                                                            const u32 t809 = load8(l8 + 8ull);
-                                                                                            const u32 t810 = load8(l8);
-                                                                                            if (t803 | ((t804 + (t805 + (t806 + (t807 + (t808 + (t809 + t810)))))) & 255u)) goto L771;
-                                                                                            l8 = l8 + 64ull;
+                                                                                            const u32 t620 = load8(l2 + 56ull);
+                                                                                            const u32 t621 = load8(l2 + 48ull);
+                                                                                            const u32 t622 = load8(l2 + 40ull);
+                                                                                            const u32 t623 = load8(l2 + 32ull);
+                                                                                            const u32 t624 = load8(l2 + 24ull);
+                                                                                            const u32 t625 = load8(l2 + 16ull);
+                                                                                            const u32 t626 = load8(l2 + 8ull);
+                                                                                            const u32 t627 = load8(l2);
+                                                                                            if (t620 | ((t621 + (t622 + (t623 + (t624 + (t625 + (t626 + t627)))))) & 255u)) goto L588;
+                                                                                            l2 = l2 + 64ull;
                                                                                             l0 = l0 - 8ull;
-                                                                                            if (l0 >= 9ull) goto L802;
+                                                                                            if (l0 >= 9ull) goto L619;
                                                                                         }
                                                                                     }
-                                                                                    L786:;
-                                                                                    l0 = l12 + l15;
-                                                                                    l8 = l14 + (l0 << 3);
-                                                                                    const u32 t811 = load8(l8 - 56ull);
-                                                                                    const u32 t812 = load8(l8 - 64ull);
-                                                                                    const u32 t813 = load8(l8 - 48ull);
-                                                                                    const u32 t814 = load8(l8 - 40ull);
-                                                                                    const u32 t815 = load8(l8 - 32ull);
-                                                                                    const u32 t816 = load8(l8 - 24ull);
-                                                                                    const u32 t817 = load8(l8 - 16ull);
-                                                                                    const u32 t818 = load8(l8 - 8ull);
-                                                                                    if ((((((((t811 + t812) + t813) + t814) + t815) + t816) + t817) & 255u) | t818) goto L771;
-                                                                                    l33 = l36 + l40;
-                                                                                    l2 = (u64)(l37 - l33);
-                                                                                    if (l40 > 24u) goto L770;
-                                                                                    if (l40 != 8u) {
-                                                                                        l1 = l14 - 64ull;
-                                                                                        l8 = l1 + (l0 << 3);
-                                                                                        l0 = l1 + ((l2 + l15) << 3);
-                                                                                        L820:;
+                                                                                    L603:;
+                                                                                    l0 = l1 + l12;
+                                                                                    l2 = l14 + (l0 << 3);
+                                                                                    const u32 t628 = load8(l2 - 56ull);
+                                                                                    const u32 t629 = load8(l2 - 64ull);
+                                                                                    const u32 t630 = load8(l2 - 48ull);
+                                                                                    const u32 t631 = load8(l2 - 40ull);
+                                                                                    const u32 t632 = load8(l2 - 32ull);
+                                                                                    const u32 t633 = load8(l2 - 24ull);
+                                                                                    const u32 t634 = load8(l2 - 16ull);
+                                                                                    const u32 t635 = load8(l2 - 8ull);
+                                                                                    if ((((((((t628 + t629) + t630) + t631) + t632) + t633) + t634) & 255u) | t635) goto L588;
+                                                                                    l30 = l32 + l42;
+                                                                                    l10 = (u64)(l39 - l30);
+                                                                                    if (l32 > 24u) goto L587;
+                                                                                    if (l32 != 8u) {
+                                                                                        l13 = l14 - 64ull;
+                                                                                        l2 = l13 + (l0 << 3);
+                                                                                        l0 = l13 + ((l1 + l10) << 3);
+                                                                                        L637:;
                                                                                         {
-                                                                                            core_slice_edits_slice_T_copy_from_slice(stack, l0, l8, 8ull);
-                                                                                            l8 = l8 - 64ull;
+                                                                                            core_slice_edits_slice_T_copy_from_slice(stack, l0, l2, 8ull);
+                                                                                            l2 = l2 - 64ull;
                                                                                             l0 = l0 - 64ull;
-                                                                                            l15 = l15 - 8ull;
-                                                                                            if (l15 > 8ull) goto L820;
+                                                                                            l1 = l1 - 8ull;
+                                                                                            if (l1 > 8ull) goto L637;
                                                                                         }
                                                                                     }
-                                                                                    core_slice_edits_slice_T_copy_from_slice(stack, l14 + (l2 << 3), l14 + (l12 << 3), 8ull);
-                                                                                    store32(l9 + 24ull, l33);
-                                                                                    goto L767;
+                                                                                    core_slice_edits_slice_T_copy_from_slice(stack, l14 + (l10 << 3), l14 + (l12 << 3), 8ull);
+                                                                                    store32(l9 + 24ull, l30);
+                                                                                    goto L584;
                                                                                 }
-                                                                                store_item_copies_load_items_over_spare(stack, l10, l9, l43, l34 + l39);
-                                                                                const u32 t821 = load8(l10);
-                                                                                if (t821 != 1u) goto L771;
-                                                                                const u32 t822 = load32(l10 + 4u);
-                                                                                l40 = t822;
-                                                                                goto L767;
+                                                                                store_item_copies_load_items_over_spare(stack, l8, l9, l36, l43 + l44);
+                                                                                const u32 t638 = load8(l8);
+                                                                                if (t638 != 1u) goto L588;
+                                                                                const u32 t639 = load32(l8 + 4u);
+                                                                                l32 = t639;
+                                                                                goto L584;
                                                                             }
-                                                                            L780:;
-                                                                            if ((l43 & 255u) == 0) goto L769;
+                                                                            L597:;
+                                                                            if ((l36 & 255u) == 0) goto L586;
                                                                         }
-                                                                        L771:;
-                                                                        const u32 t823 = forms_work_Work_fill_body(stack, l9, l42, l41, l33);
-                                                                        l33 = t823;
-                                                                        store32(l10 + 284u, 0u);
-                                                                        store8(l10 + 281u, (u8)0u);
-                                                                        store8(l10 + 280u, (u8)l33);
-                                                                        goto L505;
+                                                                        L588:;
+                                                                        const u32 t640 = forms_work_Work_fill_body(stack, l9, l33, l37, l30);
+                                                                        l30 = t640;
+                                                                        store32(l8 + 284u, 0u);
+                                                                        store8(l8 + 281u, (u8)0u);
+                                                                        store8(l8 + 280u, (u8)l30);
+                                                                        goto L322;
                                                                     }
-                                                                    L770:;
-                                                                    space_copies_copy_long(stack, l14, l12, l0, l2);
-                                                                    goto L768;
+                                                                    L587:;
+                                                                    space_copies_copy_long(stack, l14, l12, l0, l10);
+                                                                    goto L585;
                                                                 }
-                                                                L769:;
-                                                                l33 = l36 + 1u;
-                                                                l0 = l14 + ((u64)(l37 - l33) << 3);
+                                                                L586:;
+                                                                l30 = l42 + 1u;
+                                                                l0 = l14 + ((u64)(l39 - l30) << 3);
                                                                 store8(l0, (u8)0u);
-                                                                const u32 t824 = load32(l8 + 4ull);
-                                                                store32(l0 + 4ull, t824);
-                                                                const u32 t825 = load8(l8 + 1ull);
-                                                                store8(l0 + 1ull, (u8)t825);
+                                                                const u32 t641 = load32(l2 + 4ull);
+                                                                store32(l0 + 4ull, t641);
+                                                                const u32 t642 = load8(l2 + 1ull);
+                                                                store8(l0 + 1ull, (u8)t642);
                                                             }
-                                                            L768:;
-                                                            store32(l9 + 24ull, l33);
+                                                            L585:;
+                                                            store32(l9 + 24ull, l30);
                                                         }
-                                                        L767:;
-                                                        store32(l10 + 284u, l40);
-                                                        store16(l10 + 280u, (u16)2u);
+                                                        L584:;
+                                                        store32(l8 + 284u, l32);
+                                                        store16(l8 + 280u, (u16)2u);
                                                     }
-                                                    L505:;
-                                                    const u32 t826 = load32(l10 + 284u);
-                                                    l40 = t826;
-                                                    const u32 t827 = load8(l10 + 281u);
-                                                    l33 = t827;
-                                                    const u32 t828 = load8(l10 + 280u);
-                                                    l41 = t828;
+                                                    L322:;
+                                                    const u32 t643 = load32(l8 + 284u);
+                                                    l32 = t643;
+                                                    const u32 t644 = load8(l8 + 281u);
+                                                    l30 = t644;
+                                                    const u32 t645 = load8(l8 + 280u);
+                                                    l37 = t645;
                                                 }
-                                                L504:;
+                                                L321:;
                                                 {
-                                                    switch ((u32)(((u64)l41 & 255ull)) - 1u) {
-                                                    case 0: goto L829;
-                                                    case 1: goto L503;
-                                                    case 2: goto L503;
-                                                    case 3: goto L500;
-                                                    default: goto L501;
+                                                    switch ((u32)(((u64)l37 & 255ull)) - 1u) {
+                                                    case 0: goto L646;
+                                                    case 1: goto L320;
+                                                    case 2: goto L320;
+                                                    case 3: goto L317;
+                                                    default: goto L318;
                                                     }
                                                 }
-                                                L829:;
-                                                l8 = l9 + 20ull;
-                                                const u32 t830 = load32(l8);
-                                                l33 = t830;
-                                                core_delivery_deliver(stack, l9, l32, l45);
-                                                const u32 t831 = load32(l8);
-                                                l32 = t831;
-                                                v502 = l33 + (l30 + l38); goto L502;
+                                                L646:;
+                                                l2 = l9 + 20ull;
+                                                const u32 t647 = load32(l2);
+                                                l30 = t647;
+                                                core_delivery_deliver(stack, l9, l34, l40);
+                                                const u32 t648 = load32(l2);
+                                                l34 = t648;
+                                                v319 = l30 + (l31 + l35); goto L319;
                                             }
-                                            L503:;
-                                            l38 = l30 + l31;
-                                            const u64 t832 = load64(l9);
-                                            const u64 t833 = load32(l9 + 16ull);
-                                            l8 = t832 + (t833 << 3);
+                                            L320:;
+                                            l35 = l31 + l38;
+                                            const u64 t649 = load64(l9);
+                                            const u64 t650 = load32(l9 + 16ull);
+                                            l2 = t649 + (t650 << 3);
                                             {
-                                                const u32 t835 = load32(l9 + 32ull);
-                                                l30 = t835;
-                                                if (l35 == l30) {
-                                                    const u32 t837 = load32((l8 + ((u64)l32 << 3)) + 4ull);
-                                                    l30 = t837;
-                                                    l33 = l30 ? (l35 - l30) : 0u;
-                                                    goto L834;
+                                                const u32 t652 = load32(l9 + 32ull);
+                                                l31 = t652;
+                                                if (l41 == l31) {
+                                                    const u32 t654 = load32((l2 + ((u64)l34 << 3)) + 4ull);
+                                                    l31 = t654;
+                                                    l30 = l31 ? (l41 - l31) : 0u;
+                                                    goto L651;
                                                 }
-                                                if (l30 <= l32) {
-                                                    l33 = l30;
-                                                    goto L834;
+                                                if (l31 <= l34) {
+                                                    l30 = l31;
+                                                    goto L651;
                                                 }
-                                                L839:;
+                                                L656:;
                                                 {
-                                                    const u32 t840 = load32((l8 + ((u64)(l30 - 1u) << 3)) + 4ull);
-                                                    l33 = t840;
-                                                    l30 = l30 - l33;
-                                                    l33 = l33 ? l30 : 0u;
-                                                    if (l32 < l33) goto L839;
+                                                    const u32 t657 = load32((l2 + ((u64)(l31 - 1u) << 3)) + 4ull);
+                                                    l30 = t657;
+                                                    l31 = l31 - l30;
+                                                    l30 = l30 ? l31 : 0u;
+                                                    if (l34 < l30) goto L656;
                                                 }
                                             }
-                                            L834:;
-                                            store32(l9 + 20ull, l32);
-                                            store32(l9 + 32ull, l33);
-                                            v502 = l38 + l40;
+                                            L651:;
+                                            store32(l9 + 20ull, l34);
+                                            store32(l9 + 32ull, l30);
+                                            v319 = l32 + l35;
                                         }
-                                        L502:;
-                                        l30 = v502;
-                                        store32(l9 + 60ull, l32);
-                                        l32 = 0u;
-                                        l33 = 0u;
-                                        goto L499;
+                                        L319:;
+                                        l31 = v319;
+                                        store32(l9 + 60ull, l34);
+                                        l34 = 0u;
+                                        l30 = 0u;
+                                        goto L316;
                                     }
-                                    L501:;
-                                    const u32 t841 = load32(l9 + 20ull);
-                                    store32(l9 + 60ull, t841);
-                                    l33 = 2u;
-                                    goto L498;
+                                    L318:;
+                                    const u32 t658 = load32(l9 + 20ull);
+                                    store32(l9 + 60ull, t658);
+                                    l30 = 2u;
+                                    goto L315;
                                 }
-                                L500:;
-                                const u32 t842 = load32(l9 + 20ull);
-                                l30 = t842;
-                                store32(l9 + 60ull, l30);
-                                const u32 t843 = load32(l9 + 24ull);
-                                const u32 t844 = load32(l9 + 16ull);
-                                l30 = t843 + (l30 + t844);
-                                l32 = 1u;
-                                l38 = 1u << (l33 & 31);
-                                if (l38 & 3u) goto L499;
-                                if (l38 & 12u) goto L498;
-                                l8 = l9 + 80ull;
-                                const u32 t845 = load32(l8);
-                                l32 = t845;
-                                store32(l8, (l30 > l32) ? l30 : l32);
-                                goto L498;
+                                L317:;
+                                const u32 t659 = load32(l9 + 20ull);
+                                l31 = t659;
+                                store32(l9 + 60ull, l31);
+                                const u32 t660 = load32(l9 + 24ull);
+                                const u32 t661 = load32(l9 + 16ull);
+                                l31 = t660 + (l31 + t661);
+                                l34 = 1u;
+                                l35 = 1u << (l30 & 31);
+                                if (l35 & 3u) goto L316;
+                                if (l35 & 12u) goto L315;
+                                l2 = l9 + 80ull;
+                                const u32 t662 = load32(l2);
+                                l34 = t662;
+                                store32(l2, (l31 > l34) ? l31 : l34);
+                                goto L315;
                             }
-                            L499:;
-                            l8 = l9 + 72ull;
-                            const u64 t846 = load64(l8);
-                            store64(l8, t846 + 1ull);
-                            l8 = l9 + 80ull;
-                            const u32 t847 = load32(l8);
-                            l38 = t847;
-                            store32(l8, (l30 > l38) ? l30 : l38);
-                            l30 = 0u;
-                            if (l32 == 0) goto L490;
+                            L316:;
+                            l2 = l9 + 72ull;
+                            const u64 t663 = load64(l2);
+                            store64(l2, t663 + 1ull);
+                            l2 = l9 + 80ull;
+                            const u32 t664 = load32(l2);
+                            l35 = t664;
+                            store32(l2, (l31 > l35) ? l31 : l35);
+                            l31 = 0u;
+                            if (l34 == 0) goto L308;
                         }
-                        L498:;
-                        store8(l9 + 85ull, (u8)l33);
-                        l30 = 1u;
+                        L315:;
+                        store8(l9 + 85ull, (u8)l30);
+                        l31 = 1u;
                         store8(l9 + 84ull, (u8)1u);
                     }
-                    L490:;
-                    if ((l30 & 255u) == 0) {
+                    L308:;
+                    if ((l31 & 255u) == 0) {
                         l4 = l4 + 1ull;
                         if (l4 >= l7) goto L3;
                         goto L5;
                     }
                 }
-                l46 = (l33 & 255u) + 1u;
+                l46 = (l30 & 255u) + 1u;
             }
             L3:;
-            const u32 t849 = load32(l9 + 80ull);
-            l30 = t849;
-            const u64 t850 = load64(l9 + 72ull);
-            l9 = t850;
-            const u64 t851 = load64(l10 + 88u);
-            l7 = t851;
-            const u64 t852 = load64(l10 + 120u);
-            l4 = t852;
+            const u32 t666 = load32(l9 + 80ull);
+            l31 = t666;
+            const u64 t667 = load64(l9 + 72ull);
+            l9 = t667;
+            const u64 t668 = load64(l8 + 88u);
+            l7 = t668;
+            const u64 t669 = load64(l8 + 120u);
+            l4 = t669;
             store64(l20 + 32u, l5);
             l4 = l3 - l4;
             store64(l20 + 24u, (l3 < l4) ? 0ull : l4);
             store64(l20 + 16u, l7);
             store64(l20 + 8u, l9);
-            store32(l20 + 4u, l30);
+            store32(l20 + 4u, l31);
             store32(l20, l46);
-            stack = l10 + 288ull;
+            stack = l8 + 288ull;
             goto L1;
         }
         trap();

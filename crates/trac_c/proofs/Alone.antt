@@ -1,31 +1,39 @@
--- Steps of a turn that touch no device.
-use Rattle.std.specs.Prelude.{true}
+-- Steps of a turn that need no device.
+use Rattle.std.specs.Prelude.{true, List, [], ◌∷◌}
 use Rattle.trac_c.proofs.Words.{◌≡◌, ◌≢◌, ℕ, zero, suc, ◌+◌, ◌-◌, ◌<◌, ◌≤◌, Bool, false, not, Option, Some, None, refl, sym, ap, subst, arith, Text, Fate, MachineState, Moment, moment, awaited, next_function, is_none, nat_lt, ◌&&◌, if◌then◌else◌, is_short, waits_for_input, Goes, SomeTurned, Turn, Went, Over}
 use Rattle.std.proofs.lemmas.Bool.{and_right}
 use Rattle.trac_language.specs.declared.function.Function.{Function}
 use Rattle.trac_language.specs.declared.function.Function.TheVariants.{ReadString, ReadCharacter}
 use Rattle.trac_devices.specs.Devices.{Stream}
 use Rattle.trac_core.specs.declared.machine.session.Awaits.TheVariants.{Nothing}
-use Rattle.trac_core.specs.Performed.{performs, touches_device}
+use Rattle.trac_language.specs.State.{OpenCall, arguments}
+use Rattle.trac_language.specs.Rule.{Rule, EndCall, rule}
+use Rattle.trac_language.specs.Step.{function_of}
+use Rattle.trac_core.specs.Performed.{performed_by, performs, calls_device, needs_device_by, needs_device}
 use Rattle.trac_core.specs.Machine.{Answers}
 use Rattle.trac_core.specs.Advancing.{GoesAlone, StopsAlone, Advanced}
 use Rattle.trac_c.specs.declared.turn.Turn.TheVariants.{Waits, Full}
 use Rattle.trac_c.specs.Turned.{TurnsTo, EndsTurn}
 
 -- it waits for nothing
-awaits-none : (f : Option Function) → touches_device f ≡ false → awaited f ≡ Nothing
-awaits-none None alone = refl
-awaits-none (Some ReadString) alone = absurd cc
-awaits-none (Some ReadCharacter) alone = absurd cc
-awaits-none (Some _) alone = refl
+awaits-none : (f : Option Function) (given : List Text) → calls_device f given ≡ false → awaited f ≡ Nothing
+awaits-none None given alone = refl
+awaits-none (Some ReadString) given alone = absurd cc
+awaits-none (Some ReadCharacter) given alone = absurd cc
+awaits-none (Some _) given alone = refl
 
-next-alone : (going : Bool) (f : Option Function) → touches_device f ≡ false → touches_device (if going then f else None) ≡ false
-next-alone true f alone = alone
-next-alone false f alone = refl
+unread : (r : Rule) (calls : List OpenCall) → needs_device_by r calls ≡ false → awaited (performed_by r calls) ≡ Nothing
+unread (EndCall rest) [] alone = refl
+unread (EndCall rest) (call ∷ outer) alone = awaits-none (function_of call) (arguments call) alone
+unread _ calls alone = refl
 
-waits-none : (ended : Bool) (m : MachineState) (bytes : Text) → touches_device (performs m.memory) ≡ false → waits_for_input ended m bytes ≡ false
+next-alone : (going : Bool) (f : Option Function) → awaited f ≡ Nothing → awaited (if going then f else None) ≡ Nothing
+next-alone true f none = none
+next-alone false f none = refl
+
+waits-none : (ended : Bool) (m : MachineState) (bytes : Text) → needs_device m.memory ≡ false → waits_for_input ended m bytes ≡ false
 waits-none ended m bytes alone =
-    let none = awaits-none (next_function m) (next-alone (is_none m.fate && nat_lt m.steps m.allowance) (performs m.memory) alone) in
+    let none = next-alone (is_none m.fate && nat_lt m.steps m.allowance) (performs m.memory) (unread (rule m.memory.active) m.memory.calls alone) in
     and_right (not ended) (is_short (awaited (next_function m)) m bytes) (ap (λ a. is_short a m bytes) none)
 
 -- so many steps of a turn follow those that were done

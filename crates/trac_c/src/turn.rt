@@ -1,5 +1,6 @@
 //! A machine that C keeps, and which makes some steps a turn.
 ghost use Rattle.std.specs.Prelude.{◌≡◌, ℕ, ◌+◌, ◌^◌, ◌<◌, ◌≤◌, None, Some, length};
+ghost use Rattle.trac_devices.specs.Devices.{has_byte};
 ghost use Rattle.trac_core.specs.Session.{awaited, next_function, next_printed};
 ghost use Rattle.trac_language.specs.State.{Input};
 ghost use Rattle.trac_c.specs.Turned.{TurnsTo, LacksRoom, is_short, is_ended, stands, SomeTurned};
@@ -70,7 +71,7 @@ fn turn_number(last: Turn) -> u32
     }
 }
 
-/// Makes at most `most` steps: those that touch no device as fast as a run does, and each other one by
+/// Makes at most `most` steps: those that need no device as fast as a run does, and each other one by
 /// itself. Went: all of them were done.
 fn go_on(
     machine: &mut Machine,
@@ -154,10 +155,22 @@ fn waits(machine: &Machine, function: Option<Function>, bytes: &[u8]) -> bool
 {
     match function {
         Some(Function::ReadString) => {
-            !bytes.contains(&machine.meta())
+            !has_byte(machine.meta(), bytes)
                 && bytes.len() + machine.size() as usize <= machine.room() as usize + 1
         }
         Some(Function::ReadCharacter) => bytes.is_empty(),
         _ => false,
     }
+}
+
+/// How many of the last bytes are looked at first.
+const NEAR: usize = 64;
+
+/// Whether a byte stands among these. The last ones are looked at first: a caller that reads up to the
+/// byte gives no more than what follows it in one read.
+fn has_byte(byte: u8, bytes: &[u8]) -> bool
+    ensures { result ≡ has_byte byte bytes.now }
+{
+    let (before, last) = bytes.split_at(bytes.len().saturating_sub(NEAR));
+    last.contains(&byte) || before.contains(&byte)
 }

@@ -1,8 +1,9 @@
--- Steps that touch no device, one after the other.
-use Rattle.trac_core.proofs.Words.{◌≡◌, ℕ, zero, suc, ◌+◌, ◌<◌, ◌≤◌, max, Option, Some, None, refl, sym, ap, ◌∙◌, subst, arith, ◌⊎◌, ⊎_elim, inl, inr, min, cases_lt, Function, Fate, Halted, InputEnded, Workspace, Steps, InputFailed, OutputFailed, Memory, size, Contents, used, IsSound, memory_of, MachineState, counted, Passes, PassesTimes, peak_after, passed, running, touches_device, KeepsFormsAndMeta, TriedAlone, StepsAlone, GoesAlone, EndsAlone, NeedsMore, Advanced, Advances, advanced_to}
+-- Steps that need no device, one after the other.
+use Rattle.trac_core.proofs.Words.{◌≡◌, ℕ, zero, suc, ◌+◌, ◌<◌, ◌≤◌, max, Option, Some, None, refl, sym, ap, ◌∙◌, subst, arith, ◌⊎◌, ⊎_elim, inl, inr, min, cases_lt, Function, Fate, Halted, InputEnded, Workspace, Steps, InputFailed, OutputFailed, Memory, size, Contents, used, IsSound, memory_of, MachineState, counted, Passes, PassesTimes, peak_after, passed, running, KeepsFormsAndMeta, TriedAlone, StepsAlone, GoesAlone, EndsAlone, NeedsMore, Advanced, Advances, advanced_to}
 use Rattle.trac_functions.proofs.FlatLemmas.{size-used}
 use Rattle.trac_core.specs.declared.machine.Counters.{Counters}
 use Rattle.trac_core.specs.declared.machine.advancing.Advance.{Advance}
+use Rattle.trac_core.proofs.Performed.{unperformed}
 use Rattle.trac_core.proofs.Moments.{one_passed, goes_on-passes, peak_after-same}
 use Rattle.trac_core.proofs.StepsInRow.{peak-some}
 use Rattle.trac_core.proofs.RunningOn.{IsNeed}
@@ -11,11 +12,11 @@ use Rattle.trac_core.proofs.RunningOn.{IsNeed}
 abbrev pub counters_after : Counters → (done peak : ℕ) → Counters
 counters_after at done peak = record { allowance = at.allowance; steps = at.steps + done; peak = peak }
 
--- a step that performs no call touches no device
+-- a step that performs no call needs no device
 passes-alone : (m : MachineState) (middle : Memory) → m.fate ≡ None → m.steps < m.allowance → size m.memory ≤ m.room → Passes m.memory middle → StepsAlone m (one_passed middle m)
 passes-alone m middle going allowed fits pass =
     record {
-      alone = ap touches_device pass.no_call;
+      alone = unperformed m.memory pass.no_call;
       goes = λ source written. goes_on-passes m middle source written allowed fits pass;
       going = going;
     }

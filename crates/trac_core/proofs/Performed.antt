@@ -1,9 +1,10 @@
 -- The function that a step performs, by what stands in the active and in the neutral string.
-use Rattle.trac_core.proofs.Words.{◌≡◌, ◌≢◌, ℕ, Bool, true, false, [], ◌∷◌, List, drop, take, slice_get, Option, Some, None, refl, sym, ap, ◌==◌, if◌then◌else◌, bytes_eq, codes, ne_eqb, Active, Text, protected, OpenCall, DeleteLayout, BeginArgument, BeginCall, EndCall, AddCharacter, is_layout, number_sign_rule, parenthesis_rule, rule, NoCall, IsLastCall, text_of_cells, Contents, IsSound, memory_of, performed_by, performs, function_at}
+use Rattle.trac_core.proofs.Words.{◌≡◌, ◌≢◌, ℕ, Bool, true, false, [], ◌∷◌, List, drop, take, slice_get, Option, Some, None, refl, sym, ap, ◌==◌, if◌then◌else◌, bytes_eq, codes, ne_eqb, Active, Text, protected, OpenCall, DeleteLayout, BeginArgument, BeginCall, EndCall, AddCharacter, is_layout, number_sign_rule, parenthesis_rule, rule, NoCall, IsLastCall, text_of_cells, Contents, IsSound, Memory, arguments, arguments_at, memory_of, performed_by, performs, calls_device, needs_device, needs_device_by, function_at}
+use Rattle.trac_language.specs.Rule.{Rule}
 use Rattle.trac_language.specs.declared.mode.Mode.TheVariants.{Neutral}
 use Rattle.trac_laws.proofs.Rules.{rule_end}
 use Rattle.trac_functions.proofs.FlatLemmas.{calls-none}
-use Rattle.trac_core.proofs.Performing.{performs-closed, function-performs}
+use Rattle.trac_core.proofs.Performing.{performs-closed, function-performs, needs-call}
 use Rattle.trac_core.proofs.Scanning.{first-rest}
 
 parenthesis-performs : (o : Option (Text × Text)) (calls : List OpenCall) → performed_by (parenthesis_rule o) calls ≡ None
@@ -36,6 +37,21 @@ performs-other w meta other = sym (first-performs (text_of_cells w.active) (memo
 pub performs-none : (w : Contents) (meta : ℕ) → slice_get (text_of_cells w.active) 0 ≡ Some 41 → NoCall w.neutral → None ≡ performs (memory_of meta w)
 performs-none w meta first none =
     rw (first-rest (text_of_cells w.active) 41 first, rule_end (drop 1 (text_of_cells w.active)), calls-none w.neutral none) refl
+
+-- a step that performs no function needs no device
+needless : (r : Rule) (calls : List OpenCall) → performed_by r calls ≡ None → needs_device_by r calls ≡ false
+needless (EndCall rest) [] e = refl
+needless (EndCall rest) (call ∷ outer) e = ap (λ f. calls_device f (arguments call)) e
+needless _ calls e = refl
+
+pub unperformed : (m : Memory) → performs m ≡ None → needs_device m ≡ false
+unperformed m e = needless (rule m.active) m.calls e
+
+-- the step needs a device where the call does
+pub needs-innermost : (w : Contents) (place meta : ℕ) → IsSound w → slice_get (text_of_cells w.active) 0 ≡ Some 41 → IsLastCall w.neutral place → needs_device (memory_of meta w) ≡ calls_device (function_at w.neutral place) (arguments_at w.neutral place)
+needs-innermost w place meta sound first last =
+    let after = record w { active = drop 1 w.active } in
+    needs-call w after place (performs-closed w after place sound first last refl) (function_at w.neutral place) refl meta
 
 pub performs-innermost : (w : Contents) (place meta : ℕ) → IsSound w → slice_get (text_of_cells w.active) 0 ≡ Some 41 → IsLastCall w.neutral place → function_at w.neutral place ≡ performs (memory_of meta w)
 performs-innermost w place meta sound first last =

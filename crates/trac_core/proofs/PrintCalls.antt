@@ -1,10 +1,14 @@
 -- The calls that print, change the meta character and stop.
-use Rattle.trac_core.proofs.Words.{◌≡◌, ◌≢◌, ℕ, List, [], ◌∷◌, ◌++◌, drop, Some, None, refl, sym, ap, ◌∙◌, arith, slice_get, get_or-drop, PrintString, ChangeMeta, Halt, Halted, OutputFailed, Text, argument, World, change_meta, silent, meaning_of, value_length, Contents, used, Stream, arguments_at, world, ending, Null, Over, scene, IsCall, AnswersCall}
+use Rattle.trac_core.proofs.Words.{◌≡◌, ◌≢◌, ℕ, List, [], ◌∷◌, ◌++◌, drop, false, length, nat_lt, Some, None, refl, sym, ap, ◌∙◌, arith, slice_get, get_or-drop, PrintString, ChangeMeta, Halt, Halted, OutputFailed, Text, argument, World, change_meta, silent, meaning_of, value_length, Contents, used, Stream, arguments_at, world, ending, Null, Over, scene, IsCall, AnswersCall}
 use Rattle.trac_core.proofs.Performing.{tried-null, quiet-null, tried-end, tried-broken}
 
 -- the first argument after the name
 pub argument-one : (args rest : List Text) → rest ≡ drop 1 args → argument rest 0 ≡ argument args 1
 argument-one args rest e = ap (λ l. argument l 0) e ∙ get_or-drop 1 args 0 []
+
+pub null-text : (text : Text) → nat_lt 0 (length text) ≡ false → text ≡ []
+null-text [] e = refl
+null-text (c ∷ text) e = absurd (grind (arith, e))
 
 pub some-same : {a b : ℕ} → Some a ≡ Some b → a ≡ b
 some-same e = cc

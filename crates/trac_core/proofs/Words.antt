@@ -15,8 +15,8 @@ pub use Rattle.trac_core.specs.Display.{display, shown}
 pub use Rattle.trac_core.specs.Machine.{Answers, BrokeOff, Course, EndsRun, GoesOn, IsReportOf, KeepsFormsAndMeta, LeavesMemory, MachineState, Moment, RanThrough, RanToFailure, Reports, ReportsOf, Resumes, StopsAtAllowance, StopsAtInput, StopsAtOutput, StopsAtRoom, after_steps, counted, ending, failing, failing_state_of, first_runs, input_failures, later_runs, made, memory_after, moment, output_failures, state_of, state_with}
 pub use Rattle.trac_core.specs.Matching.{IsAt, side_in, side_of}
 pub use Rattle.trac_core.specs.ReadTexts.{Reads}
-pub use Rattle.trac_core.specs.Performed.{is_plain, performed_by, performs, prints_output, reads_input, touches_device}
-pub use Rattle.trac_core.specs.NamedCalls.{IsNamed, StopsBefore, TriedAlone}
+pub use Rattle.trac_core.specs.Performed.{is_plain, performed_by, performs, prints_output, reads_input, touches_device, calls_device, needs_device, needs_device_by}
+pub use Rattle.trac_core.specs.NamedCalls.{IsAlone, IsNamed, StopsBefore, TriedAlone}
 pub use Rattle.trac_core.specs.Advancing.{Advanced, EndsAlone, GoesAlone, NeedsMore, StepsAlone, StopsAlone, advanced_to}
 pub use Rattle.trac_core.specs.Session.{printed_in}
 pub use Rattle.trac_core.specs.StepsInRow.{Advances, AsksFor, IsLayout, IsOrdinary, IsPlainFrom, Passes, PassesTimes, SomeSteps, is_special, kind_in, kind_of, passed, peak_after, running}

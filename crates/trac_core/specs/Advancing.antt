@@ -1,4 +1,4 @@
--- Steps that touch no device.
+-- Steps that need no device.
 use Rattle.std.specs.Prelude.{◌≡◌, ℕ, zero, suc, ◌<◌, ◌⊎◌, true, false, Option, Some, None}
 use Rattle.trac_language.specs.declared.fate.Fate.{Fate}
 use Rattle.trac_language.specs.Text.{Text}
@@ -7,14 +7,14 @@ use Rattle.trac_forms.specs.Contents.{Contents}
 use Rattle.trac_functions.specs.Flat.{memory_of}
 use Rattle.trac_core.specs.declared.machine.Counters.{Counters}
 use Rattle.trac_core.specs.declared.machine.advancing.Advance.{Advance}
-use Rattle.trac_core.specs.Performed.{performs, touches_device}
+use Rattle.trac_core.specs.Performed.{needs_device}
 use Rattle.trac_core.specs.Attempts.{NoneFailed}
 use Rattle.trac_core.specs.Machine.{MachineState, moment, GoesOn, Answers, KeepsFormsAndMeta}
 
--- a step that touches no device leads from one machine to another, whatever its devices hold, and
+-- a step that needs no device leads from one machine to another, whatever its devices hold, and
 -- leaves them so
 pub record StepsAlone (old new : MachineState) : Type 0 where
-  pub alone : touches_device (performs old.memory) ≡ false
+  pub alone : needs_device old.memory ≡ false
   pub goes : (source : Stream) (written : Text) →
       GoesOn (moment old source written) (moment new source written)
   pub going : new.fate ≡ None
@@ -25,17 +25,17 @@ GoesAlone zero old new = new ≡ old
 GoesAlone (suc n) old new =
     (middle : MachineState) × (GoesAlone n old middle × StepsAlone middle new)
 
--- a step that touches no device ends the run so, by no failure of a device and with steps left
+-- a step that needs no device ends the run so, by no failure of a device and with steps left
 pub record EndsAlone (old : MachineState) (fate : Fate) (new : MachineState) : Type 0 where
-  pub alone : touches_device (performs old.memory) ≡ false
+  pub alone : needs_device old.memory ≡ false
   pub ends : (source : Stream) (written : Text) →
       Answers (moment old source written) (Some fate) (moment new source written)
   pub none_failed : NoneFailed (Some fate)
   pub keeps : KeepsFormsAndMeta old.memory new.memory
 
--- no step is allowed, or the next one touches a device
+-- no step is allowed, or the next one needs a device
 abbrev pub NeedsMore : MachineState → Type 0
-NeedsMore m = (m.steps ≡ m.allowance) ⊎ (touches_device (performs m.memory) ≡ true)
+NeedsMore m = (m.steps ≡ m.allowance) ⊎ (needs_device m.memory ≡ true)
 
 -- why no more than so many steps are done: they are as many as are wanted, or the next one can't be
 -- done alone; or it ended the run
@@ -44,7 +44,7 @@ abbrev pub StopsAlone :
 StopsAlone most done before None new = (new ≡ before) × ((done ≡ most) ⊎ NeedsMore before)
 StopsAlone most done before (Some fate) new = (done < most) × EndsAlone before fate new
 
--- so many steps that touch no device are done, and then comes why they are no more
+-- so many steps that need no device are done, and then comes why they are no more
 abbrev pub Advanced : (most done : ℕ) → (old new : MachineState) → Type 0
 Advanced most done old new =
     (before : MachineState) × (GoesAlone done old before

@@ -10,7 +10,7 @@ use Rattle.trac_devices.specs.Devices.{Stream}
 use Rattle.trac_functions.specs.Flat.{memory_of, mode_at, is_active_mode, arguments_at}
 use Rattle.trac_functions.specs.Calls.{AreArguments, texts}
 use Rattle.trac_core.specs.declared.call.NamedCall.{NamedCall}
-use Rattle.trac_core.specs.Performed.{performs, touches_device}
+use Rattle.trac_core.specs.Performed.{performs, calls_device, needs_device}
 use Rattle.trac_core.specs.Machine.{KeepsFormsAndMeta}
 use Rattle.trac_core.specs.Attempts.{scene, Tried, function_at, NoneFailed}
 
@@ -24,16 +24,20 @@ pub record IsNamed (call : NamedCall) (w : Contents) : Type 0 where
       texts w call.arguments ≡ drop 1 (arguments_at w.neutral call.place)
   pub scanned : call.arguments.scanned ≡ is_active_mode (mode_at w.neutral call.place)
 
--- the next step performs this function, which reads or prints
-abbrev pub StopsBefore : Option Function → Memory → Type 0
-StopsBefore function memory = (performs memory ≡ function) × (touches_device function ≡ true)
+-- the call whose mark stands at the place needs no device
+abbrev pub IsAlone : Contents → ℕ → Type 0
+IsAlone w place = calls_device (function_at w.neutral place) (arguments_at w.neutral place) ≡ false
 
--- the next step neither reads nor prints, and for each machine that holds these contents and may
+-- the next step performs this function, and needs a device
+abbrev pub StopsBefore : Option Function → Memory → Type 0
+StopsBefore function memory = (performs memory ≡ function) × (needs_device memory ≡ true)
+
+-- the next step needs no device, and for each machine that holds these contents and may
 -- step, and whatever its devices hold, the answer is right; it tells no failure of a device, and a
 -- step that ends the run, or isn't done, leaves the forms and the meta character
 pub record TriedAlone (old : Contents) (meta : ℕ) (answer : Option Fate) (needed : ℕ)
     (new : Contents) (after : ℕ) : Type 0 where
-  pub alone : touches_device (performs (memory_of meta old)) ≡ false
+  pub alone : needs_device (memory_of meta old) ≡ false
   pub tried : (source : Stream) (written : Text) →
       Tried (scene old meta source written) answer needed (scene new after source written)
   pub none_failed : NoneFailed answer

@@ -1,10 +1,11 @@
 -- The function that the next step performs.
-use Rattle.std.specs.Prelude.{Bool, true, false, ◌||◌, List, [], ◌∷◌, Option, Some, None}
+use Rattle.std.specs.Prelude.{Bool, true, false, ◌||◌, List, [], ◌∷◌, length, nat_lt, Option, Some, None}
 use Rattle.trac_language.specs.declared.function.Function.{Function}
 use Rattle.trac_language.specs.declared.function.Function.TheVariants.{ReadString, ReadCharacter}
 use Rattle.trac_language.specs.declared.function.Function.TheVariants.{ChangeMeta, Halt}
 use Rattle.trac_language.specs.declared.function.Function.TheVariants.{PrintString, PrintForm}
-use Rattle.trac_language.specs.State.{OpenCall, Memory}
+use Rattle.trac_language.specs.Text.{Text}
+use Rattle.trac_language.specs.State.{OpenCall, Memory, argument, arguments}
 use Rattle.trac_language.specs.Rule.{Rule, LoadIdling, DeleteLayout, AddProtected, ClearActive}
 use Rattle.trac_language.specs.Rule.{BeginArgument, BeginCall, EndCall, AddCharacter, rule}
 use Rattle.trac_language.specs.Step.{function_of}
@@ -39,9 +40,32 @@ prints_output (Some PrintString) = true
 prints_output (Some PrintForm) = true
 prints_output (Some _) = false
 
--- whether a call of the function touches a device
+-- whether a call of the function reads or prints
 abbrev pub touches_device : Option Function → Bool
 touches_device function = reads_input function || prints_output function
+
+-- whether a call of the function with these arguments, its name the first, needs a device: it reads,
+-- it displays a form, or it prints a text that isn't null
+abbrev pub calls_device : Option Function → List Text → Bool
+calls_device None arguments = false
+calls_device (Some PrintString) arguments = nat_lt 0 (length (argument arguments 1))
+calls_device (Some function) arguments = touches_device (Some function)
+
+-- the same of the innermost of these calls, if the rule performs it
+abbrev pub needs_device_by : Rule → List OpenCall → Bool
+needs_device_by (EndCall rest) [] = false
+needs_device_by (EndCall rest) (call ∷ outer) = calls_device (function_of call) (arguments call)
+needs_device_by LoadIdling calls = false
+needs_device_by (DeleteLayout rest) calls = false
+needs_device_by (AddProtected inside rest) calls = false
+needs_device_by ClearActive calls = false
+needs_device_by (BeginArgument rest) calls = false
+needs_device_by (BeginCall mode rest) calls = false
+needs_device_by (AddCharacter c rest) calls = false
+
+-- whether the next step needs a device
+abbrev pub needs_device : Memory → Bool
+needs_device memory = needs_device_by (rule memory.active) memory.calls
 
 -- a function that neither reads nor prints, nor changes the meta character, nor ends the run
 abbrev pub is_plain : Function → Bool

@@ -1,16 +1,17 @@
 //! Calls: one is performed when its right parenthesis is scanned.
 ghost use Rattle.std.specs.Prelude.{◌≡◌, ◌≢◌, ◌-◌, ◌<◌, ◌≤◌, ◌^◌, ℕ};
-ghost use Rattle.std.specs.Prelude.{length, None, Some, true, false, IfOk, MatchResult};
+ghost use Rattle.std.specs.Prelude.{length, nat_lt, None, Some, true, false, IfOk, MatchResult};
 ghost use Rattle.trac_language.specs.Text.{Text};
 ghost use Rattle.trac_space.specs.Calls.{IsLastCall};
 ghost use Rattle.trac_forms.specs.Contents.{IsSound, used};
-ghost use Rattle.trac_functions.specs.Flat.{memory_of, mode_at, is_active_mode};
-ghost use Rattle.trac_functions.specs.Calls.{AreArguments, Performs};
-ghost use Rattle.trac_core.specs.Performed.{is_plain, performs, touches_device};
+ghost use Rattle.trac_language.specs.State.{argument};
+ghost use Rattle.trac_functions.specs.Flat.{arguments_at, memory_of, mode_at, is_active_mode};
+ghost use Rattle.trac_functions.specs.Calls.{AreArguments, Performs, texts};
+ghost use Rattle.trac_core.specs.Performed.{calls_device, is_plain, performs, touches_device};
 ghost use Rattle.trac_core.specs.Attempts.{scene, Tried, TriedCall, function_at, TakesFrom};
 ghost use Rattle.trac_core.specs.Attempts.{TakesAtMost, AnswersCall, Stands, fate_after};
 ghost use Rattle.trac_core.specs.Attempts.{LeavesSource, LeavesSink, EndsQuietly, NoneFailed, HasArguments};
-ghost use Rattle.trac_core.specs.NamedCalls.{IsNamed, TriedAlone, StopsBefore};
+ghost use Rattle.trac_core.specs.NamedCalls.{IsAlone, IsNamed, TriedAlone, StopsBefore};
 ghost use Rattle.trac_devices.specs.Devices.{Stream};
 ghost use Rattle.trac_core.specs.StepsInRow.{AsksFor, IsPlainFrom};
 ghost use Rattle.trac_functions.specs.Calls.{KeepsRoom};
@@ -65,7 +66,7 @@ pub(crate) fn perform_pending<I: Source, O: Sink>(
     }
 }
 
-/// The step that `perform_pending` makes, where it touches no device. An error is the function that reads
+/// The step that `perform_pending` makes, where it needs no device. An error is the function that reads
 /// or prints: then nothing is done.
 #[inline(always)]
 pub(crate) fn perform_pending_alone(
@@ -86,7 +87,7 @@ pub(crate) fn perform_pending_alone(
         Pending::Idling => Ok(load_idling(work)),
         Pending::EndOfCall(call) => {
             let call = named(work, call);
-            if touches_device(call.function) {
+            if needs_device(work, call) {
                 return Err(call.function);
             }
             work.drop_active(1);
@@ -131,11 +132,11 @@ fn perform<I: Source, O: Sink>(
     finish_call(work, (call.place, end), before, made)
 }
 
-/// Performs the innermost call, whose right parenthesis was deleted and which touches no device.
+/// Performs the innermost call, whose right parenthesis was deleted and which needs no device.
 #[inline(always)]
 fn perform_alone(work: &mut Work, call: NamedCall, meta: &mut u8) -> Attempt
     requires named { IsNamed call work.old }
-    requires alone { touches_device call.function ≡ false }
+    requires alone { IsAlone work.old call.place }
     ensures tried { (source : Stream) (written : Text) →
         TriedCall call.place (scene work.old meta.old source written) result.fate result.need
         (scene work.new meta.new source written) }
@@ -184,20 +185,28 @@ pub(crate) fn named(work: &Work, call: InnermostCall) -> NamedCall
     }
 }
 
-/// Whether a call of the function reads or prints.
+/// Whether a call needs a device: it reads, it displays a form, or it prints a text that isn't null.
 #[inline(always)]
-fn touches_device(function: Option<Function>) -> bool
-    ensures { result ≡ touches_device function }
+fn needs_device(work: &Work, call: NamedCall) -> bool
+    requires { IsNamed call work.now }
+    ensures { let neutral = work.now.neutral in
+        result ≡ calls_device (function_at neutral call.place) (arguments_at neutral call.place) }
 {
-    match function {
-        Some(
-            Function::ReadString
-            | Function::ReadCharacter
-            | Function::PrintString
-            | Function::PrintForm,
-        ) => true,
+    match call.function {
+        Some(Function::ReadString | Function::ReadCharacter | Function::PrintForm) => true,
+        Some(Function::PrintString) => has_text(work, call.arguments),
         _ => false,
     }
+}
+
+/// Whether the next argument is a text that isn't null.
+#[inline(always)]
+fn has_text(work: &Work, mut arguments: Arguments) -> bool
+    requires { AreArguments work.now arguments }
+    ensures { result ≡ nat_lt 0 (length (argument (texts work.now arguments) 0)) }
+{
+    let part = arguments.next(work);
+    part.0 < part.1
 }
 
 /// What the function of the innermost call answers. A call of a name that is no function has a null
@@ -248,11 +257,11 @@ fn answer<I: Source, O: Sink>(
     }
 }
 
-/// What the function of a call answers that touches no device.
+/// What the function of a call answers that needs no device.
 #[inline(always)]
 fn answer_alone(work: &mut Work, call: NamedCall, meta: &mut u8) -> CallResult
     requires named { IsNamed call work.old }
-    requires alone { touches_device call.function ≡ false }
+    requires alone { IsAlone work.old call.place }
     ensures answers { (source : Stream) (written : Text) →
         AnswersCall call.place (scene work.old meta.old source written) result
         (scene work.new meta.new source written) }
@@ -264,7 +273,10 @@ fn answer_alone(work: &mut Work, call: NamedCall, meta: &mut u8) -> CallResult
 {
     match call.function {
         None => CallResult::Null(0),
-        Some(function) => made_alone(work, function, call.arguments, meta),
+        Some(function) => match function {
+            Function::PrintString => CallResult::Null(0),
+            _ => made_alone(work, function, call.arguments, meta),
+        },
     }
 }
 

@@ -9,10 +9,12 @@ typedef uint64_t u64;
 typedef int32_t i32;
 typedef int64_t i64;
 
-/* What proved code never reaches. */
+/* What proved code never reaches, and a function that is made a part of those that call it. */
 #if defined(__GNUC__) && !defined(__TINYC__)
 #define trap() __builtin_trap()
+#define INLINE inline __attribute__((always_inline))
 #else
+#define INLINE inline
 static void trap(void) {
     for (;;) {
     }

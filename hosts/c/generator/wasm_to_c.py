@@ -19,6 +19,8 @@ NEVER, ALWAYS = '0u', '1u'
 DEFINED = re.compile(r' *const u\d\d (t\d+) = (.*)')
 STACK = '$__stack_pointer'
 # What each export does around its work, which keeps a caller of its own from calling it from within: none here can.
+# So many lines in C are short.
+SHORT = 80
 GUARD = '$__rattle_enter'
 GUARDS = [[['call', GUARD], ['if'], ['unreachable'], ['end']], [['i32.const', '0'], ['global.set', '$in_call']]]
 ESCAPES = {'t': 9, 'n': 10, 'r': 13, '"': 34, "'": 39, '\\': 92}
@@ -535,20 +537,21 @@ def print_table(module):
 
 
 def print_functions(module):
-    heads = {}
+    heads, bodies = {}, {}
     del module.heads[GUARD]
-    for name, head in module.heads.items():
-        params = ''.join(f', {TYPES[kind]} l{i}' for i, kind in enumerate(head.params))
-        result = TYPES[head.results[0]] if head.results else 'void'
-        heads[name] = f'static {result} {module.names[name]}(u64 stack{params})'
-        print(heads[name] + ';')
     for name, kinds, body in module.functions:
         if name == GUARD:
             continue
-        print(f'\n{heads[name]} {{')
-        head = module.heads[name]
-        print('\n'.join(Function(module, head, kinds, without_guards(body)).translate()))
-        print('}')
+        head, body = module.heads[name], without_guards(body)
+        bodies[name] = Function(module, head, kinds, body).translate()
+        # A short function that calls no other is a part of those that call it.
+        small = len(bodies[name]) <= SHORT and not any(words[0] == 'call' for words in body)
+        params = ''.join(f', {TYPES[kind]} l{i}' for i, kind in enumerate(head.params))
+        result = TYPES[head.results[0]] if head.results else 'void'
+        heads[name] = f'static {"INLINE " if small else ""}{result} {module.names[name]}(u64 stack{params})'
+        print(heads[name] + ';')
+    for name, lines in bodies.items():
+        print(f'\n{heads[name]} {{', *lines, '}', sep='\n')
 
 
 def main(path, other):

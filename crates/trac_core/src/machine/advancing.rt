@@ -1,4 +1,4 @@
-//! Steps that touch no device, as many as follow one another.
+//! Steps that need no device, as many as follow one another.
 ghost use Rattle.std.specs.Prelude.{◌≡◌, ◌+◌, ◌<◌, ◌≤◌, ◌^◌, None, IsSome};
 ghost use Rattle.trac_forms.specs.Contents.{IsSound};
 ghost use Rattle.trac_functions.specs.Calls.{KeepsRoom};
@@ -36,8 +36,8 @@ pub(super) struct Advance {
 }
 
 impl<'a> Machine<'a> {
-    /// Makes at most `most` steps, as `step` does, but none that reads or prints, so that it needs
-    /// no device: it stops before a call of `rs`, `rc`, `ps` or `pf`. Gives how many steps were done
+    /// Makes at most `most` steps, as `step` does, but none that needs a device: it stops before a
+    /// call of `rs`, `rc` or `pf`, and before one of `ps` whose text isn't null. Gives how many steps were done
     /// after which the run went on. They are fewer than `most` only if it stopped there, the allowance
     /// is used up, or the next step ended the run, by `hl` or since it needs more than the room. With
     /// the allowance used up, the next call of `step` ends the run. Where the run is over before,
@@ -75,7 +75,7 @@ impl<'a> Machine<'a> {
     }
 }
 
-/// Makes at most `most` steps that touch no device, of a run that isn't over and has these counters.
+/// Makes at most `most` steps that need no device, of a run that isn't over and has these counters.
 /// They are single values here, so that they need not stand in memory. From the plain place on no
 /// comma mark stands in the neutral string.
 #[inline(never)]
