@@ -28,7 +28,8 @@ pub record HasForms (space : Lists) (count : ℕ) : Type 0 where
   pub count_is : count ≡ length (forms_in space.store)
   pub index : IsIndexed space.spare (forms_in space.store)
 
--- and the form at place `last` begins at `start`, where the cells end if there is none
+-- a space has so many forms, and the form at place `last` begins at `start`, where the cells end if there
+-- is none
 pub record HasFormsFrom (space : Lists) (count last start : ℕ) : Type 0 where
   pub has : HasForms space count
   pub place : IsPlace (forms_in space.store) last start

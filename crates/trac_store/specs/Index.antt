@@ -158,7 +158,7 @@ abbrev pub HasStartsFrom : List Cell → ℕ → ℕ → ℕ → Type 0
 HasStartsFrom table k n less =
     (name : ℕ → Text) × ((start : ℕ → ℕ) × StartsFrom table k n less name start)
 
--- the cells are those of forms and nothing else, and the table is one of them
+-- the cells are those of forms and nothing else, and the table is an index of these forms
 pub record AreIndexedCells (cells table : List Cell) : Type 0 where
   pub whole : flat_forms (forms_in (map seen cells)) ≡ map seen cells
   pub bounded : length cells ≤ 16777216
