@@ -52,8 +52,8 @@ module _ (cells : List Cell) (count n m p : ℕ) (listed : IsListed cells count)
       let forms = forms_in store in
       let form = form_at forms 0 in
       let long : length store ≡ length cells = length-map cells seen in
-      let within : 0 < length forms = omega (arith, listed.count_is, some) in
-      let f = stands forms store 0 0 listed.whole within refl in
+      let within : 0 < length forms = omega (arith, listed.forms.count_is, some) in
+      let f = stands forms store 0 0 listed.forms.whole within refl in
       let name_at : n ≡ head_at store 0 = n_is ∙ number-at cells store 0 refl (omega (arith, f.end, long)) in
       let body_at : m ≡ head_at store 1 = m_is ∙ number-at cells store 1 refl (omega (arith, f.end, long)) in
       let pointer_at : p ≡ head_at store 2 = p_is ∙ number-at cells store 2 refl (omega (arith, f.end, long)) in
@@ -61,9 +61,9 @@ module _ (cells : List Cell) (count n m p : ℕ) (listed : IsListed cells count)
       let name = slice_range cells 3 (3 + n) in
       let body = slice_range cells (3 + n) e in
       let rest = slice_range cells e (length cells) in
-      let end : e ≤ length cells = omega (arith, long, stored-end forms store name body 0 0 n m p listed.whole within refl name_at body_at pointer_at) in
+      let end : e ≤ length cells = omega (arith, long, stored-end forms store name body 0 0 n m p listed.forms.whole within refl name_at body_at pointer_at) in
       let here : forms ≡ form ∷ drop 1 forms = drop_more forms 0 (record { name = []; body = []; pointer = 0 }) within in
-      let is_form = stored-form forms store name body 0 0 n m p listed.whole within refl name_at body_at pointer_at (part-seen cells 3 (3 + n)) (part-seen cells (3 + n) e) in
+      let is_form = stored-form forms store name body 0 0 n m p listed.forms.whole within refl name_at body_at pointer_at (part-seen cells 3 (3 + n)) (part-seen cells (3 + n) e) in
       let whole_length : length cells - e ≡ length (drop e store) = omega (arith, length-drop e store, long) in
       let same_end : e ≡ 0 + (3 + length form.name + length form.body) = omega (arith, name_at, body_at, f.name_len, f.body_len) in
       let others : map seen rest ≡ flat_forms (drop 1 forms) =
@@ -71,16 +71,18 @@ module _ (cells : List Cell) (count n m p : ℕ) (listed : IsListed cells count)
       ∙ ap (λ k. drop k store) same_end ∙ f.behind in
       let later : forms_in (map seen rest) ≡ drop 1 forms = ap forms_in others ∙ forms_in-flat (drop 1 forms) in
       let rest_long = length-between cells e (length cells) (omega arith) in
-      let bounded = listed.bounded in
+      let bounded = listed.forms.bounded in
       let behind : IsStore (form ∷ drop 1 forms) = subst IsStore here listed.store in
       record {
         forms = here ∙ ap (λ (f : Form). f ∷ drop 1 forms) (sym is_form) ∙ ap (λ fs. form_of name body p ∷ fs) (sym later);
-        form = stored-is_form forms store name body 0 0 n m p listed.whole within refl name_at body_at pointer_at (part-seen cells 3 (3 + n)) (part-seen cells (3 + n) e) (omega (arith, long, bounded)) listed.store;
+        form = stored-is_form forms store name body 0 0 n m p listed.forms.whole within refl name_at body_at pointer_at (part-seen cells 3 (3 + n)) (part-seen cells (3 + n) e) (omega (arith, long, bounded)) listed.store;
         end = end;
         rest = record {
-          whole = ap flat_forms later ∙ sym others;
-          count_is = omega (arith, listed.count_is, ap length here, ap length later);
-          bounded = omega (arith, rest_long, bounded);
+          forms = record {
+            whole = ap flat_forms later ∙ sym others;
+            count_is = omega (arith, listed.forms.count_is, ap length here, ap length later);
+            bounded = omega (arith, rest_long, bounded);
+          };
           store = subst IsStore (sym later) behind.2;
         };
       }

@@ -1,23 +1,20 @@
 -- The forms of a `Work`, read one after the other.
-use Rattle.std.specs.Prelude.{◌≡◌, ℕ, ◌≤◌, List, length, map}
+use Rattle.std.specs.Prelude.{ℕ, ◌≤◌, List, length, map}
 use Rattle.trac_language.specs.Form.{Form}
 use Rattle.trac_language.specs.Store.{IsStore}
 use Rattle.trac_space.specs.declared.cell.Cell.{Cell}
 use Rattle.trac_space.specs.Cells.{seen}
 use Rattle.trac_space.specs.Texts.{text_of_cells}
-use Rattle.trac_store.specs.FlatForms.{flat_forms}
-use Rattle.trac_store.specs.Stored.{item_of, forms_in}
+use Rattle.trac_store.specs.Stored.{item_of, forms_in, AreCellsOfForms}
 
 -- the form of these cells
 abbrev pub form_of : List Cell → List Cell → ℕ → Form
 form_of name body pointer =
     record { name = text_of_cells name; body = map item_of body; pointer = pointer }
 
--- the cells are those of so many forms and nothing else
+-- the cells are those of so many forms that a store may hold
 pub record IsListed (cells : List Cell) (count : ℕ) : Type 0 where
-  pub whole : flat_forms (forms_in (map seen cells)) ≡ map seen cells
-  pub count_is : count ≡ length (forms_in (map seen cells))
-  pub bounded : length cells ≤ 16777216
+  pub forms : AreCellsOfForms cells count
   pub store : IsStore (forms_in (map seen cells))
 
 -- the cells of a form whose pointer is a place of its body

@@ -10,7 +10,7 @@ ghost use Rattle.trac_forms.specs.Loading.{IsLoaded};
 ghost use Rattle.trac_store.specs.Arguments.{AreParted};
 ghost use Rattle.trac_forms.specs.Arguments.{filled_body};
 ghost use Rattle.trac_store.specs.FlatForms.{flat_forms};
-ghost use Rattle.trac_store.specs.Stored.{item_of, start_of};
+ghost use Rattle.trac_store.specs.Stored.{item_of, IsLocated};
 
 use crate::item::FormId;
 use crate::work::Work;
@@ -72,8 +72,7 @@ impl<'a> Work<'a> {
     // The part of the store that a call of the form copies: its body from its pointer on.
     #[inline(always)]
     fn called_place(&self, form: Located) -> Part
-        requires known { form.number < length self.now.forms }
-        requires begins { form.start ≡ start_of self.now.forms form.number }
+        requires form { IsLocated self.now.forms form.number form.start }
         ensures order { result.from ≤ result.to }
         ensures within { result.to ≤ length (flat_forms self.now.forms) }
         ensures items { let cells = slice_range (flat_forms self.now.forms) result.from result.to in
@@ -90,8 +89,7 @@ impl<'a> Work<'a> {
     // Does what `fill_body` does for a form whose place is known.
     #[inline(always)]
     fn fill_located(&mut self, form: Located, texts: Part) -> bool
-        requires known { form.number < length self.old.forms }
-        requires begins { form.start ≡ start_of self.old.forms form.number }
+        requires form { IsLocated self.old.forms form.number form.start }
         requires arguments { AreParted self.old.neutral texts.from texts.to }
         ensures put { let text = filled_body self.old form.number texts.from texts.to in
             IsTrue result ↔ (used self.old + length text ≤ self.old.room) }

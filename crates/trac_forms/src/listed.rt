@@ -6,14 +6,14 @@ ghost use Rattle.trac_language.specs.Store.{form_named};
 ghost use Rattle.trac_space.specs.Texts.{IsByte, text_of_cells};
 ghost use Rattle.trac_store.specs.Forms.{form_at};
 ghost use Rattle.trac_forms.specs.Contents.{form_place};
-ghost use Rattle.trac_store.specs.Stored.{item_of, start_of};
+ghost use Rattle.trac_store.specs.Stored.{item_of, IsLocated};
 
 use crate::item::FormId;
 use crate::work::Work;
 use std::marker::Model;
 use trac_language::Item;
 use trac_space::Cell;
-use trac_store::{Located, find_by_name, heads_at, item_of, number_in_head};
+use trac_store::{FormFinder, Located, heads_of, item_of, number_in_head};
 
 /// A form as it stands in the block. You can read it, and not change it.
 #[derive(Drop)]
@@ -158,7 +158,8 @@ impl<'a> Work<'a> {
         ensures { result ≡ form_named (text_of_cells name.now) self.now.forms }
     {
         let mut search_cost = 0;
-        match find_by_name(&self.space, self.count, self.last, name, &mut search_cost) {
+        let finder = FormFinder::new(&self.space, self.count, self.last);
+        match finder.find_by_name(name, &mut search_cost) {
             Some(form) => Some(self.stored_at(form)),
             None => None,
         }
@@ -174,11 +175,10 @@ impl<'a> Work<'a> {
 
     // A form whose place is known, to be read.
     fn stored_at(&self, form: Located) -> StoredForm<'_>
-        requires known { form.number < length self.now.forms }
-        requires begins { form.start ≡ start_of self.now.forms form.number }
+        requires form { IsLocated self.now.forms form.number form.start }
         ensures { result ≡ form_at self.now.forms form.number }
     {
-        let heads = heads_at(&self.space, form.start);
+        let heads = heads_of(&self.space, form);
         let from = form.start + 3 + heads.name;
         StoredForm {
             name: self.space.store_part(form.start + 3, from),

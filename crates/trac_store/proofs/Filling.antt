@@ -1,8 +1,8 @@
 -- The text of a form whose gaps are filled, part by part.
 use Rattle.trac_store.proofs.Words.{◌≡◌, ℕ, zero, suc, ◌+◌, ◌-◌, ◌<◌, ◌≤◌, true, false, List, [], ◌∷◌, ◌++◌, length, take, drop, map, get_or, slice_range, Some, All, refl, sym, ap, ◌∙◌, arith, subst, ⊎_elim, false≢true, cases_lt, drop-map}
 use Rattle.trac_store.proofs.Words.{length-map, get_or_past, All-head, All-tail, All-nil, All-cons, All-get_or, All-map, length-between, Item, Text, fill, is_character, text_of, IsStore, Cell, Byte, Call, IsNoCall, NoCall, Lists}
-use Rattle.trac_store.proofs.Words.{flat_text, text_of_cells, character_of, IsByte, is_byte_cell, flat_item, flat_forms, IsTextPart, part_text, AreTextParts, part_texts, form_at, body_at, pointer_at, gap_number}
-use Rattle.trac_store.proofs.Words.{item_of, forms_in, start_of, head_at, begins}
+use Rattle.trac_store.proofs.Words.{flat_text, text_of_cells, character_of, IsByte, is_byte_cell, flat_item, flat_forms, IsTextPart, part_text, AreTextParts, part_texts, form_at, name_at, body_at, pointer_at, gap_number}
+use Rattle.trac_store.proofs.Words.{item_of, forms_in, start_of, begins}
 use Rattle.std.proofs.Math.ListN.{get_or-map as get_or-map-same}
 use Rattle.trac_store.proofs.Places.{stands}
 use Rattle.trac_store.proofs.DistinctForms.{pointer-within}
@@ -90,20 +90,20 @@ pub record AreItems (s : Lists) (k place name body from : ℕ) : Type 0 where
   pub order : from ≤ body
   pub are : map item_of (slice_range s.store (place + 3 + name + from) (place + 3 + name + body)) ≡ drop (pointer_at (forms_in s.store) k) (body_at (forms_in s.store) k)
 
-pub items : (s : Lists) (k place name body from : ℕ) → flat_forms (forms_in s.store) ≡ s.store → IsStore (forms_in s.store) → k < length (forms_in s.store) → place ≡ start_of (forms_in s.store) k → name ≡ head_at s.store place → body ≡ head_at s.store (place + 1) → from ≡ head_at s.store (place + 2) → AreItems s k place name body from
+pub items : (s : Lists) (k place name body from : ℕ) → flat_forms (forms_in s.store) ≡ s.store → IsStore (forms_in s.store) → k < length (forms_in s.store) → place ≡ start_of (forms_in s.store) k → name ≡ length (name_at (forms_in s.store) k) → body ≡ length (body_at (forms_in s.store) k) → from ≡ pointer_at (forms_in s.store) k → AreItems s k place name body from
 items s k place name body from whole is_store within begins name_is body_is from_is =
     let forms = forms_in s.store in
     let form = form_at forms k in
     let f = stands forms s.store k place whole within begins in
     let inside = pointer-within forms k is_store in
-    let name_at : place + 3 + name ≡ place + 3 + length form.name = omega (arith, name_is, f.name_len) in
-    let end : place + 3 + name + body ≡ place + 3 + length form.name + length form.body = omega (arith, name_is, body_is, f.name_len, f.body_len) in
-    let pointer : from ≡ form.pointer = from_is ∙ f.pointer in
+    let name_end : place + 3 + name ≡ place + 3 + length form.name = omega (arith, name_is) in
+    let end : place + 3 + name + body ≡ place + 3 + length form.name + length form.body = omega (arith, name_is, body_is) in
+    let pointer : from ≡ form.pointer = from_is in
     let here : form.pointer ≤ length form.body = omega (arith, inside) in
     record {
       behind = omega (arith, end, f.end);
-      order = omega (arith, body_is, f.body_len, pointer, here);
-      are = ap (λ i. map item_of (slice_range s.store (i + from) (place + 3 + name + body))) name_at
+      order = omega (arith, body_is, pointer, here);
+      are = ap (λ i. map item_of (slice_range s.store (i + from) (place + 3 + name + body))) name_end
           ∙ ap (λ i. map item_of (slice_range s.store (place + 3 + length form.name + from) i)) end
           ∙ ap (λ i. map item_of (slice_range s.store (place + 3 + length form.name + i) (place + 3 + length form.name + length form.body))) pointer
           ∙ body-items s.store form.body (place + 3 + length form.name) form.pointer here f.body_part;

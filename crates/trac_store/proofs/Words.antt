@@ -45,4 +45,5 @@ pub use Rattle.trac_store.specs.Loading.{AreCharacters}
 pub use Rattle.trac_store.specs.Parts.{AreTextParts, IsTextPart, new_form, part_text, part_texts}
 pub use Rattle.trac_store.specs.Removal.{HaveOwnNames, IsFormed, IsMarkedFrom, is_among, is_marked, mark, marked, marked_if, unmarked, with_marks, without_all}
 pub use Rattle.trac_store.specs.Search.{IsFirst, IsLast, NonePasses, character_at, gap_at, is_gap, item_at, text_at}
-pub use Rattle.trac_store.specs.Stored.{AreForms, IsFoundAt, IsPlace, forms_in, head_at, head_number, item_of, item_of_cell, read_forms, start_of, stored_item}
+pub use Rattle.trac_store.specs.Stored.{AreForms, IsFoundAt, IsLocated, IsPlace, forms_in, head_at, head_number, item_of, item_of_cell, read_forms, start_of, stored_item}
+pub use Rattle.trac_store.specs.Contents.{Contents, HasForms, HasFormsFrom, shown}

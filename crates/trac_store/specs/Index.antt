@@ -1,13 +1,15 @@
 -- A table of forms in the spare list, by which a form is found from its name.
 use Rattle.std.specs.Prelude.{◌≡◌, ◌≢◌, ℕ, ◌+◌, ◌-◌, ◌*◌, ◌/◌, ◌%◌, ◌^◌, ◌<◌}
-use Rattle.std.specs.Prelude.{◌≤◌, Bool, true, false, List, [], ◌∷◌, length, take, slice_index_or}
+use Rattle.std.specs.Prelude.{◌≤◌, Bool, true, false, List, [], ◌∷◌, length, map, take, slice_index_or}
 use Rattle.std.specs.Prelude.{set, bit_and, nat_le, nat_lt, if◌then◌else◌, ◌⊎◌}
 use Rattle.trac_language.specs.Text.{Text}
 use Rattle.trac_language.specs.Form.{Form}
 use Rattle.trac_space.specs.declared.cell.Cell.{Cell}
 use Rattle.trac_space.specs.declared.cell.Cell.TheVariants.{Byte, Call, Comma, Gap, Head}
+use Rattle.trac_space.specs.Cells.{seen}
 use Rattle.trac_store.specs.Forms.{name_at}
 use Rattle.trac_store.specs.FlatForms.{flat_forms}
+use Rattle.trac_store.specs.Stored.{forms_in}
 
 -- the characters of a name mixed into a number of 64 bits
 abbrev pub mixed : Text → ℕ
@@ -155,3 +157,10 @@ pub record StartsFrom
 abbrev pub HasStartsFrom : List Cell → ℕ → ℕ → ℕ → Type 0
 HasStartsFrom table k n less =
     (name : ℕ → Text) × ((start : ℕ → ℕ) × StartsFrom table k n less name start)
+
+-- the cells are those of forms and nothing else, and the table is an index of these forms
+pub record AreIndexedCells (cells table : List Cell) : Type 0 where
+  pub whole : flat_forms (forms_in (map seen cells)) ≡ map seen cells
+  pub bounded : length cells ≤ 16777216
+  pub few : length table ≤ 16777216
+  pub index : IsIndex (map seen table) (forms_in (map seen cells))

@@ -9,3 +9,4 @@ pub mod Arguments
 pub mod Borders
 pub mod Removal
 pub mod Loading
+pub mod Contents

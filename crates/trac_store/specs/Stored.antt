@@ -1,13 +1,16 @@
 -- How forms stand as the cells of a store.
-use Rattle.std.specs.Prelude.{◌≡◌, ℕ, suc, ◌+◌, List, [], ◌∷◌, length, ◌≤◌, map, take, drop}
-use Rattle.std.specs.Prelude.{Option, Some, None, slice_get}
+use Rattle.std.specs.Prelude.{◌≡◌, ℕ, suc, ◌+◌, List, [], ◌∷◌, length, ◌≤◌, ◌<◌, map, take, drop}
+use Rattle.std.specs.Prelude.{Option, Some, None, MatchOption, slice_get}
 use Rattle.trac_language.specs.declared.item.Item.{Item}
 use Rattle.trac_language.specs.declared.item.Item.TheVariants as item
 use Rattle.trac_language.specs.Form.{Form}
 use Rattle.trac_language.specs.Text.{Text}
+use Rattle.trac_language.specs.Store.{NoneNamed}
 use Rattle.trac_space.specs.declared.cell.Cell.{Cell}
 use Rattle.trac_space.specs.declared.cell.Cell.TheVariants.{Byte, Call, Comma, Gap, Head}
+use Rattle.trac_space.specs.Cells.{seen}
 use Rattle.trac_space.specs.Texts.{text_of_cells}
+use Rattle.trac_store.specs.declared.located.Located.{Located}
 use Rattle.trac_store.specs.FlatForms.{flat_forms}
 use Rattle.trac_store.specs.Forms.{IsNamedAt}
 
@@ -37,6 +40,12 @@ pub record AreForms (cells : List Cell) : Type 0 where
   pub whole : flat_forms (forms_in cells) ≡ cells
   pub bounded : length cells ≤ 16777216
 
+-- the same of a slice of cells, which are so many forms
+pub record AreCellsOfForms (cells : List Cell) (count : ℕ) : Type 0 where
+  pub whole : flat_forms (forms_in (map seen cells)) ≡ map seen cells
+  pub bounded : length cells ≤ 16777216
+  pub count_is : count ≡ length (forms_in (map seen cells))
+
 -- where form k begins among the cells of the forms
 abbrev pub start_of : List Form → ℕ → ℕ
 start_of forms k = length (flat_forms (take k forms))
@@ -58,6 +67,11 @@ pub record IsPlace (forms : List Form) (k start : ℕ) : Type 0 where
   pub within : k ≤ length forms
   pub start_is : start ≡ start_of forms k
 
+-- there is a form at place k, and it begins there
+pub record IsLocated (forms : List Form) (k start : ℕ) : Type 0 where
+  pub within : k < length forms
+  pub start_is : start ≡ start_of forms k
+
 -- the item in a cell of the store
 abbrev pub item_of_cell : Option Cell → Item
 item_of_cell None = item.Gap 0
@@ -70,3 +84,10 @@ stored_item cells i = item_of_cell (slice_get cells i)
 pub record IsFoundAt (forms : List Form) (name : Text) (k start : ℕ) : Type 0 where
   pub named : IsNamedAt forms name k
   pub start_is : start ≡ start_of forms k
+
+-- the answer to a search for a name: a form that has it, or none if no form has it
+abbrev pub IsAnswer : List Form → Text → Option Located → Type 0
+IsAnswer forms name answer =
+    MatchOption answer
+    (NoneNamed name forms)
+    (λ found. IsFoundAt forms name found.number found.start)

@@ -7,7 +7,7 @@ ghost use Rattle.trac_store.specs.Parts.{IsTextPart, new_form};
 ghost use Rattle.trac_store.specs.Index.{IsKept};
 ghost use Rattle.trac_store.specs.Stored.{head_at};
 
-use crate::form_cells::head;
+use crate::form_heads::head;
 use trac_space::{Cell, Part, Space};
 
 /// Removes the cells of the form that begins at place `start` from the store.

@@ -8,19 +8,21 @@ ghost use Rattle.std.specs.Prelude.{ℕ, length, map, not, take, slice_range, re
 ghost use Rattle.std.specs.Prelude.{MatchOption, IfSome, IsTrue, Decides};
 ghost use Rattle.std.specs.Bool.{OnTrue, OnFalse};
 ghost use Rattle.trac_language.specs.Text.{Text};
-ghost use Rattle.trac_language.specs.Store.{NoneNamed};
 ghost use Rattle.trac_space.specs.Cells.{seen};
 ghost use Rattle.trac_space.specs.Lists as lists;
 ghost use Rattle.trac_space.specs.Texts.{text_of_cells, IsByte};
-ghost use Rattle.trac_store.specs.FlatForms.{flat_forms};
+ghost use Rattle.trac_store.specs.Contents.{HasForms};
 ghost use Rattle.trac_store.specs.Forms.{name_at};
-ghost use Rattle.trac_store.specs.Stored.{AreForms, forms_in, start_of, IsFoundAt, IsPlace};
+ghost use Rattle.trac_store.specs.Stored.{AreForms, forms_in, start_of, IsAnswer, IsFoundAt, IsLocated, IsPlace};
 ghost use Rattle.trac_store.specs.Index.{hash, quarter, slots, IsIndex, IsIndexBut, IsIndexed};
 ghost use Rattle.trac_store.specs.Index.{IsOpenFor, is_open, with_entry, start_in, home_in, buried};
 ghost use Rattle.trac_store.specs.Index.{forward, earlier, started, HasStartsFrom};
 
-use crate::form_cells::{FORMS_FOR_INDEX, head, heads_of, is_text, number, number_in_head};
+use crate::form_cells::{FormCells, is_text};
+use crate::form_finder::FORMS_FOR_INDEX;
+use crate::form_heads::{head, heads_of, number, number_in_head};
 use crate::located::{FIRST_FORM, Located};
+use std::marker::Model;
 use trac_space::{Cell, Space, byte_in};
 
 // An odd number near 2^64 divided by the golden ratio.
@@ -59,69 +61,89 @@ fn is_name(cells: &[Cell], from: usize, len: usize, text: &[Cell]) -> bool
     is_text(&cells[from..from + len], text)
 }
 
-// Where form `k` begins, by the table, if it has this name. None if it has another.
-#[inline]
-fn start_if_named(store: &[Cell], table: &[Cell], k: u32, name: &[Cell]) -> Option<u32>
-    requires whole { flat_forms (forms_in (map seen store.now)) ≡ map seen store.now }
-    requires bounded { length store.now ≤ 16777216 }
-    requires few { length table.now ≤ 16777216 }
-    requires index { IsIndex (map seen table.now) (forms_in (map seen store.now)) }
-    requires within { k < length (forms_in (map seen store.now)) }
-    requires bytes { All IsByte (map seen name.now) }
-    ensures { let forms = forms_in (map seen store.now) in
-        let text = text_of_cells (map seen name.now) in
-        MatchOption result
-        (name_at forms k ≢ text)
-        (λ start. IsFoundAt forms text k start) }
-{
-    let slots = 2 * (table.len() / 4);
-    let start = number(table[slots + k as usize]);
-    let at = start as usize + 3;
-    let len = number_in_head(store[at - 3]) as usize;
-    if is_name(store, at, len, name) {
-        Some(start)
-    } else {
-        None
-    }
+// The cells of forms, one form behind the other, and the table by which a form is found from its name.
+#[derive(Drop)]
+pub(crate) struct IndexedForms<'s> {
+    cells: &'s [Cell],
+    table: &'s [Cell],
 }
 
-// Finds the form with this name by the table. None if no form has it. Adds to `search_cost` how many slots
-// the search looked at beyond a few.
-#[inline(always)]
-pub(crate) fn look_up(
-    store: &[Cell],
-    table: &[Cell],
-    name: &[Cell],
-    search_cost: &mut u32,
-) -> Option<Located>
-    requires whole { flat_forms (forms_in (map seen store.now)) ≡ map seen store.now }
-    requires bounded { length store.now ≤ 16777216 }
-    requires few { length table.now ≤ 16777216 }
-    requires index { IsIndex (map seen table.now) (forms_in (map seen store.now)) }
-    requires bytes { All IsByte (map seen name.now) }
-    ensures { let forms = forms_in (map seen store.now) in
-        let text = text_of_cells (map seen name.now) in
-        MatchOption result
-        (NoneNamed text forms)
-        (λ found. IsFoundAt forms text found.number found.start) }
-{
-    let slots = 2 * (table.len() / 4);
-    let first = hash(name);
-    for i in 0..slots {
-        if i >= SLOTS_AT_NO_COST {
-            *search_cost = search_cost.saturating_add(1);
-        }
-        match table[(first + i) & (slots - 1)] {
-            Cell::Byte(_) => return None,
-            Cell::Head(k) => {
-                if let Some(start) = start_if_named(store, table, k, name) {
-                    return Some(Located { number: k, start });
-                }
-            }
-            _ => {}
+impl<'s> Model for IndexedForms<'s> {
+    ghost use Rattle.std.specs.Prelude.{List, map};
+    ghost use Rattle.trac_language.specs.Form.{Form};
+    ghost use Rattle.trac_space.specs.Cells.{seen};
+    ghost use Rattle.trac_store.specs.Stored.{forms_in};
+    ghost use Rattle.trac_store.specs.Index.{AreIndexedCells};
+
+    ghost Value = { List Form };
+
+    ghost view = { λ f. forms_in (map seen f.cells.now) };
+
+    ghost invariant = { λ f. AreIndexedCells f.cells.now f.table.now };
+}
+
+impl<'s> IndexedForms<'s> {
+    // The forms, and their table.
+    #[inline(always)]
+    pub(crate) fn of(forms: &FormCells<'s>, table: &'s [Cell]) -> IndexedForms<'s>
+        requires few { length table.now ≤ 16777216 }
+        requires index { IsIndex (map seen table.now) forms.now }
+        ensures { result ≡ forms.now }
+    {
+        IndexedForms {
+            cells: forms.cells,
+            table,
         }
     }
-    None
+
+    // Where form `k` begins, by the table, if it has this name. None if it has another.
+    #[inline]
+    fn start_if_named(&self, k: u32, name: &[Cell]) -> Option<u32>
+        requires within { k < length self.now }
+        requires bytes { All IsByte (map seen name.now) }
+        ensures { let text = text_of_cells (map seen name.now) in
+            MatchOption result
+            (name_at self.now k ≢ text)
+            (λ start. IsFoundAt self.now text k start) }
+    {
+        let cells = self.cells;
+        let slots = 2 * (self.table.len() / 4);
+        let start = number(self.table[slots + k as usize]);
+        let at = start as usize + 3;
+        let len = number_in_head(cells[at - 3]) as usize;
+        if is_name(cells, at, len, name) {
+            Some(start)
+        } else {
+            None
+        }
+    }
+
+    // Finds the form with this name by the table. None if no form has it. Adds to `search_cost` how many slots
+    // the search looked at beyond a few.
+    #[inline(always)]
+    pub(crate) fn look_up(&self, name: &[Cell], search_cost: &mut u32) -> Option<Located>
+        requires bytes { All IsByte (map seen name.now) }
+        ensures { IsAnswer self.now (text_of_cells (map seen name.now)) result }
+    {
+        let table = self.table;
+        let slots = 2 * (table.len() / 4);
+        let first = hash(name);
+        for i in 0..slots {
+            if i >= SLOTS_AT_NO_COST {
+                *search_cost = search_cost.saturating_add(1);
+            }
+            match table[(first + i) & (slots - 1)] {
+                Cell::Byte(_) => return None,
+                Cell::Head(k) => {
+                    if let Some(start) = self.start_if_named(k, name) {
+                        return Some(Located { number: k, start });
+                    }
+                }
+                _ => {}
+            }
+        }
+        None
+    }
 }
 
 // A search looks at this many slots without cost.
@@ -199,8 +221,7 @@ fn add(space: &mut Space, first: usize, form: Located) -> bool
 #[inline(always)]
 pub(crate) fn index_form(space: &mut Space, form: Located)
     requires forms { AreForms space.old.store }
-    requires within { form.number < length (forms_in space.old.store) }
-    requires begins { form.start ≡ start_of (forms_in space.old.store) form.number }
+    requires form { IsLocated (forms_in space.old.store) form.number form.start }
     requires index { IsIndexed space.old.spare (take form.number (forms_in space.old.store)) }
     ensures same { space.new ≡ record space.old { spare = space.new.spare } }
     ensures index { IsIndexed space.new.spare (take (form.number + 1) (forms_in space.old.store)) }
@@ -294,11 +315,8 @@ fn start_earlier(space: &mut Space, k: u32, cells: u32)
 /// Removes a form from the index of `count` forms, if there is one, and renumbers those behind it.
 #[inline(always)]
 pub fn unindex(space: &mut Space, form: Located, count: u32)
-    requires forms { AreForms space.old.store }
-    requires count_is { count ≡ length (forms_in space.old.store) }
-    requires within { form.number < count }
-    requires begins { form.start ≡ start_of (forms_in space.old.store) form.number }
-    requires index { IsIndexed space.old.spare (forms_in space.old.store) }
+    requires forms { HasForms space.old count }
+    requires form { IsLocated (forms_in space.old.store) form.number form.start }
     ensures same { space.new ≡ record space.old { spare = space.new.spare } }
     ensures index { IsIndexed space.new.spare (remove (forms_in space.old.store) form.number) }
 {
@@ -378,9 +396,8 @@ pub(crate) fn index_from(space: &mut Space, first: Located, count: u32)
 
 // Removes the forms from number `k` on from the table of `count` forms, if there is one.
 pub(crate) fn unindex_from(space: &mut Space, k: u32, count: u32)
+    requires forms { HasForms space.old count }
     requires order { k ≤ count }
-    requires count_is { count ≡ length (forms_in space.old.store) }
-    requires index { IsIndexed space.old.spare (forms_in space.old.store) }
     ensures same { space.new ≡ record space.old { spare = space.new.spare } }
     ensures index { IsIndexed space.new.spare (take k (forms_in space.old.store)) }
 {
@@ -440,9 +457,7 @@ const INDEX_COST: u32 = 8;
 /// takes free cells, which still count as free; nothing else changes. This processor's own choice.
 #[inline]
 pub fn keep_index(space: &mut Space, count: u32, search_cost: &mut u32)
-    requires forms { AreForms space.old.store }
-    requires count_is { count ≡ length (forms_in space.old.store) }
-    requires index { IsIndexed space.old.spare (forms_in space.old.store) }
+    requires forms { HasForms space.old count }
     ensures same { space.new ≡ record space.old { spare = space.new.spare } }
     ensures index { IsIndexed space.new.spare (forms_in space.old.store) }
 {
@@ -454,9 +469,7 @@ pub fn keep_index(space: &mut Space, count: u32, search_cost: &mut u32)
 // Builds the index, and resets the cost of searches, if that also pays for the move of active.
 #[inline(never)]
 fn index_worthwhile(space: &mut Space, count: u32, search_cost: &mut u32)
-    requires forms { AreForms space.old.store }
-    requires count_is { count ≡ length (forms_in space.old.store) }
-    requires index { IsIndexed space.old.spare (forms_in space.old.store) }
+    requires forms { HasForms space.old count }
     ensures same { space.new ≡ record space.old { spare = space.new.spare } }
     ensures index { IsIndexed space.new.spare (forms_in space.old.store) }
 {

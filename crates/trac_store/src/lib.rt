@@ -12,6 +12,8 @@
 mod arguments;
 mod borders;
 mod form_cells;
+mod form_finder;
+mod form_heads;
 mod form_writing;
 mod gap_making;
 mod index;
@@ -21,10 +23,8 @@ mod located;
 mod marked_forms;
 
 pub use arguments::before_comma;
-pub use form_cells::{
-    FEW_FORMS, Heads, find_by_name, find_from_first, find_named, head, heads_at, heads_of,
-    is_first_named, item_in, item_of, number_in_head, place_of,
-};
+pub use form_finder::{FEW_FORMS, FormFinder};
+pub use form_heads::{Heads, head, heads_of, item_in, item_of, number_in_head};
 pub use form_writing::{remove_form, store_form};
 pub use gap_making::segment_store;
 pub use index::{clear_index, index_last, keep_index, shift_starts, unindex};

@@ -6,6 +6,7 @@ ghost use Rattle.std.specs.Prelude.{◌≡◌, ◌∷◌, [], ◌++◌, ◌+◌,
 ghost use Rattle.std.specs.Prelude.{length, take, drop};
 ghost use Rattle.std.specs.Prelude.{slice_range, ◌⊎◌};
 ghost use Rattle.trac_store.specs.Arguments.{AreParted, texts_between};
+ghost use Rattle.trac_store.specs.Contents.{HasForms};
 ghost use Rattle.trac_store.specs.Parts.{IsTextPart, part_text};
 ghost use Rattle.trac_store.specs.FlatForms.{flat_forms};
 ghost use Rattle.trac_store.specs.Index.{IsIndexed};
@@ -13,7 +14,8 @@ ghost use Rattle.trac_store.specs.Removal.{IsFormed, IsMarkedFrom, unmarked, wit
 ghost use Rattle.trac_store.specs.Stored.{AreForms, forms_in};
 
 use crate::arguments::before_comma;
-use crate::form_cells::{find_named, heads_at};
+use crate::form_finder::FormFinder;
+use crate::form_heads::tested_heads;
 use crate::index::{index_from, keep_index, unindex_from};
 use crate::located::Located;
 use trac_space::{Cell, Part, Space};
@@ -22,7 +24,7 @@ use trac_space::{Cell, Part, Space};
 const MARK: u32 = u32::MAX;
 
 /// Marks each form whose name stands between the comma marks of a part of neutral. Gives a form before
-/// which no form is marked. `last` and `search_cost` are those of `find_named`.
+/// which no form is marked. `last` is the form used last, and the searches add to `search_cost`.
 pub fn mark_all(
     space: &mut Space,
     count: u32,
@@ -79,7 +81,7 @@ fn mark_named(
     ensures formed { IsFormed space.new count result.last.number result.last.start }
     ensures first { IsMarkedFrom (forms_in space.new.store) result.first.number result.first.start }
 {
-    match find_named(space, count, places.last, name, search_cost) {
+    match FormFinder::new(space, count, places.last).find_named(name, search_cost) {
         Some(form) => {
             space.write_store(form.start + 2, Cell::Head(MARK));
             Marking {
@@ -103,10 +105,8 @@ fn earlier(a: Located, b: Located) -> Located
 /// Removes the marked forms from the store and from the index, and gives how many forms are left. No form
 /// before `first` is marked.
 pub fn take_out_marked(space: &mut Space, first: Located, count: u32) -> u32
-    requires forms { AreForms space.old.store }
-    requires count_is { count ≡ length (forms_in space.old.store) }
+    requires forms { HasForms space.old count }
     requires first { IsMarkedFrom (forms_in space.old.store) first.number first.start }
-    requires index { IsIndexed space.old.spare (forms_in space.old.store) }
     ensures gone { let forms = unmarked (forms_in space.old.store) in
         space.new ≡ record space.old { store = flat_forms forms; spare = space.new.spare } }
     ensures count { result ≡ length (unmarked (forms_in space.old.store)) }
@@ -135,7 +135,7 @@ fn remove_marked(space: &mut Space, first: Located, count: u32) -> u32
     };
     let mut from = first.start;
     for _form in first.number..count {
-        let form = heads_at(space, from);
+        let form = tested_heads(space, from);
         let end = from + 3 + form.name + form.body;
         if form.pointer == MARK {
             gap = move_gap(space, gap, from, end);

@@ -5,32 +5,32 @@ use Rattle.trac_store.proofs.index.unindex.Goals as goal
 
 pub overflow_add-cells : goal.overflow_add-cells
 overflow_add-cells c =
-    let f = stands _ _ _ _ c.requires.forms.whole (omega (arith, c.requires.within, c.requires.count_is)) c.requires.begins in
-    omega (arith, f.end, f.name_len, c.head.ensures, c.requires.forms.bounded)
+    let f = stands _ _ _ _ c.requires.forms.forms.whole c.requires.form.within c.requires.form.start_is in
+    omega (arith, f.end, f.name_len, c.head.ensures, c.requires.forms.forms.bounded)
 
 pub overflow_add-form : goal.overflow_add-form
 overflow_add-form c =
-    let f = stands _ _ _ _ c.requires.forms.whole (omega (arith, c.requires.within, c.requires.count_is)) c.requires.begins in
-    omega (arith, f.end, c.requires.forms.bounded)
+    let f = stands _ _ _ _ c.requires.forms.forms.whole c.requires.form.within c.requires.form.start_is in
+    omega (arith, f.end, c.requires.forms.forms.bounded)
 
 pub overflow_add-cells-2 : goal.overflow_add-cells-2
 overflow_add-cells-2 c =
-    let f = stands _ _ _ _ c.requires.forms.whole (omega (arith, c.requires.within, c.requires.count_is)) c.requires.begins in
-    omega (arith, f.end, f.name_len, f.body_len, c.head.ensures, c.head-2.ensures, c.requires.forms.bounded)
+    let f = stands _ _ _ _ c.requires.forms.forms.whole c.requires.form.within c.requires.form.start_is in
+    omega (arith, f.end, f.name_len, f.body_len, c.head.ensures, c.head-2.ensures, c.requires.forms.forms.bounded)
 
 pub bury-requires-clause-home : goal.bury-requires-clause-home
 bury-requires-clause-home c =
     let forms = forms_in c.args.space.now.store in
-    let index = c.requires.index (omega (arith, c.spare_len.ensures.value, c.if-spare_len-eq0.false)) in
-    home-within c.args.space.now.spare (length forms) c.args.form.number (name_at forms) (start_of forms) index (omega (arith, c.requires.within, c.requires.count_is))
+    let index = c.requires.forms.index (omega (arith, c.spare_len.ensures.value, c.if-spare_len-eq0.false)) in
+    home-within c.args.space.now.spare (length forms) c.args.form.number (name_at forms) (start_of forms) index c.requires.form.within
 
 pub loop-next-init : goal.loop-next-init
 loop-next-init c =
     let s = c.args.space.now in
     let forms = forms_in s.store in
     let k = c.args.form.number in
-    let within : k < length forms = omega (arith, c.requires.within, c.requires.count_is) in
-    let index = c.requires.index (omega (arith, c.spare_len.ensures.value, c.if-spare_len-eq0.false)) in
+    let within : k < length forms = c.requires.form.within in
+    let index = c.requires.forms.index (omega (arith, c.spare_len.ensures.value, c.if-spare_len-eq0.false)) in
     let spare = c.bury.new.space.spare in
     let is : spare ≡ buried s.spare k = ap (λ (w : Lists). w.spare) c.bury.ensures in
     let gap = index-gap forms k within (buried s.spare k) (index-buried s.spare (length forms) k (name_at forms) (start_of forms) index within) in
@@ -46,7 +46,7 @@ bring_forward-requires-clause-home c =
     let spare = c.loop-next.space.spare in
     let next = c.loop-next.next in
     let e : next - 1 + 1 ≡ next = omega (arith, c.loop-next.auto.next) in
-    let less = next-home forms c.args.form.number (omega (arith, c.requires.within, c.requires.count_is)) spare (next - 1) (omega (arith, e, c.loop-next-test.true, c.requires.count_is)) c.loop-next.invariant.index in
+    let less = next-home forms c.args.form.number c.requires.form.within spare (next - 1) (omega (arith, e, c.loop-next-test.true, c.requires.forms.count_is)) c.loop-next.invariant.index in
     subst (λ n. home_in spare n < slots spare) e less
 
 -- the cells of the form that leaves
@@ -55,10 +55,10 @@ bring_forward-requires-clause-cells c =
     let forms = forms_in c.args.space.now.store in
     let spare = c.loop-next.space.spare in
     let next = c.loop-next.next in
-    let within : c.args.form.number < length forms = omega (arith, c.requires.within, c.requires.count_is) in
-    let f = stands forms c.args.space.now.store c.args.form.number c.args.form.start c.requires.forms.whole within c.requires.begins in
+    let within : c.args.form.number < length forms = c.requires.form.within in
+    let f = stands forms c.args.space.now.store c.args.form.number c.args.form.start c.requires.forms.forms.whole within c.requires.form.start_is in
     let e : next - 1 + 1 ≡ next = omega (arith, c.loop-next.auto.next) in
-    let there = next-start forms c.args.form.number within spare (next - 1) (omega (arith, c.loop-next.auto.next)) (omega (arith, e, c.loop-next-test.true, c.requires.count_is)) c.loop-next.invariant.index in
+    let there = next-start forms c.args.form.number within spare (next - 1) (omega (arith, c.loop-next.auto.next)) (omega (arith, e, c.loop-next-test.true, c.requires.forms.count_is)) c.loop-next.invariant.index in
     omega (arith, there, ap (start_in spare) e, f.name_len, f.body_len, c.head.ensures, c.head-2.ensures)
 
 pub loop-next-preserved : goal.loop-next-preserved
@@ -69,11 +69,11 @@ loop-next-preserved c =
     let spare = c.loop-next.space.spare in
     let next = c.loop-next.next in
     let cells = 3 + c.head.result + c.head-2.result in
-    let within : k < length forms = omega (arith, c.requires.within, c.requires.count_is) in
-    let f = stands forms s.store k c.args.form.start c.requires.forms.whole within c.requires.begins in
+    let within : k < length forms = c.requires.form.within in
+    let f = stands forms s.store k c.args.form.start c.requires.forms.forms.whole within c.requires.form.start_is in
     let e : next - 1 + 1 ≡ next = omega (arith, c.loop-next.auto.next) in
     let e2 : next ≡ next + 1 - 1 = omega arith in
-    let more = index-forward forms k within spare (next - 1) cells (omega (arith, c.loop-next.auto.next)) (omega (arith, e, c.loop-next-test.true, c.requires.count_is)) (omega (arith, f.name_len, f.body_len, c.head.ensures, c.head-2.ensures)) c.loop-next.invariant.index in
+    let more = index-forward forms k within spare (next - 1) cells (omega (arith, c.loop-next.auto.next)) (omega (arith, e, c.loop-next-test.true, c.requires.forms.count_is)) (omega (arith, f.name_len, f.body_len, c.head.ensures, c.head-2.ensures)) c.loop-next.invariant.index in
     let here = subst (λ n. IsIndexBut (forward spare n cells) (length forms) n (names_now forms k n) (starts_now forms k n)) e more in
     let now = c.bring_forward.new.space.spare in
     let is : now ≡ forward spare next cells = ap (λ (w : Lists). w.spare) c.bring_forward.ensures in
@@ -87,5 +87,5 @@ returns c =
     let forms = forms_in c.args.space.now.store in
     record {
       same = c.loop-next.invariant.same;
-      index = λ _. index-removed forms c.args.form.number (omega (arith, c.requires.within, c.requires.count_is)) c.loop-next.space.spare (c.loop-next.next - 1) (omega (arith, c.loop-next.auto.next, c.loop-next.auto.next-end, c.loop-next-test.false, c.requires.within, c.requires.count_is)) c.loop-next.invariant.index;
+      index = λ _. index-removed forms c.args.form.number c.requires.form.within c.loop-next.space.spare (c.loop-next.next - 1) (omega (arith, c.loop-next.auto.next, c.loop-next.auto.next-end, c.loop-next-test.false, c.requires.form.within, c.requires.forms.count_is)) c.loop-next.invariant.index;
     }

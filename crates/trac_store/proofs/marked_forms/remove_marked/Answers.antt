@@ -2,43 +2,43 @@ use Rattle.trac_store.proofs.Words.{Part, ◌≡◌, ◌+◌, ◌<◌, ◌≤◌
 use Rattle.trac_store.proofs.Sweeping.{swept-name, swept-body, swept-pointer, swept-end, swept-more, swept-gone, swept-first}
 use Rattle.trac_store.proofs.marked_forms.remove_marked.Goals.{then-form, else-form}
 use Rattle.trac_store.proofs.marked_forms.remove_marked.Goals as goal
-use Rattle.trac_store.proofs.marked_forms.remove_marked.Goals.{After-heads_at-form}
+use Rattle.trac_store.proofs.marked_forms.remove_marked.Goals.{After-tested_heads-form}
 
 -- the sizes of the form that is looked at, and where it ends
-less : (c : After-heads_at-form) → c.loop-form._form < length (forms_in c.args.space.now.store)
+less : (c : After-tested_heads-form) → c.loop-form._form < length (forms_in c.args.space.now.store)
 less c = omega (arith, c.loop-form-test.true, c.requires.count_is)
 
-name : (c : After-heads_at-form) → c.heads_at-form.result.name ≡ length (form_at (forms_in c.args.space.now.store) c.loop-form._form).name
-name c = c.heads_at-form.ensures.name ∙ swept-name c.loop-form.invariant c.requires.forms.whole (less c)
+name : (c : After-tested_heads-form) → c.tested_heads-form.result.name ≡ length (form_at (forms_in c.args.space.now.store) c.loop-form._form).name
+name c = c.tested_heads-form.ensures.name ∙ swept-name c.loop-form.invariant c.requires.forms.whole (less c)
 
-body : (c : After-heads_at-form) → c.heads_at-form.result.body ≡ length (form_at (forms_in c.args.space.now.store) c.loop-form._form).body
-body c = c.heads_at-form.ensures.body ∙ swept-body c.loop-form.invariant c.requires.forms.whole (less c)
+body : (c : After-tested_heads-form) → c.tested_heads-form.result.body ≡ length (form_at (forms_in c.args.space.now.store) c.loop-form._form).body
+body c = c.tested_heads-form.ensures.body ∙ swept-body c.loop-form.invariant c.requires.forms.whole (less c)
 
-end : (c : After-heads_at-form) → c.loop-form.from + 3 + c.heads_at-form.result.name + c.heads_at-form.result.body ≤ length c.loop-form.space.store
+end : (c : After-tested_heads-form) → c.loop-form.from + 3 + c.tested_heads-form.result.name + c.tested_heads-form.result.body ≤ length c.loop-form.space.store
 end c = omega (arith, swept-end c.loop-form.invariant c.requires.forms.whole (less c), name c, body c)
 
-pub heads_at-form-requires-clause-within : goal.heads_at-form-requires-clause-within
-heads_at-form-requires-clause-within c =
+pub tested_heads-form-requires-clause-within : goal.tested_heads-form-requires-clause-within
+tested_heads-form-requires-clause-within c =
     omega (arith, swept-end c.loop-form.invariant c.requires.forms.whole (omega (arith, c.loop-form-test.true, c.requires.count_is)))
 
 pub overflow_add-end : goal.overflow_add-end
-overflow_add-end c = omega (arith, end (goal.at.overflow_add-end c).After-heads_at-form, c.loop-form.invariant.len, c.requires.forms.bounded)
+overflow_add-end c = omega (arith, end (goal.at.overflow_add-end c).After-tested_heads-form, c.loop-form.invariant.len, c.requires.forms.bounded)
 
 pub overflow_add-end-in-loop-form : goal.overflow_add-end-in-loop-form
-overflow_add-end-in-loop-form c = omega (arith, end (goal.at.overflow_add-end-in-loop-form c).After-heads_at-form, c.loop-form.invariant.len, c.requires.forms.bounded)
+overflow_add-end-in-loop-form c = omega (arith, end (goal.at.overflow_add-end-in-loop-form c).After-tested_heads-form, c.loop-form.invariant.len, c.requires.forms.bounded)
 
 pub overflow_add-end-in-loop-form-2 : goal.overflow_add-end-in-loop-form-2
-overflow_add-end-in-loop-form-2 c = omega (arith, end (goal.at.overflow_add-end-in-loop-form-2 c).After-heads_at-form, c.loop-form.invariant.len, c.requires.forms.bounded)
+overflow_add-end-in-loop-form-2 c = omega (arith, end (goal.at.overflow_add-end-in-loop-form-2 c).After-tested_heads-form, c.loop-form.invariant.len, c.requires.forms.bounded)
 
 pub move_gap-gap-requires-clause-within : goal.move_gap-gap-requires-clause-within
-move_gap-gap-requires-clause-within c = omega (arith, end (goal.at.move_gap-gap-requires-clause-within c).After-heads_at-form)
+move_gap-gap-requires-clause-within c = omega (arith, end (goal.at.move_gap-gap-requires-clause-within c).After-tested_heads-form)
 
 pub loop-form-preserved : goal.loop-form-preserved
 loop-form-preserved c =
     let i = c.loop-form.invariant in
-    let k = (goal.at.loop-form-preserved c).After-heads_at-form in
-    let pointer = c.heads_at-form.ensures.pointer ∙ swept-pointer i c.requires.forms.whole (less k) in
-    let end = c.loop-form.from + 3 + c.heads_at-form.result.name + c.heads_at-form.result.body in
+    let k = (goal.at.loop-form-preserved c).After-tested_heads-form in
+    let pointer = c.tested_heads-form.ensures.pointer ∙ swept-pointer i c.requires.forms.whole (less k) in
+    let end = c.loop-form.from + 3 + c.tested_heads-form.result.name + c.tested_heads-form.result.body in
     let form = form_at (forms_in c.args.space.now.store) c.loop-form._form in
     let ends : end ≡ c.loop-form.from + (3 + length form.name + length form.body) = omega (arith, name k, body k) in
     elim c.if-form.branch [

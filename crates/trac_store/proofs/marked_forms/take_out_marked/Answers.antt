@@ -5,7 +5,7 @@ use Rattle.trac_store.proofs.marked_forms.take_out_marked.Goals as goal
 
 pub index_from-requires-clause-forms : goal.index_from-requires-clause-forms
 index_from-requires-clause-forms c =
-    unmarked-forms c.args.space.now _ _ c.unindex_from.ensures.same c.remove_marked-count.ensures.gone c.requires.forms
+    unmarked-forms c.args.space.now _ _ c.unindex_from.ensures.same c.remove_marked-count.ensures.gone c.requires.forms.forms
 
 pub index_from-requires-clause-count_is : goal.index_from-requires-clause-count_is
 index_from-requires-clause-count_is c =

@@ -9,12 +9,12 @@ mark_all-first-requires-clause-formed c =
 pub take_out_marked-self-inside-requires-clause-forms :
     goal.take_out_marked-self-inside-requires-clause-forms
 take_out_marked-self-inside-requires-clause-forms c =
-    marks-forms (texts_between c.self.inside.space.neutral c.args.from c.args.end) c.self.invariant c.mark_all-first.ensures.marked
-
-pub take_out_marked-self-inside-requires-clause-count_is :
-    goal.take_out_marked-self-inside-requires-clause-count_is
-take_out_marked-self-inside-requires-clause-count_is c =
-    marks-count (texts_between c.self.inside.space.neutral c.args.from c.args.end) c.self.invariant c.mark_all-first.ensures.marked
+    let names = texts_between c.self.inside.space.neutral c.args.from c.args.end in
+    record {
+      forms = marks-forms names c.self.invariant c.mark_all-first.ensures.marked;
+      count_is = marks-count names c.self.invariant c.mark_all-first.ensures.marked;
+      index = c.mark_all-first.ensures.index;
+    }
 
 pub invariant_of-self : goal.invariant_of-self
 invariant_of-self c =

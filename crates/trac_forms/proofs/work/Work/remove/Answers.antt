@@ -7,7 +7,7 @@ use Rattle.trac_forms.proofs.work.Work.remove.Goals.{After-unindex, After-remove
 here : (c : After-unindex) → Stands (forms_in c.self.inside.space.store) c.unindex.new.space.store c.args.form.number c.args.form.start
 here c =
     let same = ap (λ (w : Lists). w.store) c.unindex.ensures.same in
-    stands _ _ _ _ (c.self.invariant.forms.whole ∙ sym same) (rw (← c.self.view_is) at c.requires.known) (rw (← c.self.view_is) at c.requires.begins)
+    stands _ _ _ _ (c.self.invariant.forms.whole ∙ sym same) (rw (← c.self.view_is) at c.requires.form).within (rw (← c.self.view_is) at c.requires.form).start_is
 
 pub remove_form-requires-clause-bounded : goal.remove_form-requires-clause-bounded
 remove_form-requires-clause-bounded c =
@@ -32,7 +32,7 @@ invariant_of-self c =
     let h = c.self.invariant in
     let forms = forms_in s.store in
     let k = c.args.form.number in
-    let within = rw (← c.self.view_is) at c.requires.known in
+    let within = (rw (← c.self.view_is) at c.requires.form).within in
     let fewer = length-remove forms k within in
     restored _ s c.remove_form.new.space (remove forms k) (c.self.inside.count - 1) 0 0 c.unindex.ensures.index h.sound (IsStore-remove forms k h.sound.forms) (omega (arith, ap length h.forms.whole, cells-remove forms k within, used-stored s h.forms.whole, h.sound.fits)) (gone (goal.at.invariant_of-self c).After-remove_form) (omega (arith, h.count_is, fewer)) (omega arith) refl
 

@@ -8,8 +8,8 @@ byte-seen Comma h = h
 byte-seen (Gap n) h = h
 byte-seen (Head n) h = h
 
-pub find_by_name-requires-clause-bytes : goal.find_by_name-requires-clause-bytes
-find_by_name-requires-clause-bytes c =
+pub find_by_name-requires : goal.find_by_name-requires
+find_by_name-requires c =
     All-map IsByte seen c.args.name.now (λ k d within. byte-seen _ (c.requires k d within))
 
 pub returns-in-Some : goal.returns-in-Some
@@ -17,11 +17,11 @@ returns-in-Some c =
     let forms = forms_in c.self.inside.space.store in
     let sound = c.self.invariant.sound.forms in
     let name = ap (λ t. form_named t forms) (bytes-seen c.args.name.now) in
-    let at = form_named-at (text_of_cells (map seen c.args.name.now)) forms c.in-Some.form.number sound c.in-Some.ensures.named in
+    let at = form_named-at (text_of_cells (map seen c.args.name.now)) forms c.in-Some.form.number sound (rw c.new-finder.ensures at c.in-Some.ensures).named in
     ap Some c.stored_at.ensures ∙ rw (← c.self.view_is) (sym at ∙ name)
 
 pub returns-in-None : goal.returns-in-None
 returns-in-None c =
     let forms = forms_in c.self.inside.space.store in
     let name = ap (λ t. form_named t forms) (bytes-seen c.args.name.now) in
-    rw (← c.self.view_is) (sym (form_named-none (text_of_cells (map seen c.args.name.now)) forms c.in-None.ensures) ∙ name)
+    rw (← c.self.view_is) (sym (form_named-none (text_of_cells (map seen c.args.name.now)) forms (rw c.new-finder.ensures at c.in-None.ensures)) ∙ name)

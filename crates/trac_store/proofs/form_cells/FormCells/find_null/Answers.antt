@@ -2,23 +2,23 @@ use Rattle.trac_store.proofs.Words.{◌≡◌, ◌+◌, [], length, map, get_or,
 use Rattle.trac_store.proofs.Finding.{Begins, begins_at, number_is}
 use Rattle.trac_store.proofs.HeadCells.{is_head}
 use Rattle.trac_store.proofs.DistinctForms.{NoneNamed-more}
-use Rattle.trac_store.proofs.form_cells.find_null.Goals as goal
-use Rattle.trac_store.proofs.form_cells.find_null.Goals.{In-loop-k}
+use Rattle.trac_store.proofs.form_cells.FormCells.find_null.Goals as goal
+use Rattle.trac_store.proofs.form_cells.FormCells.find_null.Goals.{In-loop-k}
 
-next : (c : In-loop-k) → Begins c.args.store.now c.loop-k.k c.loop-k.start
-next c = begins_at _ _ _ c.requires.whole (omega arith) c.loop-k.invariant.begins
+next : (c : In-loop-k) → Begins c.self.inside.cells.now c.loop-k.k c.loop-k.start
+next c = begins_at _ _ _ c.self.invariant.whole (omega arith) c.loop-k.invariant.begins
 
-pub offset_bounds-store-start : goal.offset_bounds-store-start
-offset_bounds-store-start c = omega (arith, (next (goal.at.offset_bounds-store-start c).In-loop-k).end)
+pub offset_bounds-cells-start : goal.offset_bounds-cells-start
+offset_bounds-cells-start c = omega (arith, (next (goal.at.offset_bounds-cells-start c).In-loop-k).end)
 
-pub bounds-store-start : goal.bounds-store-start
-bounds-store-start c = omega (arith, (next (goal.at.bounds-store-start c).In-loop-k).end)
+pub bounds-cells-start : goal.bounds-cells-start
+bounds-cells-start c = omega (arith, (next (goal.at.bounds-cells-start c).In-loop-k).end)
 
 pub number_in_head-len-requires : goal.number_in_head-len-requires
 number_in_head-len-requires c = is_head _ _ (next (goal.at.number_in_head-len-requires c).In-loop-k).name_len
 
-pub bounds-store-start-in-loop-k : goal.bounds-store-start-in-loop-k
-bounds-store-start-in-loop-k c = omega (arith, (next (goal.at.bounds-store-start-in-loop-k c).In-loop-k).end)
+pub bounds-cells-start-in-loop-k : goal.bounds-cells-start-in-loop-k
+bounds-cells-start-in-loop-k c = omega (arith, (next (goal.at.bounds-cells-start-in-loop-k c).In-loop-k).end)
 
 pub number_in_head-requires : goal.number_in_head-requires
 number_in_head-requires c = is_head _ _ (next (goal.at.number_in_head-requires c).In-loop-k).body_len
@@ -29,16 +29,16 @@ overflow_cast-result c = omega (arith, (next (goal.at.overflow_cast-result c).In
 pub returns-then-len-eq0 : goal.returns-then-len-eq0
 returns-then-len-eq0 c =
     let b = next (goal.at.returns-then-len-eq0 c).In-loop-k in
-    let form = form_at (forms_in (map seen c.args.store.now)) c.loop-k.k in
-    let len : c.number_in_head-len.result ≡ length form.name = c.number_in_head-len.ensures ∙ number_is (get_or c.args.store.now c.loop-k.start (Byte 0)) (length form.name) b.name_len in
-    record {
+    let form = form_at (forms_in (map seen c.self.inside.cells.now)) c.loop-k.k in
+    let len : c.number_in_head-len.result ≡ length form.name = c.number_in_head-len.ensures ∙ number_is (get_or c.self.inside.cells.now c.loop-k.start (Byte 0)) (length form.name) b.name_len in
+    rw (← c.self.view_is) (record {
       named = record { within = omega arith; named = nil_from_length form.name (omega (arith, len)) };
       start_is = c.loop-k.invariant.begins;
-    }
+    })
 
 pub loop-k-preserved : goal.loop-k-preserved
 loop-k-preserved c =
-    let store = c.args.store.now in
+    let store = c.self.inside.cells.now in
     let b = next (goal.at.loop-k-preserved c).In-loop-k in
     let form = form_at (forms_in (map seen store)) c.loop-k.k in
     let len : c.number_in_head-len.result ≡ length form.name = c.number_in_head-len.ensures ∙ number_is (get_or store c.loop-k.start (Byte 0)) (length form.name) b.name_len in

@@ -4,8 +4,8 @@ use Rattle.trac_store.proofs.Finding.{begins_at, number_is, bytes-flat}
 use Rattle.trac_store.proofs.HeadCells.{is_head, number-seen}
 use Rattle.trac_store.proofs.FlatLemmas.{Byte-character_of, character_of-Byte}
 use Rattle.trac_store.proofs.IndexSearch.{slots_len}
-use Rattle.trac_store.proofs.index.start_if_named.Goals as goal
-use Rattle.trac_store.proofs.index.start_if_named.Goals.{After-number-start}
+use Rattle.trac_store.proofs.index.IndexedForms.start_if_named.Goals as goal
+use Rattle.trac_store.proofs.index.IndexedForms.start_if_named.Goals.{After-number-start}
 
 -- what the table and the store say of form k
 record Begins (store table : List Cell) (k start : ℕ) : Type 0 where
@@ -35,18 +35,18 @@ begins-here store table k start whole index within is =
       part = b.name_part;
     }
 
-here : (c : After-number-start) → Begins c.args.store.now c.args.table.now c.args.k c.number-start.result
-here c = begins-here c.args.store.now c.args.table.now c.args.k c.number-start.result c.requires.whole c.requires.index c.requires.within c.number-start.ensures
+here : (c : After-number-start) → Begins c.self.inside.cells.now c.self.inside.table.now c.args.k c.number-start.result
+here c = begins-here c.self.inside.cells.now c.self.inside.table.now c.args.k c.number-start.result c.self.invariant.whole c.self.invariant.index (rw (← c.self.view_is) at c.requires.within) c.number-start.ensures
 
 -- how long the name is
-len : (c : After-number-start) (n : ℕ) → n ≡ head_number (Some (get_or c.args.store.now (c.number-start.result + 3 - 3) (Byte 0))) → n ≡ length (name_at (forms_in (map seen c.args.store.now)) c.args.k)
+len : (c : After-number-start) (n : ℕ) → n ≡ head_number (Some (get_or c.self.inside.cells.now (c.number-start.result + 3 - 3) (Byte 0))) → n ≡ length (name_at (forms_in (map seen c.self.inside.cells.now)) c.args.k)
 len c n is = is ∙ number_is _ _ (here c).head
 
-part : (c : After-number-start) (n : ℕ) → n ≡ head_number (Some (get_or c.args.store.now (c.number-start.result + 3 - 3) (Byte 0))) → map seen (slice_range c.args.store.now (c.number-start.result + 3) (c.number-start.result + 3 + n)) ≡ flat_text (name_at (forms_in (map seen c.args.store.now)) c.args.k)
-part c n is = ap (λ n. map seen (slice_range c.args.store.now (c.number-start.result + 3) (c.number-start.result + 3 + n))) (len c n is) ∙ (here c).part
+part : (c : After-number-start) (n : ℕ) → n ≡ head_number (Some (get_or c.self.inside.cells.now (c.number-start.result + 3 - 3) (Byte 0))) → map seen (slice_range c.self.inside.cells.now (c.number-start.result + 3) (c.number-start.result + 3 + n)) ≡ flat_text (name_at (forms_in (map seen c.self.inside.cells.now)) c.args.k)
+part c n is = ap (λ n. map seen (slice_range c.self.inside.cells.now (c.number-start.result + 3) (c.number-start.result + 3 + n))) (len c n is) ∙ (here c).part
 
-pub bounds-store-at : goal.bounds-store-at
-bounds-store-at c = omega (arith, (here (goal.at.bounds-store-at c).After-number-start).end)
+pub bounds-cells-at : goal.bounds-cells-at
+bounds-cells-at c = omega (arith, (here (goal.at.bounds-cells-at c).After-number-start).end)
 
 pub number_in_head-len-requires : goal.number_in_head-len-requires
 number_in_head-len-requires c = is_head _ _ (here (goal.at.number_in_head-len-requires c).After-number-start).head
@@ -64,14 +64,14 @@ is_name-requires-clause-part_bytes c =
 pub returns-then-is_name : goal.returns-then-is_name
 returns-then-is_name c =
     let k = (goal.at.returns-then-is_name c).After-number-start in
-    let name = name_at (forms_in (map seen c.args.store.now)) c.args.k in
+    let name = name_at (forms_in (map seen c.self.inside.cells.now)) c.args.k in
     let same : flat_text name ≡ map seen c.args.name.now = sym (part k _ c.number_in_head-len.ensures) ∙ c.is_name.ensures.0 c.if-is_name.true in
-    record {
-      named = record { within = c.requires.within; named = sym (character_of-Byte name) ∙ ap text_of_cells same };
+    rw (← c.self.view_is) (record {
+      named = record { within = (rw (← c.self.view_is) at c.requires.within); named = sym (character_of-Byte name) ∙ ap text_of_cells same };
       start_is = (here k).begins;
-    }
+    })
 
 pub returns-else-is_name : goal.returns-else-is_name
-returns-else-is_name c = λ named.
+returns-else-is_name c = rw (← c.self.view_is) (λ named.
     let k = (goal.at.returns-else-is_name c).After-number-start in
-    both_ways c.is_name.result c.if-is_name.false (c.is_name.ensures.1 (part k _ c.number_in_head-len.ensures ∙ ap flat_text named ∙ Byte-character_of (map seen c.args.name.now) c.requires.bytes))
+    both_ways c.is_name.result c.if-is_name.false (c.is_name.ensures.1 (part k _ c.number_in_head-len.ensures ∙ ap flat_text named ∙ Byte-character_of (map seen c.args.name.now) c.requires.bytes)))

@@ -3,12 +3,12 @@ use Rattle.trac_store.proofs.Finding.{Begins, begins_at, number_is, bytes-flat, 
 use Rattle.trac_store.proofs.FlatLemmas.{character_of-Byte}
 use Rattle.trac_store.proofs.Gaps.{bytes-seen}
 use Rattle.trac_store.proofs.HeadCells.{is_head}
-use Rattle.trac_store.proofs.form_cells.is_named.Goals as goal
-use Rattle.trac_store.proofs.form_cells.is_named.Goals.{Start}
+use Rattle.trac_store.proofs.form_cells.FormCells.is_named.Goals as goal
+use Rattle.trac_store.proofs.form_cells.FormCells.is_named.Goals.{After-self}
 
 -- the form begins at the place
-here : (c : Start) → Begins c.args.store.now c.args.form.number c.args.form.start
-here c = begins_at _ _ _ c.requires.whole c.requires.within c.requires.begins.start_is
+here : (c : After-self) → Begins c.self.inside.cells.now c.args.form.number c.args.form.start
+here c = begins_at _ _ _ c.self.invariant.whole (rw (← c.self.view_is) at c.requires.form).within (rw (← c.self.view_is) at c.requires.form).start_is
 
 -- the name of a form, which has the length that was read
 abbrev named : List Cell → ℕ → Text
@@ -32,34 +32,34 @@ module _ (store : List Cell) (k at n : ℕ) (b : Begins store k at)
       sym (character_of-Byte (named store k)) ∙ ap text_of_cells (sym shown)
       ∙ bytes-seen (cells_of store at n) ∙ e ∙ sym (bytes-seen name)
 
-pub bounds-store-start : goal.bounds-store-start
-bounds-store-start c = omega (arith, (here (goal.at.bounds-store-start c).Start).end)
+pub bounds-cells-start : goal.bounds-cells-start
+bounds-cells-start c = omega (arith, (here (goal.at.bounds-cells-start c).After-self).end)
 
 pub number_in_head-len-requires : goal.number_in_head-len-requires
 number_in_head-len-requires c =
-    is_head _ _ (here (goal.at.number_in_head-len-requires c).Start).name_len
+    is_head _ _ (here (goal.at.number_in_head-len-requires c).After-self).name_len
 
 pub slice_bounds-is_text_back-end : goal.slice_bounds-is_text_back-end
 slice_bounds-is_text_back-end c =
-    let b = here (goal.at.slice_bounds-is_text_back-end c).Start in
+    let b = here (goal.at.slice_bounds-is_text_back-end c).After-self in
     let len = c.number_in_head-len.ensures ∙ number_is _ _ b.name_len in
     omega (arith, b.end, len)
 
 pub is_text_back-requires-clause-cell_bytes : goal.is_text_back-requires-clause-cell_bytes
 is_text_back-requires-clause-cell_bytes c =
-    let b = here (goal.at.is_text_back-requires-clause-cell_bytes c).Start in
+    let b = here (goal.at.is_text_back-requires-clause-cell_bytes c).After-self in
     let len = c.number_in_head-len.ensures ∙ number_is _ _ b.name_len in
-    bytes c.args.store.now c.args.form.number c.args.form.start c.number_in_head-len.result b len
+    bytes c.self.inside.cells.now c.args.form.number c.args.form.start c.number_in_head-len.result b len
 
 pub is_text_back-requires-clause-bytes : goal.is_text_back-requires-clause-bytes
 is_text_back-requires-clause-bytes c = bytes-of-seen c.args.name.now c.requires.bytes
 
 pub returns-then-len-name : goal.returns-then-len-name
 returns-then-len-name c = λ t.
-    let b = here (goal.at.returns-then-len-name c).Start in
+    let b = here (goal.at.returns-then-len-name c).After-self in
     let len = c.number_in_head-len.ensures ∙ number_is _ _ b.name_len in
-    let text = same c.args.store.now c.args.form.number c.args.form.start c.number_in_head-len.result b len c.args.name.now in
-    record {
-      named = record { within = c.requires.within; named = text (c.is_text_back.ensures t) };
-      start_is = c.requires.begins.start_is;
-    }
+    let text = same c.self.inside.cells.now c.args.form.number c.args.form.start c.number_in_head-len.result b len c.args.name.now in
+    rw (← c.self.view_is) (record {
+      named = record { within = (rw (← c.self.view_is) at c.requires.form).within; named = text (c.is_text_back.ensures t) };
+      start_is = (rw (← c.self.view_is) at c.requires.form).start_is;
+    })

@@ -1,6 +1,6 @@
 use Rattle.trac_store.proofs.Words.{◌≡◌, ◌+◌, ap, ◌∙◌, arith, head_at}
 use Rattle.trac_store.proofs.HeadCells.{number-in-part}
-use Rattle.trac_store.proofs.form_cells.heads_at.Goals as goal
+use Rattle.trac_store.proofs.form_heads.tested_heads.Goals as goal
 
 pub returns-clause-name : goal.returns-clause-name
 returns-clause-name c =

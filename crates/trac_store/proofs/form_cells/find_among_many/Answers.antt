@@ -1,7 +1,0 @@
-use Rattle.trac_store.proofs.Words.{map, seen, text_of_cells, forms_in}
-use Rattle.trac_store.proofs.DistinctForms.{found-round}
-use Rattle.trac_store.proofs.form_cells.find_among_many.Goals as goal
-
-pub returns : goal.returns
-returns c =
-    found-round (text_of_cells (map seen c.args.name.now)) (forms_in (map seen c.args.store.now)) c.args.last.number c.args.count c.find_between_by_call-found.result c.requires.count_is c.in_default.ensures c.find_between_by_call-found.ensures
