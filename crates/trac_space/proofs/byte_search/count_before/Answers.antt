@@ -1,6 +1,6 @@
 use Rattle.trac_space.proofs.Words.{◌≡◌, ◌+◌, ◌-◌, length, sym, ◌∙◌, arith, length-between}
 use Rattle.trac_space.proofs.Stops.{none-more, front-of_part, get-of_part}
-use Rattle.trac_space.proofs.space.count_before.Goals as goal
+use Rattle.trac_space.proofs.byte_search.count_before.Goals as goal
 
 pub loop-done-preserved : goal.loop-done-preserved
 loop-done-preserved c =

@@ -1,5 +1,5 @@
 use Rattle.trac_space.proofs.Words.{◌≡◌, take, false, ◌==◌, list_any}
-use Rattle.trac_space.proofs.space.count_each.Given as goal
+use Rattle.trac_space.proofs.byte_search.count_each.Given as goal
 
 -- the byte doesn't stand among those so far
 abbrev pub invariant-loop-i : goal.invariant-loop-i

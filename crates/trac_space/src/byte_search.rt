@@ -1,0 +1,68 @@
+//! Looks for a byte in a text, sixteen bytes at once.
+ghost use Rattle.std.specs.Prelude.{◌≡◌, ◌≤◌, ◌<◌, ◌==◌, length, not, take, false, slice_get, slice_index, Some};
+ghost use Rattle.std.specs.List.{list_any};
+ghost use Rattle.std.specs.Slice.Scan.{digits_from, flag_word};
+
+/// How many bytes stand before the first `stop`; all of them if there is none.
+pub(crate) fn count_before(stop: u8, text: &[u8]) -> usize
+    ensures within { result ≤ length text.now }
+    ensures before { list_any (λ byte. byte == stop) (take result text.now) ≡ false }
+    ensures stops { result < length text.now → slice_get text.now result ≡ Some stop }
+{
+    let mut done = 0;
+    while text.len() - done >= 16 && !has_byte(stop, &text[done..done + 16]) {
+        done += 16;
+    }
+    done + count_each(stop, &text[done..])
+}
+
+// How many bytes stand before the first `stop`, looked at one by one; all of them if there is none.
+#[inline]
+fn count_each(stop: u8, text: &[u8]) -> usize
+    ensures within { result ≤ length text.now }
+    ensures before { list_any (λ byte. byte == stop) (take result text.now) ≡ false }
+    ensures stops { result < length text.now → slice_get text.now result ≡ Some stop }
+{
+    for (i, byte) in text.iter().enumerate() {
+        if *byte == stop {
+            return i;
+        }
+    }
+    text.len()
+}
+
+// The low seven bits of eight bytes, and the high bit of each.
+const LOW_BITS: u64 = 0x7f7f_7f7f_7f7f_7f7f;
+
+const HIGH_BITS: u64 = 0x8080_8080_8080_8080;
+
+// Whether a byte stands among sixteen.
+#[inline]
+fn has_byte(byte: u8, text: &[u8]) -> bool
+    requires { length text.now ≡ 16 }
+    ensures { result ≡ list_any (λ b. b == byte) text.now }
+{
+    others(byte, &text[..8]) & others(byte, &text[8..]) != HIGH_BITS
+}
+
+// Which of eight bytes are others than this one: the high bit of each of these, the first byte lowest.
+#[inline(always)]
+fn others(byte: u8, text: &[u8]) -> u64
+    requires { length text.now ≡ 8 }
+    ensures { result ≡ flag_word (λ k. not (slice_index text.now k == byte)) }
+{
+    let differences = word(text) ^ u64::from(byte) * 0x0101_0101_0101_0101;
+    (((differences & LOW_BITS) + LOW_BITS) | differences) & HIGH_BITS
+}
+
+// Eight bytes as a number, the first one lowest.
+#[inline(always)]
+fn word(text: &[u8]) -> u64
+    requires { length text.now ≡ 8 }
+    ensures { result ≡ digits_from (λ k. slice_index text.now k) 0 8 }
+{
+    match text.first_chunk::<8>() {
+        Some(bytes) => u64::from_le_bytes(*bytes),
+        None => 0,
+    }
+}
