@@ -6,7 +6,7 @@ use Rattle.clap.specs.declared.builder.action.ArgAction.TheVariants.{SetTrue}
 use Rattle.clap.specs.declared.builder.value_parser.ValueParser.TheVariants as parser
 use Rattle.trac_words.specs.CommandLine.{gives, has_flag, number_of, number_option}
 use Rattle.trac_words.specs.CommandLine.{numbers_command}
-use Rattle.trac_trace.specs.declared.views.Views.{Views}
+use Rattle.trac_views.specs.declared.views.Views.{Views}
 
 -- the flag `--name`
 abbrev pub flag_of : Text → Rule

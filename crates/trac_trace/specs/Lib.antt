@@ -1,9 +1,5 @@
-pub mod Lines
 pub mod CommandLine
-pub mod Shown
-pub mod Told
-pub mod Faults
 pub mod Last
 pub mod Odd
-pub mod Largest
 pub mod Warned
+pub mod Statuses

@@ -12,8 +12,8 @@ use Rattle.trac_space.specs.Texts.{text_of_cells}
 use Rattle.trac_events.specs.Calls.{argument_of}
 use Rattle.trac_events.specs.Changes.{is_same}
 use Rattle.trac_warnings.specs.Suspicions.{needs_form}
-use Rattle.trac_trace.specs.declared.calls.Oddity.{Oddity}
-use Rattle.trac_trace.specs.declared.calls.Oddity.TheVariants.{NoFunction, NoForm, Default}
+use Rattle.trac_views.specs.declared.calls.Oddity.{Oddity}
+use Rattle.trac_views.specs.declared.calls.Oddity.TheVariants.{NoFunction, NoForm, Default}
 
 -- the function takes a part of a form
 abbrev pub takes_part : Function → Bool

@@ -11,9 +11,10 @@ use Rattle.trac_warnings.specs.declared.origin.Origin.{Origin}
 use Rattle.trac_warnings.specs.declared.warning.Warning.{Warning}
 use Rattle.trac_warnings.specs.Suspicions.{sentence_of}
 use Rattle.trac_language.specs.declared.report.Report.{Report}
-use Rattle.trac_trace.specs.Lines.{end_text, traced_status}
-use Rattle.trac_trace.specs.Shown.{shown_text}
-use Rattle.trac_trace.specs.Told.{place_text}
+use Rattle.trac_trace.specs.Statuses.{traced_status}
+use Rattle.trac_views.specs.Lines.{end_text}
+use Rattle.trac_views.specs.Shown.{shown_text}
+use Rattle.trac_views.specs.Told.{place_text}
 
 -- a column, from 0, of the value of a form of this name
 abbrev pub column_of_value : ℕ → List ℕ → List ℕ

@@ -6,39 +6,28 @@
 #![tactic(auto)]
 
 ghost use Rattle.std.specs.Prelude.{◌≡◌};
-ghost use Rattle.trac_trace.specs.Lines.{traced_status};
+ghost use Rattle.trac_trace.specs.Statuses.{traced_status};
 
-mod calls;
 mod check;
-mod deleted;
 mod errors;
-mod escapes;
-mod events;
-mod faults;
-mod forms;
-mod largest;
 mod last;
-mod lines;
 mod oddities;
-mod printed;
 mod record;
 mod shown;
 mod trace;
-mod views;
 mod warnings;
 mod watched;
 mod words;
 
 use check::check_files;
 use errors::Errors;
-use escapes::push_text;
 use std::env;
 use std::io::{ErrorKind, Read, Write};
 use std::process::ExitCode;
 use trac_core::{Fate, Input, Output, RetryingReader, RetryingWriter, SliceSource};
 use trac_lines::{fate_status, refused, refused_words};
+use trac_views::{Options, push_text};
 use trace::{TraceError, trace, trace_last, write};
-use views::Options;
 use watched::watched;
 use words::{Words, words_from};
 

@@ -4,11 +4,11 @@ ghost use Rattle.trac_trace.specs.Odd.{asks_for_part, is_default, oddity_of};
 ghost use Rattle.trac_trace.specs.Odd.{has_number, takes_part};
 ghost use Rattle.trac_space.specs.Texts.{text_of_cells};
 
-use crate::calls::Oddity;
 use trac_core::Cell;
 use trac_events::{Named, argument, is_same};
 use trac_language::Function;
 use trac_space::character_of;
+use trac_views::Oddity;
 use trac_warnings::needs_form;
 
 /// What is odd about a call with these arguments and this value: no function has its name, no form

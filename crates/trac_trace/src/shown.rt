@@ -1,23 +1,20 @@
 //! What is shown of a run, as it goes on.
 ghost use Rattle.std.specs.Prelude.{◌≡◌, ◌++◌, ◌&&◌, [], IfOk, OnOk, max, not, true, false};
 ghost use Rattle.trac_events.specs.Calls.{IsSeen};
-ghost use Rattle.trac_trace.specs.Lines.{head_text};
-ghost use Rattle.trac_trace.specs.Told.{event_text, has_steps, is_fault, meta_text};
-ghost use Rattle.trac_trace.specs.Faults.{TellsDone, TellsEnd, TellsStep, TellsWhere, forms_text};
-ghost use Rattle.trac_trace.specs.Faults.{is_told};
+ghost use Rattle.trac_views.specs.Lines.{head_text};
+ghost use Rattle.trac_views.specs.Told.{event_text, has_steps, is_fault, meta_text};
+ghost use Rattle.trac_views.specs.Faults.{TellsDone, TellsEnd, TellsStep, TellsWhere, forms_text};
+ghost use Rattle.trac_views.specs.Faults.{is_told};
 
-use crate::calls::Called;
-use crate::deleted::push_deleted;
-use crate::events::{Event, push_event};
-use crate::faults::{is_fault, push_fault};
-use crate::forms::{push_form, push_forms};
-use crate::lines::{Step, head, push, push_byte, push_end};
 use crate::oddities::oddity_of;
-use crate::views::Views;
 use std::alloc::{AllocError, Global};
 use trac_core::{Awaits, Cell, Fate, Machine, OpenCall, Report};
 use trac_events::{
     Before, Named, Reading, Touched, argument, arguments_of, find_form, pointer_of, touched_by,
+};
+use trac_views::{
+    Called, Event, Step, Views, head, is_fault, push, push_byte, push_deleted, push_end,
+    push_event, push_fault, push_form, push_forms,
 };
 
 /// The lines of the views of a run, and what they are made from.

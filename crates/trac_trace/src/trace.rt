@@ -2,20 +2,18 @@
 ghost use Rattle.std.specs.Prelude.{◌≡◌, ◌+◌, ◌-◌, ◌^◌, ◌<◌, ◌++◌, [], IfOk, OnOk};
 ghost use Rattle.std.specs.Io.KnownBytes.{Appends};
 ghost use Rattle.trac_core.specs.Machine.{reported_input_failures};
-ghost use Rattle.trac_trace.specs.Lines.{output_text};
+ghost use Rattle.trac_views.specs.Lines.{output_text};
 
 use crate::last::LastSteps;
-use crate::lines::push_folded;
-use crate::printed::Printed;
 use crate::record::{Record, Recording};
 use crate::shown::Shown;
-use crate::views::Options;
 use std::alloc::{AllocError, Global};
 use std::io;
 use std::io::{Read, Write};
 use thiserror::Error;
 use trac_core::{Fate, Input, Machine, Output, SliceSource, Source};
 use trac_space::make_block;
+use trac_views::{Options, Printed, push_folded};
 
 /// Why a trace broke off.
 #[derive(Debug, Drop, Error)]

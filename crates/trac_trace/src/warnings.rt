@@ -3,11 +3,9 @@ ghost use Rattle.std.specs.Prelude.{◌≡◌, ◌++◌, OnOk};
 ghost use Rattle.trac_trace.specs.Warned.{column_of_value, count_text, said_text, times_text};
 ghost use Rattle.trac_trace.specs.Warned.{value_text, warning_text};
 
-use crate::escapes::push_text;
-use crate::faults::push_place;
-use crate::lines::{push, push_number};
 use std::alloc::AllocError;
 use trac_events::Place;
+use trac_views::{push, push_number, push_place, push_text};
 use trac_warnings::{Origin, Warning};
 
 /// Adds the line of a warning that was given `times` times: its place in the input, the name of the

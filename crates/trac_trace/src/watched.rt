@@ -3,19 +3,17 @@ ghost use Rattle.std.specs.Prelude.{◌≡◌, ◌++◌, ◌+◌, ◌-◌, ◌^�
 ghost use Rattle.std.specs.List.{flat_map};
 ghost use Rattle.trac_core.specs.Machine.{reported_input_failures};
 ghost use Rattle.trac_events.specs.Places.{behind_text, first_place};
-ghost use Rattle.trac_trace.specs.Told.{is_fault};
+ghost use Rattle.trac_views.specs.Told.{is_fault};
 ghost use Rattle.trac_trace.specs.Warned.{fault_end, form_named, summary_text, warned_status};
 ghost use Rattle.trac_trace.specs.Warned.{warning_line, warning_text, worse};
 
-use crate::faults::is_fault;
-use crate::lines::{push, push_end, push_number};
-use crate::printed::Printed;
 use crate::status;
 use crate::warnings::push_warning;
 use std::alloc::{AllocError, Global};
 use trac_core::{Fate, Machine, Report, Source};
 use trac_events::Place;
 use trac_space::make_block;
+use trac_views::{Printed, is_fault, push, push_end, push_number};
 use trac_warnings::{Findings, Warning, Watch, look_at_script};
 use trac_words::Settings;
 

@@ -1,7 +1,7 @@
 use Rattle.std.proofs.Common.{◌≡◌, ◌++◌, ◌+◌, ◌-◌, ◌^◌, codes}
 use Rattle.std.specs.Prelude.{decimal, min}
-use Rattle.trac_trace.specs.Shown.{shown_text}
-use Rattle.trac_trace.proofs.Texts.{after, on_ok}
+use Rattle.trac_views.specs.Shown.{shown_text}
+use Rattle.trac_views.proofs.Texts.{after, on_ok}
 use Rattle.trac_trace.proofs.warnings.push_value_of.Goals as goal
 
 pub returns : goal.returns

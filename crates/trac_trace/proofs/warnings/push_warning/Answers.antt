@@ -1,7 +1,7 @@
 use Rattle.std.proofs.Common.{◌≡◌, ◌++◌, codes}
-use Rattle.trac_trace.specs.Told.{place_text}
+use Rattle.trac_views.specs.Told.{place_text}
 use Rattle.trac_trace.specs.Warned.{said_text, times_text, value_text}
-use Rattle.trac_trace.proofs.Texts.{after, on_ok}
+use Rattle.trac_views.proofs.Texts.{after, on_ok}
 use Rattle.trac_trace.proofs.warnings.push_warning.Goals as goal
 
 pub returns : goal.returns

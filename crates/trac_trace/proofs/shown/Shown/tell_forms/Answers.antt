@@ -1,8 +1,8 @@
 use Rattle.std.proofs.Common.{◌≡◌, ◌∙◌, ◌++◌, Bool, true, false, List, [], ℕ, ap, append_assoc}
 use Rattle.std.specs.Prelude.{if◌then◌else◌}
 use Rattle.std.specs.List.{flat_map}
-use Rattle.trac_trace.specs.Told.{form_line, meta_text}
-use Rattle.trac_trace.proofs.Texts.{on_ok}
+use Rattle.trac_views.specs.Told.{form_line, meta_text}
+use Rattle.trac_views.proofs.Texts.{on_ok}
 use Rattle.trac_trace.proofs.shown.Shown.tell_forms.Goals as goal
 
 -- two texts behind a first one, where they are asked for

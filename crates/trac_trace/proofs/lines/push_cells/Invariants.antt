@@ -1,7 +1,0 @@
-use Rattle.std.proofs.Common.{◌≡◌, ◌++◌, take}
-use Rattle.trac_trace.specs.Lines.{cells_text}
-use Rattle.trac_trace.proofs.lines.push_cells.Given as goal
-
--- the cells so far stand in the line
-abbrev pub invariant-loop-cell : goal.invariant-loop-cell
-invariant-loop-cell l = l.line.items ≡ l.initial.line.items ++ cells_text (take l.cell-index l.cells)

@@ -1,0 +1,4 @@
+pub mod Texts
+pub mod ShownTexts
+pub mod LargestTold
+pub mod Folded

@@ -1,0 +1,87 @@
+-- What is told of a step, of a run's end and of a fault, by the cells that a machine shows.
+use Rattle.std.specs.Prelude.{◌≡◌, ℕ, ◌-◌, ◌&&◌, ◌++◌, Bool, true, false, List, [], None, length}
+use Rattle.std.specs.Prelude.{nat_le, nat_lt, if◌then◌else◌}
+use Rattle.std.specs.List.{flat_map}
+use Rattle.trac_language.specs.State.{size}
+use Rattle.trac_language.specs.declared.fate.Fate.{Fate}
+use Rattle.trac_space.specs.Texts.{text_of_cells}
+use Rattle.trac_space.specs.declared.cell.Cell.{Cell}
+use Rattle.trac_functions.specs.Flat.{neutral_of}
+use Rattle.trac_core.specs.Machine.{MachineState}
+use Rattle.trac_core.specs.View.{neutral_in}
+use Rattle.trac_events.specs.Places.{one_more}
+use Rattle.trac_events.specs.declared.before.Before.{Before}
+use Rattle.trac_events.specs.declared.place.Place.{Place}
+use Rattle.trac_views.specs.declared.faults.Parts.{Parts}
+use Rattle.trac_views.specs.declared.views.Views.{Views}
+use Rattle.trac_views.specs.Largest.{largest_text}
+use Rattle.trac_views.specs.Lines.{dropped_text, end_text, output_text, step_text}
+use Rattle.trac_views.specs.Told.{form_line, is_fault, meta_text, open_calls_text, parts_text}
+use Rattle.trac_views.specs.Told.{where_text}
+
+-- the step behind so many is one of those that are shown
+abbrev pub is_told : Views → ℕ → Bool
+is_told views done =
+    nat_le views.from (one_more done) && nat_le (one_more done) views.to
+
+-- the cells are those of the machine's neutral string
+abbrev pub IsNeutral : MachineState → List Cell → Type 0
+IsNeutral m neutral = neutral_of neutral ≡ neutral_in m.memory
+
+-- the line of a step that was seen before, and its need, of the machine after it, cut to a width, and
+-- that of what it dropped
+abbrev pub TellsDone : ℕ → Before → ℕ → MachineState → (old new : List ℕ) → Type 0
+TellsDone width before need m old new =
+    (neutral : List Cell) × ((active : List Cell) × (IsNeutral m neutral
+    × ((text_of_cells active ≡ m.memory.active)
+    × (new ≡ (old ++ step_text width m.steps before.rule before.size need neutral active)
+    ++ dropped_text before.drops))))
+
+-- that line, where the step was done, and the line of what it printed, where it printed
+abbrev pub TellsPrinted : Bool → ℕ → Before → ℕ → List ℕ → MachineState → (old new : List ℕ)
+    → Type 0
+TellsPrinted true width before need printed m old new =
+    (line : List ℕ) × (TellsDone width before need m old line × (new ≡ line ++ output_text printed))
+TellsPrinted false width before need printed m old new = new ≡ old ++ output_text printed
+
+-- the same, of a step that was done where more steps are done now
+abbrev pub TellsStep : ℕ → Before → ℕ → List ℕ → MachineState → (old new : List ℕ) → Type 0
+TellsStep width before need printed m old new =
+    TellsPrinted (nat_lt before.done m.steps) width before need printed m old new
+
+-- the cells that each part of a machine's block holds, whose neutral string has so many
+abbrev pub parts_of : MachineState → ℕ → Parts
+parts_of m neutral = record {
+  forms = size m.memory - neutral - length m.memory.active;
+  neutral = neutral;
+  active = length m.memory.active;
+  free = m.room - size m.memory;
+}
+
+-- the line of these cells
+abbrev pub parts_line : Parts → List ℕ
+parts_line parts = parts_text parts.forms parts.neutral parts.active parts.free
+
+-- the lines on a fault
+abbrev pub TellsFault : ℕ → Place → MachineState → (old new : List ℕ) → Type 0
+TellsFault width string m old new =
+    (neutral : List Cell) × (IsNeutral m neutral
+    × (new ≡ old ++ where_text (one_more m.steps) string ++ open_calls_text width neutral
+    ++ largest_text width 5 None m.memory.forms ++ parts_line (parts_of m (length neutral))))
+
+-- the forms and the meta character at the end, where forms are shown
+abbrev pub forms_text : Views → MachineState → List ℕ
+forms_text views m =
+    if views.forms then flat_map (form_line views.width) m.memory.forms ++ meta_text m.memory.meta
+    else []
+
+-- what is told of a fault, with some place in the input, where there was one
+abbrev pub TellsWhere : Bool → ℕ → MachineState → (old new : List ℕ) → Type 0
+TellsWhere true width m old new = (string : Place) × TellsFault width string m old new
+TellsWhere false width m old new = new ≡ old
+
+-- how the run ended, the forms, and where it ended by a fault, what is told of that
+abbrev pub TellsEnd : Views → Fate → ℕ → MachineState → (old new : List ℕ) → Type 0
+TellsEnd views fate peak m old new =
+    TellsWhere (is_fault fate) views.width m
+    (old ++ end_text fate m.steps peak ++ forms_text views m) new

@@ -1,0 +1,5 @@
+pub mod Lines
+pub mod Shown
+pub mod Told
+pub mod Faults
+pub mod Largest

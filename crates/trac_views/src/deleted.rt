@@ -1,0 +1,111 @@
+//! The forms that a call deletes.
+ghost use Rattle.std.specs.Prelude.{◌≡◌, ◌++◌, OnOk};
+ghost use Rattle.std.specs.List.{flat_map};
+ghost use Rattle.trac_space.specs.Texts.{text_of_cells};
+ghost use Rattle.trac_views.specs.Told.{deleted_text, deletion, first_deleted, form_deleted};
+ghost use Rattle.trac_views.specs.Told.{is_argument, named_deleted};
+
+use crate::escapes::push_name;
+use crate::lines::push;
+use std::alloc::{AllocError, Global};
+use trac_core::{Cell, Forms, Machine};
+use trac_events::{Touched, argument, find_form, is_same};
+
+/// Adds the names of the forms that a call with these arguments deletes: those of the arguments, in
+/// their order, or all forms, in the order of their definition. `touched` says which. Fails only if
+/// memory runs out.
+pub fn push_deleted(
+    line: &mut Vec<u8>,
+    alloc: Global,
+    touched: Touched,
+    arguments: &[Cell],
+    machine: &Machine,
+    width: u32,
+) -> Result<(), AllocError>
+    ensures { OnOk result (line.new.items ≡ line.old.items
+        ++ deleted_text width touched machine.now.memory.forms arguments.now) }
+{
+    match touched {
+        Touched::Nothing | Touched::First => Ok(()),
+        Touched::Each => push_named(line, alloc, machine, arguments, width),
+        Touched::All => push_all(line, alloc, machine.forms(), width),
+    }
+}
+
+// Adds the names of all forms.
+fn push_all(line: &mut Vec<u8>, alloc: Global, forms: Forms, width: u32) -> Result<(), AllocError>
+    ensures { OnOk result (line.new.items ≡ line.old.items
+        ++ flat_map (form_deleted width) forms.entry) }
+{
+    for form in forms {
+        push_deletion(line, alloc, form.name(), width)?;
+    }
+    Ok(())
+}
+
+// Adds each argument behind the function's name that names a form, once.
+fn push_named(
+    line: &mut Vec<u8>,
+    alloc: Global,
+    machine: &Machine,
+    arguments: &[Cell],
+    width: u32,
+) -> Result<(), AllocError>
+    ensures { OnOk result (line.new.items ≡ line.old.items
+        ++ named_deleted width machine.now.memory.forms arguments.now) }
+{
+    let mut rest = arguments;
+    for cell in arguments {
+        rest = &rest[1..];
+        if matches!(cell, Cell::Comma) {
+            push_first(line, alloc, machine, rest, width)?;
+        }
+    }
+    Ok(())
+}
+
+// Adds the first of these arguments if it names a form and no later argument is the same.
+fn push_first(
+    line: &mut Vec<u8>,
+    alloc: Global,
+    machine: &Machine,
+    arguments: &[Cell],
+    width: u32,
+) -> Result<(), AllocError>
+    ensures { OnOk result (line.new.items ≡ line.old.items
+        ++ first_deleted width machine.now.memory.forms arguments.now) }
+{
+    let name = argument(arguments, 0);
+    if find_form(machine, name).is_none() || is_argument(arguments, name) {
+        return Ok(());
+    }
+    push_deletion(line, alloc, name, width)
+}
+
+// Adds that a form of this name is deleted.
+fn push_deletion(
+    line: &mut Vec<u8>,
+    alloc: Global,
+    name: &[Cell],
+    width: u32,
+) -> Result<(), AllocError>
+    ensures { OnOk result (line.new.items ≡ line.old.items
+        ++ deletion width (text_of_cells name.now)) }
+{
+    push(line, b" deletes ")?;
+    push_name(line, alloc, name, width)
+}
+
+// Whether one of the arguments behind the first is this text.
+fn is_argument(arguments: &[Cell], name: &[Cell]) -> bool
+    ensures { result ≡ is_argument arguments.now (text_of_cells name.now) }
+{
+    let mut rest = arguments;
+    for cell in arguments {
+        rest = &rest[1..];
+        if matches!(cell, Cell::Comma) && is_same(argument(rest, 0), name) {
+            return true;
+        }
+    }
+    false
+}
