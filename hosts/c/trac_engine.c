@@ -4,7 +4,7 @@
  * and what compilers make of it (memcpy, memset) alone.
  *
  * Crates: trac_language trac_space trac_values trac_store trac_forms trac_devices trac_functions trac_laws trac_core trac_c
- * Sources: 8f78deafa3bf248fb2e93143d303d4c050f210b91b47c0e0d59cd955b8d36c34
+ * Sources: efe3b3e9995965fc0cbb727a73bc2917f2368e298b489d932e755b52c4afd296
  * Kit: rattle-kit-13f logic dac8208d650f15bf
  * Tools: wasm-opt version 108, wabt 1.0.32
  */
@@ -87,7 +87,7 @@ static inline u64 clz64(u64 x) {
     return x >> 32 ? clz32((u32)(x >> 32)) : 32 + clz32((u32)x);
 }
 
-enum { DEEPEST_STACK = 1120 };
+enum { DEEPEST_STACK = 1136 };
 
 static const u8 tables[3200] = {
     0, 1, 2, 3, 4, 5, 6, 7, 8, 9, 10, 11, 12, 13, 14, 15, 16, 17, 18, 19, 20, 21, 22, 23,
@@ -277,7 +277,7 @@ static INLINE void store_form_cells_find_between_by_call(u64 stack, u64 l0, u64 
 static void store_form_cells_find_from_last(u64 stack, u64 l0, u64 l1, u32 l2, u32 l3, u32 l4, u64 l5, u64 l6);
 static u32 store_index_index_fitting(u64 stack, u64 l0, u32 l1);
 static void store_index_index_from(u64 stack, u64 l0, u32 l1, u32 l2, u32 l3);
-static INLINE u32 store_form_cells_place_of(u64 stack, u64 l0, u32 l1, u32 l2, u32 l3);
+static u32 store_form_finder_FormFinder_place_of(u64 stack, u64 l0, u32 l1);
 static u32 core_display_show_items(u64 stack, u64 l0, u32 l1, u32 l2, u64 l3);
 static INLINE u64 itoa_integer_write_unsigned(u64 stack, u64 l0, u64 l1);
 static u32 forms_work_Work_load_other_part(u64 stack, u64 l0, u32 l1, u32 l2);
@@ -1847,7 +1847,6 @@ static void devices_slice_source_SliceSourceSource_take_held(u64 stack, u64 l0, 
     u64 l14 = 0;
     u32 l15 = 0;
     u32 l16 = 0;
-    u32 l17 = 0;
     l12 = stack;
     {
         const u64 t2 = load64(l0);
@@ -1855,149 +1854,90 @@ static void devices_slice_source_SliceSourceSource_take_held(u64 stack, u64 l0, 
         {
             {
                 {
-                    const u32 t6 = load32(l2 + 8ull);
-                    const u32 t7 = load32(l2 + 20ull);
-                    const u32 t8 = load32(l2 + 16ull);
-                    l16 = t7 + t8;
-                    const u32 t9 = load32(l2 + 24ull);
-                    l17 = l16 + t9;
-                    l3 = (u64)(t6 - l17);
-                    const u64 t10 = load64(l0 + 8u);
-                    l5 = t10;
-                    l5 = (l3 < l5) ? l3 : l5;
-                    if (l5 < 16ull) {
+                    {
+                        const u32 t7 = load32(l2 + 8ull);
+                        const u32 t8 = load32(l2 + 20ull);
+                        const u32 t9 = load32(l2 + 16ull);
+                        l15 = t8 + t9;
+                        const u32 t10 = load32(l2 + 24ull);
+                        l16 = l15 + t10;
+                        l3 = (u64)(t7 - l16);
+                        const u64 t11 = load64(l0 + 8u);
+                        l4 = t11;
+                        l7 = (l3 < l4) ? l3 : l4;
+                        if (l7 < 16ull) {
+                            l3 = l7;
+                            goto L6;
+                        }
+                        l11 = ((u64)l1 & 255ull) * 72340172838076673ull;
+                        const u64 t13 = load64(l8);
+                        l3 = l11 ^ t13;
+                        const u64 t14 = load64(l8 + 8ull);
+                        const u64 t15 = ((l3 & 9187201950435737471ull) + 9187201950435737471ull) | l3;
+                        l3 = t14 ^ l11;
+                        const u64 t16 = (t15 & (((l3 & 9187201950435737471ull) + 9187201950435737471ull) | l3)) & 9259542123273814144ull;
+                        if (t16 != 9259542123273814144ull) {
+                            l3 = l7;
+                            goto L4;
+                        }
+                        l10 = l7 & 4294967280ull;
+                        l4 = 0ull;
+                        l5 = l8;
+                        L18:;
+                        {
+                            l3 = (l4 + l7) - 16ull;
+                            if (l3 <= 15ull) goto L6;
+                            l3 = l5 + 24ull;
+                            l4 = l4 - 16ull;
+                            l5 = l5 + 16ull;
+                            const u64 t19 = load64(l5);
+                            l9 = t19 ^ l11;
+                            const u64 t20 = load64(l3);
+                            l3 = t20 ^ l11;
+                            const u64 t21 = (((l9 & 9187201950435737471ull) + 9187201950435737471ull) | l9) & (((l3 & 9187201950435737471ull) + 9187201950435737471ull) | l3);
+                            if ((t21 & 9259542123273814144ull) == 9259542123273814144ull) goto L18;
+                        }
                         goto L5;
                     }
-                    l6 = l5 & 4294967280ull;
-                    L12:;
-                    {
-                        l15 = l1 & 255u;
-                        l3 = l4 + l8;
-                        const u32 t13 = load8(l3);
-                        if (l15 == t13) {
-                            l6 = l4;
-                            goto L4;
-                        }
-                        const u32 t15 = load8(l3 + 1ull);
-                        if (l15 == t15) {
-                            l6 = l4;
-                            goto L4;
-                        }
-                        l15 = l1 & 255u;
-                        const u32 t17 = load8(l3 + 2ull);
-                        if (l15 == t17) {
-                            l6 = l4;
-                            goto L4;
-                        }
-                        const u32 t19 = load8(l3 + 3ull);
-                        if (l15 == t19) {
-                            l6 = l4;
-                            goto L4;
-                        }
-                        l15 = l1 & 255u;
-                        const u32 t21 = load8(l3 + 4ull);
-                        if (l15 == t21) {
-                            l6 = l4;
-                            goto L4;
-                        }
-                        const u32 t23 = load8(l3 + 5ull);
-                        if (l15 == t23) {
-                            l6 = l4;
-                            goto L4;
-                        }
-                        l15 = l1 & 255u;
-                        const u32 t25 = load8(l3 + 6ull);
-                        if (l15 == t25) {
-                            l6 = l4;
-                            goto L4;
-                        }
-                        const u32 t27 = load8(l3 + 7ull);
-                        if (l15 == t27) {
-                            l6 = l4;
-                            goto L4;
-                        }
-                        l15 = l1 & 255u;
-                        const u32 t29 = load8(l3 + 8ull);
-                        if (l15 == t29) {
-                            l6 = l4;
-                            goto L4;
-                        }
-                        const u32 t31 = load8(l3 + 9ull);
-                        if (l15 == t31) {
-                            l6 = l4;
-                            goto L4;
-                        }
-                        l15 = l1 & 255u;
-                        const u32 t33 = load8(l3 + 10ull);
-                        if (l15 == t33) {
-                            l6 = l4;
-                            goto L4;
-                        }
-                        const u32 t35 = load8(l3 + 11ull);
-                        if (l15 == t35) {
-                            l6 = l4;
-                            goto L4;
-                        }
-                        l15 = l1 & 255u;
-                        const u32 t37 = load8(l3 + 12ull);
-                        if (l15 == t37) {
-                            l6 = l4;
-                            goto L4;
-                        }
-                        const u32 t39 = load8(l3 + 13ull);
-                        if (l15 == t39) {
-                            l6 = l4;
-                            goto L4;
-                        }
-                        l15 = l1 & 255u;
-                        const u32 t41 = load8(l3 + 14ull);
-                        if (l15 == t41) {
-                            l6 = l4;
-                            goto L4;
-                        }
-                        const u32 t43 = load8(l3 + 15ull);
-                        if (l15 == t43) {
-                            l6 = l4;
-                            goto L4;
-                        }
-                        l4 = l4 + 16ull;
-                        l5 = l5 - 16ull;
-                        if (l5 > 15ull) goto L12;
-                    }
+                    L6:;
+                    if ((l3 == 0) == 0) goto L4;
+                    goto L3;
                 }
                 L5:;
-                if (l5 == 0) goto L3;
+                l3 = l4 + l7;
+                l10 = 0ull - l4;
             }
             L4:;
-            l3 = l6 + l8;
-            L45:;
+            l4 = l8 + l10;
+            L22:;
             {
-                const u32 t46 = load8(l3 + l7);
-                if (t46 == (l1 & 255u)) goto L3;
-                l7 = l7 + 1ull;
-                if (l5 != l7) goto L45;
+                const u32 t23 = load8(l4 + l6);
+                if (t23 == (l1 & 255u)) goto L3;
+                l6 = l6 + 1ull;
+                if (l3 != l6) goto L22;
             }
-            l7 = l5;
+            l6 = l3;
         }
         L3:;
-        l9 = l6 + l7;
-        l15 = (u32)l9;
-        const u32 t47 = load32(l2 + 28ull);
-        if (l15 > (t47 - l17)) {
+        const u32 t24 = load32(l2 + 28ull);
+        l9 = l6 + l10;
+        const u32 t25 = t24 - l16;
+        l16 = (u32)l9;
+        if (t25 < l16) {
             space_space_Space_move_active(stack, l2, 0u);
-            const u32 t49 = load32(l2 + 20ull);
-            const u32 t50 = load32(l2 + 16ull);
-            l16 = t49 + t50;
+            const u32 t27 = load32(l2 + 20ull);
+            const u32 t28 = load32(l2 + 16ull);
+            l15 = t27 + t28;
         }
-        const u64 t51 = load64(l2);
-        l13 = t51;
-        l14 = (u64)l16 << 3;
-        l10 = l13 + l14;
-        l4 = 0ull;
+        const u64 t29 = load64(l2);
+        l13 = t29;
+        l14 = (u64)l15 << 3;
+        l7 = l13 + l14;
+        l5 = 0ull;
         if (l9 >= 8ull) {
             l11 = l9;
-            l3 = l10;
-            L53:;
+            l3 = l7;
+            L31:;
             {
                 store64(l3 + 56u, 0ull);
                 store64(l3 + 48u, 0ull);
@@ -2007,72 +1947,72 @@ static void devices_slice_source_SliceSourceSource_take_held(u64 stack, u64 l0, 
                 store64(l3 + 16u, 0ull);
                 store64(l3 + 8u, 0ull);
                 store64(l3, 0ull);
-                l5 = l4 + l8;
-                const u32 t54 = load8(l5);
-                store8(l3 + 1ull, (u8)t54);
-                const u32 t55 = load8(l5 + 1ull);
-                store8(l3 + 9ull, (u8)t55);
-                const u32 t56 = load8(l5 + 2ull);
-                store8(l3 + 17ull, (u8)t56);
-                const u32 t57 = load8(l5 + 3ull);
-                store8(l3 + 25ull, (u8)t57);
-                const u32 t58 = load8(l5 + 4ull);
-                store8(l3 + 33ull, (u8)t58);
-                const u32 t59 = load8(l5 + 5ull);
-                store8(l3 + 41ull, (u8)t59);
-                const u32 t60 = load8(l5 + 6ull);
-                store8(l3 + 49ull, (u8)t60);
-                const u32 t61 = load8(l5 + 7ull);
-                store8(l3 + 57ull, (u8)t61);
+                l4 = l5 + l8;
+                const u32 t32 = load8(l4);
+                store8(l3 + 1ull, (u8)t32);
+                const u32 t33 = load8(l4 + 1ull);
+                store8(l3 + 9ull, (u8)t33);
+                const u32 t34 = load8(l4 + 2ull);
+                store8(l3 + 17ull, (u8)t34);
+                const u32 t35 = load8(l4 + 3ull);
+                store8(l3 + 25ull, (u8)t35);
+                const u32 t36 = load8(l4 + 4ull);
+                store8(l3 + 33ull, (u8)t36);
+                const u32 t37 = load8(l4 + 5ull);
+                store8(l3 + 41ull, (u8)t37);
+                const u32 t38 = load8(l4 + 6ull);
+                store8(l3 + 49ull, (u8)t38);
+                const u32 t39 = load8(l4 + 7ull);
+                store8(l3 + 57ull, (u8)t39);
                 l3 = l3 + 64ull;
-                l4 = l4 + 8ull;
+                l5 = l5 + 8ull;
                 l11 = l11 - 8ull;
-                if (l11 > 7ull) goto L53;
+                if (l11 > 7ull) goto L31;
             }
         }
         {
-            if (l4 >= l9) goto L62;
-            l3 = l4 + 1ull;
-            l7 = l6 + l7;
-            if ((((l7 - l4) & 1ull) == 0) == 0) {
-                const u32 t64 = load8(l4 + l8);
-                l1 = t64;
-                l5 = l10 + (l4 << 3);
-                store8(l5, (u8)0u);
-                store32(l5 + 4ull, 0u);
-                store8(l5 + 1ull, (u8)l1);
-                l4 = l3;
+            if (l5 >= l9) goto L40;
+            l3 = l5 + 1ull;
+            l6 = l6 + l10;
+            if ((((l6 - l5) & 1ull) == 0) == 0) {
+                const u32 t42 = load8(l5 + l8);
+                l1 = t42;
+                l4 = l7 + (l5 << 3);
+                store8(l4, (u8)0u);
+                store32(l4 + 4ull, 0u);
+                store8(l4 + 1ull, (u8)l1);
+                l5 = l3;
             }
-            if (l3 == l7) goto L62;
-            l5 = l4 + l8;
-            l7 = l7 - l4;
-            l3 = l13 + ((l4 << 3) + l14);
-            L65:;
+            if (l3 == l6) goto L40;
+            l4 = l5 + l8;
+            l6 = l6 - l5;
+            l3 = l13 + ((l5 << 3) + l14);
+            L43:;
             {
-                const u32 t66 = load8(l5);
-                l1 = t66;
+                const u32 t44 = load8(l4);
+                l1 = t44;
                 store32(l3 + 4ull, 0u);
                 store8(l3 + 1ull, (u8)l1);
                 store8(l3, (u8)0u);
-                const u32 t67 = load8(l5 + 1ull);
-                l1 = t67;
+                const u32 t45 = load8(l4 + 1ull);
+                l1 = t45;
                 store32(l3 + 12ull, 0u);
                 store8(l3 + 9ull, (u8)l1);
                 store8(l3 + 8ull, (u8)0u);
-                l5 = l5 + 2ull;
+                l4 = l4 + 2ull;
                 l3 = l3 + 16ull;
-                l7 = l7 - 2ull;
-                if (l7 != 0ull) goto L65;
+                l6 = l6 - 2ull;
+                if (l6 != 0ull) goto L43;
             }
         }
-        L62:;
+        L40:;
         l3 = l2 + 20ull;
-        const u32 t68 = load32(l3);
-        store32(l3, t68 + l15);
-        const u64 t69 = load64(l0 + 8u);
-        store64(l0 + 8u, t69 - l9);
-        const u64 t70 = load64(l0);
-        store64(l0, t70 + l9);
+        const u32 t46 = load32(l3);
+        store32(l3, t46 + l16);
+        const u64 t47 = load64(l0 + 8u);
+        store64(l0 + 8u, t47 - l9);
+        const u64 t48 = load64(l0);
+        store64(l0, t48 + l9);
         stack = l12;
         return;
     }
@@ -2745,9 +2685,8 @@ static void forms_work_Work_stored(u64 stack, u64 l0, u64 l1, u32 l2) {
     u32 l5 = 0;
     u32 l6 = 0;
     u32 l7 = 0;
-    u32 l8 = 0;
+    u64 l8 = 0;
     u64 l9 = 0;
-    u64 l10 = 0;
     (void)stack;
     {
         const u32 t2 = load32(l1 + 48ull);
@@ -2757,34 +2696,34 @@ static void forms_work_Work_stored(u64 stack, u64 l0, u64 l1, u32 l2) {
             l4 = t4;
             if (l2 == l4) goto L3;
             if (l2 > l4) {
-                l6 = l2 - l4;
+                l5 = l2 - l4;
                 const u32 t6 = load32(l1 + 16ull);
-                l5 = t6;
+                l6 = t6;
                 L7:;
                 {
                     l2 = 3u;
-                    if (l3 < l5) {
+                    if (l3 < l6) {
                         const u64 t9 = load64(l1);
-                        l9 = t9 + ((u64)l3 << 3);
-                        const u32 t10 = load32(l9 + 4ull);
-                        const u32 t11 = load8(l9);
+                        l8 = t9 + ((u64)l3 << 3);
+                        const u32 t10 = load32(l8 + 4ull);
+                        const u32 t11 = load8(l8);
                         l2 = (t11 == 4u) ? (t10 + 3u) : 3u;
                     }
                     l4 = 0u;
                     l7 = l3 + 1u;
                     u32 v12;
-                    if (l5 > l7) {
+                    if (l6 > l7) {
                         const u64 t13 = load64(l1);
-                        l9 = t13 + ((u64)l7 << 3);
-                        const u32 t14 = load32(l9 + 4ull);
-                        const u32 t15 = load8(l9);
+                        l8 = t13 + ((u64)l7 << 3);
+                        const u32 t14 = load32(l8 + 4ull);
+                        const u32 t15 = load8(l8);
                         v12 = (t15 == 4u) ? t14 : 0u;
                     } else {
                         v12 = l4;
                     }
                     l3 = v12 + (l2 + l3);
-                    l6 = l6 - 1u;
-                    if (l6) goto L7;
+                    l5 = l5 - 1u;
+                    if (l5) goto L7;
                 }
                 goto L3;
             }
@@ -2793,28 +2732,28 @@ static void forms_work_Work_stored(u64 stack, u64 l0, u64 l1, u32 l2) {
                 goto L3;
             }
             const u32 t17 = load32(l1 + 16ull);
-            l5 = t17;
+            l6 = t17;
             l3 = 0u;
             L18:;
             {
                 l4 = 3u;
-                if (l3 < l5) {
+                if (l3 < l6) {
                     const u64 t20 = load64(l1);
-                    l9 = t20 + ((u64)l3 << 3);
-                    const u32 t21 = load32(l9 + 4ull);
-                    const u32 t22 = load8(l9);
+                    l8 = t20 + ((u64)l3 << 3);
+                    const u32 t21 = load32(l8 + 4ull);
+                    const u32 t22 = load8(l8);
                     l4 = (t22 == 4u) ? (t21 + 3u) : 3u;
                 }
                 l7 = l3 + 1u;
                 u32 v23;
-                if (l5 > l7) {
+                if (l6 > l7) {
                     const u64 t24 = load64(l1);
-                    l9 = t24 + ((u64)l7 << 3);
-                    const u32 t25 = load32(l9 + 4ull);
-                    const u32 t26 = load8(l9);
+                    l8 = t24 + ((u64)l7 << 3);
+                    const u32 t25 = load32(l8 + 4ull);
+                    const u32 t26 = load8(l8);
                     v23 = (t26 == 4u) ? t25 : 0u;
                 } else {
-                    v23 = l6;
+                    v23 = l5;
                 }
                 l3 = v23 + (l3 + l4);
                 l2 = l2 - 1u;
@@ -2823,30 +2762,24 @@ static void forms_work_Work_stored(u64 stack, u64 l0, u64 l1, u32 l2) {
         }
         L3:;
         const u64 t27 = load64(l1);
-        l9 = t27;
-        l1 = l9 + ((u64)l3 << 3);
-        const u32 t28 = load32(l1 + 12ull);
+        l1 = t27;
+        l8 = l1 + ((u64)l3 << 3);
+        const u32 t28 = load32(l8 + 12ull);
         l2 = t28;
-        const u32 t29 = load8(l1 + 8u);
+        const u32 t29 = load32(l8 + 4ull);
         l4 = t29;
-        const u32 t30 = load32(l1 + 4ull);
-        l6 = t30;
-        const u32 t31 = load8(l1);
-        l5 = t31;
-        const u32 t32 = load32(l1 + 20ull);
-        l7 = t32;
-        const u32 t33 = load8(l1 + 16u);
-        l8 = t33;
+        const u32 t30 = load32(l8 + 20ull);
+        l5 = t30;
         store32(l0 + 36u, 0u);
+        store32(l0 + 32u, l5);
         l3 = l3 + 3u;
-        l10 = (u64)l3;
-        store64(l0, l9 + (l10 << 3));
-        store32(l0 + 32u, (l8 == 4u) ? l7 : 0u);
-        l3 = ((l5 == 4u) ? l6 : 0u) + l3;
-        l1 = (u64)l3;
-        store64(l0 + 8u, l1 - l10);
-        store64(l0 + 24u, (u64)((((l4 == 4u) ? l2 : 0u) + l3)) - l1);
-        store64(l0 + 16u, l9 + (l1 << 3));
+        l9 = (u64)l3;
+        store64(l0, l1 + (l9 << 3));
+        l3 = l3 + l4;
+        l8 = (u64)l3;
+        store64(l0 + 8u, l8 - l9);
+        store64(l0 + 24u, (u64)(l2 + l3) - l8);
+        store64(l0 + 16u, l1 + (l8 << 3));
         return;
     }
     trap();
@@ -8773,23 +8706,24 @@ static void functions_form_calls_delete_definition(u64 stack, u64 l0, u64 l1, u6
     u32 l35 = 0;
     u32 l36 = 0;
     u32 l37 = 0;
+    u32 l38 = 0;
     l3 = stack - 112ull;
     stack = l3;
     {
         {
             {
-                l6 = l3;
+                l7 = l3;
                 const u64 t4 = load64(l2);
                 l3 = t4;
-                store64(l6 + 48u, l3);
+                store64(l7 + 48u, l3);
                 const u64 t5 = load64(l2 + 8u);
-                store64(l6 + 56u, t5);
-                const u32 t6 = load32(l6 + 52u);
+                store64(l7 + 56u, t5);
+                const u32 t6 = load32(l7 + 52u);
                 if (t6 < (u32)l3) goto L2;
-                functions_arguments_Arguments_next(stack, l6 + 40ull, l6 + 48ull, l1);
-                const u32 t7 = load32(l6 + 44u);
+                functions_arguments_Arguments_next(stack, l7 + 40ull, l7 + 48ull, l1);
+                const u32 t7 = load32(l7 + 44u);
                 l25 = t7;
-                const u32 t8 = load32(l6 + 40u);
+                const u32 t8 = load32(l7 + 40u);
                 l24 = t8;
                 {
                     {
@@ -8800,42 +8734,42 @@ static void functions_form_calls_delete_definition(u64 stack, u64 l0, u64 l1, u6
                                     const u32 t14 = load32(l1 + 40ull);
                                     l26 = t14;
                                     if (l26 >= 8u) {
-                                        forms_work_Work_find_among_more(stack, l6 + 24ull, l1, l24, l25);
-                                        const u32 t16 = load32(l6 + 28u);
-                                        l27 = t16;
-                                        const u32 t17 = load8(l6 + 24u);
+                                        forms_work_Work_find_among_more(stack, l7 + 24ull, l1, l24, l25);
+                                        const u32 t16 = load32(l7 + 28u);
+                                        l29 = t16;
+                                        const u32 t17 = load8(l7 + 24u);
                                         v13 = t17; goto L13;
                                     }
                                     {
                                         if (l26 == 0) goto L18;
                                         const u64 t19 = load64(l1);
-                                        l5 = t19;
-                                        const u64 t20 = load32(l5 + 4ull);
+                                        l4 = t19;
+                                        const u64 t20 = load32(l4 + 4ull);
                                         const u32 t21 = load32(l1 + 16ull);
                                         l26 = t21;
                                         l2 = (u64)(l26 + l25);
                                         l3 = (u64)(l24 + l26);
                                         if (t20 != (l2 - l3)) goto L18;
-                                        l8 = 17ull - (l3 << 3);
+                                        l6 = 17ull - (l3 << 3);
                                         l3 = (l2 ^ 18446744073709551615ull) + l3;
-                                        l2 = l5 + (l2 << 3);
+                                        l2 = l4 + (l2 << 3);
                                         L22:;
                                         {
                                             l3 = l3 + 1ull;
                                             if (l3 == 0) goto L12;
-                                            l5 = l2 - 7ull;
-                                            l4 = l2 + l8;
+                                            l4 = l2 - 7ull;
+                                            l5 = l2 + l6;
                                             l2 = l2 - 8ull;
-                                            const u32 t23 = load8(l4);
-                                            const u32 t24 = load8(l5);
+                                            const u32 t23 = load8(l5);
+                                            const u32 t24 = load8(l4);
                                             if (t23 == t24) goto L22;
                                         }
                                     }
                                     L18:;
-                                    forms_work_Work_find_among_few(stack, l6 + 32ull, l1, l24, l25);
-                                    const u32 t25 = load32(l6 + 36u);
-                                    l27 = t25;
-                                    const u32 t26 = load8(l6 + 32u);
+                                    forms_work_Work_find_among_few(stack, l7 + 32ull, l1, l24, l25);
+                                    const u32 t25 = load32(l7 + 36u);
+                                    l29 = t25;
+                                    const u32 t26 = load8(l7 + 32u);
                                     v13 = t26;
                                 }
                                 L13:;
@@ -8843,15 +8777,15 @@ static void functions_form_calls_delete_definition(u64 stack, u64 l0, u64 l1, u6
                                 const u32 t27 = load32(l1 + 48ull);
                                 l25 = t27;
                                 const u32 t28 = load32(l1 + 44ull);
-                                l28 = t28;
-                                if (l28 == l27) goto L10;
-                                if (l27 > l28) {
+                                l27 = t28;
+                                if (l27 == l29) goto L10;
+                                if (l27 < l29) {
                                     const u32 t30 = load32(l1 + 16ull);
-                                    l29 = t30;
+                                    l28 = t30;
                                     L31:;
                                     {
                                         l24 = 3u;
-                                        if (l25 < l29) {
+                                        if (l25 < l28) {
                                             const u64 t33 = load64(l1);
                                             l2 = t33 + ((u64)l25 << 3);
                                             const u32 t34 = load32(l2 + 4ull);
@@ -8861,7 +8795,7 @@ static void functions_form_calls_delete_definition(u64 stack, u64 l0, u64 l1, u6
                                         l26 = 0u;
                                         l30 = l25 + 1u;
                                         u32 v36;
-                                        if (l29 > l30) {
+                                        if (l28 > l30) {
                                             const u64 t37 = load64(l1);
                                             l2 = t37 + ((u64)l30 << 3);
                                             const u32 t38 = load32(l2 + 4ull);
@@ -8871,20 +8805,20 @@ static void functions_form_calls_delete_definition(u64 stack, u64 l0, u64 l1, u6
                                             v36 = l26;
                                         }
                                         l25 = v36 + (l24 + l25);
-                                        l28 = l28 + 1u;
-                                        if (l27 != l28) goto L31;
+                                        l27 = l27 + 1u;
+                                        if (l29 != l27) goto L31;
                                     }
                                     goto L10;
                                 }
-                                if (l27 == 0) goto L11;
+                                if (l29 == 0) goto L11;
                                 const u32 t40 = load32(l1 + 16ull);
-                                l28 = t40;
+                                l27 = t40;
                                 l25 = 0u;
-                                l29 = l27;
+                                l28 = l29;
                                 L41:;
                                 {
                                     l24 = 3u;
-                                    if (l25 < l28) {
+                                    if (l25 < l27) {
                                         const u64 t43 = load64(l1);
                                         l2 = t43 + ((u64)l25 << 3);
                                         const u32 t44 = load32(l2 + 4ull);
@@ -8894,7 +8828,7 @@ static void functions_form_calls_delete_definition(u64 stack, u64 l0, u64 l1, u6
                                     l26 = 0u;
                                     l30 = l25 + 1u;
                                     u32 v46;
-                                    if (l28 > l30) {
+                                    if (l27 > l30) {
                                         const u64 t47 = load64(l1);
                                         l2 = t47 + ((u64)l30 << 3);
                                         const u32 t48 = load32(l2 + 4ull);
@@ -8904,8 +8838,8 @@ static void functions_form_calls_delete_definition(u64 stack, u64 l0, u64 l1, u6
                                         v46 = l26;
                                     }
                                     l25 = v46 + (l24 + l25);
-                                    l29 = l29 - 1u;
-                                    if (l29) goto L41;
+                                    l28 = l28 - 1u;
+                                    if (l28) goto L41;
                                 }
                                 goto L10;
                             }
@@ -8913,20 +8847,20 @@ static void functions_form_calls_delete_definition(u64 stack, u64 l0, u64 l1, u6
                             store64(l1 + 44ull, 0ull);
                         }
                         L11:;
-                        l27 = 0u;
+                        l29 = 0u;
                         l25 = 0u;
                     }
                     L10:;
-                    forms_work_Work_remove(stack, l1, l27, l25);
+                    forms_work_Work_remove(stack, l1, l29, l25);
                 }
                 L9:;
-                const u32 t50 = load32(l6 + 52u);
-                const u32 t51 = load32(l6 + 48u);
+                const u32 t50 = load32(l7 + 52u);
+                const u32 t51 = load32(l7 + 48u);
                 if (t50 < t51) goto L2;
-                functions_arguments_Arguments_next(stack, l6 + 16ull, l6 + 48ull, l1);
-                const u32 t52 = load32(l6 + 20u);
+                functions_arguments_Arguments_next(stack, l7 + 16ull, l7 + 48ull, l1);
+                const u32 t52 = load32(l7 + 20u);
                 l25 = t52;
-                const u32 t53 = load32(l6 + 16u);
+                const u32 t53 = load32(l7 + 16u);
                 l24 = t53;
                 {
                     {
@@ -8940,39 +8874,39 @@ static void functions_form_calls_delete_definition(u64 stack, u64 l0, u64 l1, u6
                                         {
                                             if (l26 == 0) goto L61;
                                             const u64 t62 = load64(l1);
-                                            l5 = t62;
-                                            const u64 t63 = load32(l5 + 4ull);
+                                            l4 = t62;
+                                            const u64 t63 = load32(l4 + 4ull);
                                             const u32 t64 = load32(l1 + 16ull);
                                             l26 = t64;
                                             l2 = (u64)(l26 + l25);
                                             l3 = (u64)(l24 + l26);
                                             if (t63 != (l2 - l3)) goto L61;
-                                            l8 = 17ull - (l3 << 3);
+                                            l6 = 17ull - (l3 << 3);
                                             l3 = (l2 ^ 18446744073709551615ull) + l3;
-                                            l2 = l5 + (l2 << 3);
+                                            l2 = l4 + (l2 << 3);
                                             L65:;
                                             {
                                                 l3 = l3 + 1ull;
                                                 if (l3 == 0) goto L57;
-                                                l5 = l2 - 7ull;
-                                                l4 = l2 + l8;
+                                                l4 = l2 - 7ull;
+                                                l5 = l2 + l6;
                                                 l2 = l2 - 8ull;
-                                                const u32 t66 = load8(l4);
-                                                const u32 t67 = load8(l5);
+                                                const u32 t66 = load8(l5);
+                                                const u32 t67 = load8(l4);
                                                 if (t66 == t67) goto L65;
                                             }
                                         }
                                         L61:;
-                                        forms_work_Work_find_among_few(stack, l6 + 8ull, l1, l24, l25);
-                                        const u32 t68 = load32(l6 + 12u);
-                                        l27 = t68;
-                                        const u32 t69 = load8(l6 + 8u);
+                                        forms_work_Work_find_among_few(stack, l7 + 8ull, l1, l24, l25);
+                                        const u32 t68 = load32(l7 + 12u);
+                                        l29 = t68;
+                                        const u32 t69 = load8(l7 + 8u);
                                         v58 = t69; goto L58;
                                     }
-                                    forms_work_Work_find_among_more(stack, l6, l1, l24, l25);
-                                    const u32 t70 = load32(l6 + 4u);
-                                    l27 = t70;
-                                    const u32 t71 = load8(l6);
+                                    forms_work_Work_find_among_more(stack, l7, l1, l24, l25);
+                                    const u32 t70 = load32(l7 + 4u);
+                                    l29 = t70;
+                                    const u32 t71 = load8(l7);
                                     v58 = t71;
                                 }
                                 L58:;
@@ -8980,18 +8914,18 @@ static void functions_form_calls_delete_definition(u64 stack, u64 l0, u64 l1, u6
                                 const u32 t72 = load32(l1 + 48ull);
                                 l25 = t72;
                                 const u32 t73 = load32(l1 + 44ull);
-                                l28 = t73;
-                                if (l28 == l27) goto L55;
-                                if (l27 <= l28) {
-                                    if (l27 == 0) goto L56;
+                                l27 = t73;
+                                if (l27 == l29) goto L55;
+                                if (l27 >= l29) {
+                                    if (l29 == 0) goto L56;
                                     const u32 t75 = load32(l1 + 16ull);
-                                    l28 = t75;
+                                    l27 = t75;
                                     l25 = 0u;
-                                    l29 = l27;
+                                    l28 = l29;
                                     L76:;
                                     {
                                         l24 = 3u;
-                                        if (l25 < l28) {
+                                        if (l25 < l27) {
                                             const u64 t78 = load64(l1);
                                             l2 = t78 + ((u64)l25 << 3);
                                             const u32 t79 = load32(l2 + 4ull);
@@ -9001,7 +8935,7 @@ static void functions_form_calls_delete_definition(u64 stack, u64 l0, u64 l1, u6
                                         l26 = 0u;
                                         l30 = l25 + 1u;
                                         u32 v81;
-                                        if (l28 > l30) {
+                                        if (l27 > l30) {
                                             const u64 t82 = load64(l1);
                                             l2 = t82 + ((u64)l30 << 3);
                                             const u32 t83 = load32(l2 + 4ull);
@@ -9011,17 +8945,17 @@ static void functions_form_calls_delete_definition(u64 stack, u64 l0, u64 l1, u6
                                             v81 = l26;
                                         }
                                         l25 = v81 + (l24 + l25);
-                                        l29 = l29 - 1u;
-                                        if (l29) goto L76;
+                                        l28 = l28 - 1u;
+                                        if (l28) goto L76;
                                     }
                                     goto L55;
                                 }
                                 const u32 t85 = load32(l1 + 16ull);
-                                l29 = t85;
+                                l28 = t85;
                                 L86:;
                                 {
                                     l24 = 3u;
-                                    if (l25 < l29) {
+                                    if (l25 < l28) {
                                         const u64 t88 = load64(l1);
                                         l2 = t88 + ((u64)l25 << 3);
                                         const u32 t89 = load32(l2 + 4ull);
@@ -9031,7 +8965,7 @@ static void functions_form_calls_delete_definition(u64 stack, u64 l0, u64 l1, u6
                                     l26 = 0u;
                                     l30 = l25 + 1u;
                                     u32 v91;
-                                    if (l29 > l30) {
+                                    if (l28 > l30) {
                                         const u64 t92 = load64(l1);
                                         l2 = t92 + ((u64)l30 << 3);
                                         const u32 t93 = load32(l2 + 4ull);
@@ -9041,8 +8975,8 @@ static void functions_form_calls_delete_definition(u64 stack, u64 l0, u64 l1, u6
                                         v91 = l26;
                                     }
                                     l25 = v91 + (l24 + l25);
-                                    l28 = l28 + 1u;
-                                    if (l27 != l28) goto L86;
+                                    l27 = l27 + 1u;
+                                    if (l29 != l27) goto L86;
                                 }
                                 goto L55;
                             }
@@ -9050,51 +8984,51 @@ static void functions_form_calls_delete_definition(u64 stack, u64 l0, u64 l1, u6
                             store64(l1 + 44ull, 0ull);
                         }
                         L56:;
-                        l27 = 0u;
+                        l29 = 0u;
                         l25 = 0u;
                     }
                     L55:;
-                    forms_work_Work_remove(stack, l1, l27, l25);
+                    forms_work_Work_remove(stack, l1, l29, l25);
                 }
                 L54:;
-                const u32 t95 = load32(l6 + 52u);
+                const u32 t95 = load32(l7 + 52u);
                 l29 = t95;
-                const u32 t96 = load32(l6 + 48u);
+                const u32 t96 = load32(l7 + 48u);
                 l24 = t96;
                 if (l29 >= l24) {
                     const u32 t98 = load32(l1 + 40ull);
                     l25 = t98;
                     l23 = l1 + 16ull;
                     const u64 t99 = load32(l23);
-                    l18 = (u64)l25 | (t99 << 32);
-                    l12 = l1 + 52ull;
+                    l12 = (u64)l25 | (t99 << 32);
+                    l13 = l1 + 52ull;
                     l34 = l25 - 6u;
                     l35 = l25 - 5u;
                     l36 = l25 - 4u;
                     l37 = l25 - 3u;
-                    l33 = l25 - 2u;
-                    l31 = l25 - 1u;
+                    l38 = l25 - 2u;
+                    l33 = l25 - 1u;
                     const u32 t100 = load32(l1 + 44ull);
-                    l30 = t100;
+                    l31 = t100;
                     const u32 t101 = load32(l1 + 48ull);
                     l32 = t101;
                     L102:;
                     {
                         const u64 t103 = load64(l1);
-                        l4 = t103;
+                        l5 = t103;
                         const u32 t104 = load32(l23);
                         l26 = t104;
                         l2 = (u64)(l26 + l24);
                         l10 = l2 << 3;
-                        l3 = l4 + l10;
+                        l3 = l5 + l10;
                         u32 v105;
                         {
                             {
-                                l5 = (u64)(l26 + l29) - l2;
-                                if (l5 <= 3ull) {
+                                l4 = (u64)(l26 + l29) - l2;
+                                if (l4 <= 3ull) {
                                     {
                                         u64 v109;
-                                        if (l5 < 2ull) {
+                                        if (l4 < 2ull) {
                                             v109 = 0ull;
                                         } else {
                                             const u32 t110 = load8(l3);
@@ -9103,14 +9037,14 @@ static void functions_form_calls_delete_definition(u64 stack, u64 l0, u64 l1, u6
                                             if (t111 == 2u) goto L106;
                                             v109 = 2ull;
                                         }
-                                        l8 = v109;
-                                        if (l8 >= l5) goto L108;
-                                        const u32 t112 = load8(l3 + (l8 << 3));
+                                        l6 = v109;
+                                        if (l6 >= l4) goto L108;
+                                        const u32 t112 = load8(l3 + (l6 << 3));
                                         if (t112 == 2u) goto L108;
-                                        v105 = (u32)l8 | 1u; goto L105;
+                                        v105 = (u32)l6 | 1u; goto L105;
                                     }
                                     L108:;
-                                    v105 = (u32)l8; goto L105;
+                                    v105 = (u32)l6; goto L105;
                                 }
                                 const u32 t113 = load8(l3);
                                 if (t113 == 2u) { v105 = 0u; goto L105; }
@@ -9120,644 +9054,656 @@ static void functions_form_calls_delete_definition(u64 stack, u64 l0, u64 l1, u6
                                 if (t115 == 2u) { v105 = 2u; goto L105; }
                                 const u32 t116 = load8(l3 + 24u);
                                 if (t116 == 2u) { v105 = 3u; goto L105; }
-                                const u32 t117 = store_arguments_before_far_comma(stack, l3, l5);
+                                const u32 t117 = store_arguments_before_far_comma(stack, l3, l4);
                                 v105 = t117; goto L105;
                             }
                             L106:;
                             v105 = 1u;
                         }
                         L105:;
-                        l28 = v105 + l24;
-                        {
-                            l27 = l25 < 12u;
-                            if (l27) goto L118;
-                            const u32 t119 = load32(l12);
-                            if (l25 >= (t119 >> 3)) goto L118;
-                            store_index_index_worthwhile(stack, l1, l25, l12);
-                            const u32 t120 = load32(l1 + 16ull);
-                            l26 = t120;
-                            l2 = (u64)(l26 + l24);
-                            l10 = l2 << 3;
-                            const u64 t121 = load64(l1);
-                            l4 = t121;
-                        }
-                        L118:;
-                        store32(l6 + 72u, 0u);
-                        store64(l6 + 64u, 0ull);
-                        l13 = l4 + l10;
-                        l7 = (u64)(l26 + l28);
-                        l9 = l7 - l2;
+                        l28 = v105;
+                        l27 = l28 + l24;
                         {
                             {
-                                u32 v124;
+                                u32 v120;
                                 {
                                     {
                                         {
                                             {
                                                 {
-                                                    if (l27 == 0) {
-                                                        store64(l6 + 96u, 0ull);
-                                                        store32(l6 + 104u, 0u);
-                                                        store64(l6 + 80u, 0ull);
-                                                        store32(l6 + 88u, 0u);
-                                                        const u32 t130 = load32(l1 + 28ull);
-                                                        l24 = t130;
-                                                        const u64 t131 = load64(l1 + 8ull);
-                                                        l3 = t131;
-                                                        if (l24 != (u32)l3) {
-                                                            l16 = (u64)l24;
-                                                            l17 = (l3 - l16) >> 1;
-                                                            l14 = l17 & 9223372036854775806ull;
-                                                            l11 = 0ull;
-                                                            l15 = 0ull;
-                                                            if ((l9 == 0) == 0) {
-                                                                l5 = l9 & 3ull;
-                                                                l3 = 0ull;
-                                                                l8 = l9;
-                                                                {
-                                                                    if ((l2 - l7) <= 18446744073709551612ull) {
-                                                                        l2 = (l4 + ((l10 + (l7 << 3)) - (l2 << 3))) - 31ull;
-                                                                        l7 = l9 & 18446744073709551612ull;
-                                                                        L136:;
-                                                                        {
-                                                                            const u64 t137 = load8(l2);
-                                                                            const u64 t138 = load8(l2 + 8ull);
-                                                                            const u64 t139 = load8(l2 + 16ull);
-                                                                            const u64 t140 = load8(l2 + 24ull);
-                                                                            const u64 t141 = (t138 + ((t139 + ((l3 + t140) * 11400714819323198485ull)) * 11400714819323198485ull)) * 11400714819323198485ull;
-                                                                            l3 = (t137 + t141) * 11400714819323198485ull;
-                                                                            l2 = l2 - 32ull;
-                                                                            l8 = l8 - 4ull;
-                                                                            l7 = l7 - 4ull;
-                                                                            if (l7 != 0ull) goto L136;
-                                                                        }
-                                                                        if (l5 == 0) goto L134;
-                                                                    }
-                                                                    l2 = (l4 + (l10 + (l8 << 3))) - 7ull;
-                                                                    L142:;
-                                                                    {
-                                                                        const u64 t143 = load8(l2);
-                                                                        l3 = (l3 + t143) * 11400714819323198485ull;
-                                                                        l2 = l2 - 8ull;
-                                                                        l5 = l5 - 1ull;
-                                                                        if (l5 != 0ull) goto L142;
-                                                                    }
-                                                                }
-                                                                L134:;
-                                                                l15 = l3 >> 32;
-                                                            }
-                                                            if (l14 == 0) {
-                                                                l24 = 0u;
-                                                                goto L126;
-                                                            }
-                                                            l7 = l4 + (l16 << 3);
-                                                            l19 = l4 + 25ull;
-                                                            l16 = l17 & 2305843009213693950ull;
-                                                            l10 = l14 + 2305843009213693951ull;
-                                                            l20 = l13 + 1ull;
-                                                            l5 = 0ull;
-                                                            L145:;
-                                                            {
-                                                                if (l5 >= 6ull) {
-                                                                    const u32 t147 = load32(l12);
-                                                                    l24 = t147 + 1u;
-                                                                    store32(l12, l24 ? l24 : 4294967295u);
-                                                                }
-                                                                {
-                                                                    l2 = l7 + (((l5 + l15) & l10) << 3);
-                                                                    const u32 t149 = load8(l2);
-                                                                    l24 = t149;
-                                                                    if ((l24 - 1u) < 3u) goto L148;
-                                                                    {
-                                                                        switch (l24 - 1u) {
-                                                                        case 0: goto L3;
-                                                                        case 1: goto L3;
-                                                                        case 2: goto L3;
-                                                                        case 3: goto L150;
-                                                                        default: goto L126;
-                                                                        }
-                                                                    }
-                                                                    L150:;
-                                                                    const u64 t151 = load32(l2 + 4ull);
-                                                                    l13 = t151;
-                                                                    l2 = l7 + ((l16 + l13) << 3);
-                                                                    const u64 t152 = load32(l2 + 4ull);
-                                                                    const u32 t153 = load8(l2);
-                                                                    l17 = (t153 == 4u) ? t152 : 0ull;
-                                                                    l2 = l17 << 3;
-                                                                    const u32 t154 = load32((l4 + l2) + 4ull);
-                                                                    l24 = t154;
-                                                                    if (l9 != (u64)l24) goto L148;
-                                                                    if (l24 == 0) goto L128;
-                                                                    l2 = l2 + l19;
-                                                                    l3 = l20;
-                                                                    l8 = l9;
-                                                                    L155:;
-                                                                    {
-                                                                        const u32 t156 = load8(l2);
-                                                                        const u32 t157 = load8(l3);
-                                                                        if (t156 != t157) goto L148;
-                                                                        l2 = l2 + 8ull;
-                                                                        l3 = l3 + 8ull;
-                                                                        l8 = l8 - 1ull;
-                                                                        if ((l8 == 0) == 0) goto L155;
-                                                                    }
-                                                                    goto L128;
-                                                                }
-                                                                L148:;
-                                                                l5 = l5 + 1ull;
-                                                                if (l5 != l14) goto L145;
-                                                            }
-                                                            l24 = 0u;
-                                                            goto L126;
+                                                    if (l25 >= 12u) {
+                                                        const u32 t126 = load32(l13);
+                                                        if ((t126 >> 3) > l25) {
+                                                            store_index_index_worthwhile(stack, l1, l25, l13);
+                                                            const u32 t128 = load32(l1 + 16ull);
+                                                            l26 = t128;
+                                                            l2 = (u64)(l26 + l24);
+                                                            l10 = l2 << 3;
+                                                            const u64 t129 = load64(l1);
+                                                            l5 = t129;
                                                         }
-                                                        l3 = 0ull;
-                                                        if (l9 == 0) {
-                                                            l26 = 0u;
-                                                            l2 = 0ull;
-                                                            u32 v159;
-                                                            {
-                                                                {
-                                                                    L161:;
+                                                        store32(l7 + 72u, 0u);
+                                                        l11 = 0ull;
+                                                        store64(l7 + 64u, 0ull);
+                                                        store64(l7 + 96u, 0ull);
+                                                        store32(l7 + 104u, 0u);
+                                                        store64(l7 + 80u, 0ull);
+                                                        store32(l7 + 88u, 0u);
+                                                        l15 = l5 + l10;
+                                                        l8 = (u64)(l26 + l27);
+                                                        l9 = l8 - l2;
+                                                        {
+                                                            const u32 t131 = load32(l1 + 28ull);
+                                                            l24 = t131;
+                                                            const u64 t132 = load64(l1 + 8ull);
+                                                            l3 = t132;
+                                                            if (l24 != (u32)l3) {
+                                                                l16 = (u64)l24;
+                                                                l17 = (l3 - l16) >> 1;
+                                                                l14 = l17 & 9223372036854775806ull;
+                                                                if ((l9 == 0) == 0) {
+                                                                    l4 = l9 & 3ull;
+                                                                    l3 = 0ull;
+                                                                    l6 = l9;
                                                                     {
-                                                                        l5 = l4 + (l2 << 3);
-                                                                        const u32 t162 = load32(l5 + 4ull);
-                                                                        l24 = t162;
-                                                                        if (l24 == 0) goto L160;
-                                                                        const u64 t163 = load32(l5 + 12ull);
-                                                                        l2 = (t163 + (l2 + (u64)l24)) + 3ull;
-                                                                        l3 = l3 - 1ull;
-                                                                        l26 = l26 + 1u;
-                                                                        if (l25 != l26) goto L161;
+                                                                        if ((l2 - l8) <= 18446744073709551612ull) {
+                                                                            l2 = (l5 + ((l10 + (l8 << 3)) - (l2 << 3))) - 31ull;
+                                                                            l8 = l9 & 18446744073709551612ull;
+                                                                            L137:;
+                                                                            {
+                                                                                const u64 t138 = load8(l2);
+                                                                                const u64 t139 = load8(l2 + 8ull);
+                                                                                const u64 t140 = load8(l2 + 16ull);
+                                                                                const u64 t141 = load8(l2 + 24ull);
+                                                                                const u64 t142 = (t139 + ((t140 + ((l3 + t141) * 11400714819323198485ull)) * 11400714819323198485ull)) * 11400714819323198485ull;
+                                                                                l3 = (t138 + t142) * 11400714819323198485ull;
+                                                                                l2 = l2 - 32ull;
+                                                                                l6 = l6 - 4ull;
+                                                                                l8 = l8 - 4ull;
+                                                                                if (l8 != 0ull) goto L137;
+                                                                            }
+                                                                            if (l4 == 0) goto L135;
+                                                                        }
+                                                                        l2 = (l5 + (l10 + (l6 << 3))) - 7ull;
+                                                                        L143:;
+                                                                        {
+                                                                            const u64 t144 = load8(l2);
+                                                                            l3 = (l3 + t144) * 11400714819323198485ull;
+                                                                            l2 = l2 - 8ull;
+                                                                            l4 = l4 - 1ull;
+                                                                            if (l4 != 0ull) goto L143;
+                                                                        }
                                                                     }
-                                                                    l11 = 0ull;
-                                                                    l26 = l25;
-                                                                    v159 = 0u; goto L159;
+                                                                    L135:;
+                                                                    l11 = l3 >> 32;
+                                                                }
+                                                                if (l14 == 0) {
+                                                                    l8 = 0ull;
+                                                                    l24 = 0u;
+                                                                    l30 = (u32)l12;
+                                                                    goto L122;
+                                                                }
+                                                                l10 = l5 + (l16 << 3);
+                                                                l19 = l5 + 25ull;
+                                                                l17 = l17 & 2305843009213693950ull;
+                                                                l16 = l14 + 2305843009213693951ull;
+                                                                l20 = l15 + 1ull;
+                                                                l4 = 0ull;
+                                                                L146:;
+                                                                {
+                                                                    if (l4 >= 6ull) {
+                                                                        const u32 t148 = load32(l13);
+                                                                        l24 = t148 + 1u;
+                                                                        store32(l13, l24 ? l24 : 4294967295u);
+                                                                    }
+                                                                    l8 = 0ull;
+                                                                    {
+                                                                        l2 = l10 + (((l4 + l11) & l16) << 3);
+                                                                        const u32 t150 = load8(l2);
+                                                                        l24 = t150;
+                                                                        if ((l24 - 1u) < 3u) goto L149;
+                                                                        {
+                                                                            switch (l24 - 1u) {
+                                                                            case 0: goto L3;
+                                                                            case 1: goto L3;
+                                                                            case 2: goto L3;
+                                                                            case 3: goto L151;
+                                                                            default: goto L130;
+                                                                            }
+                                                                        }
+                                                                        L151:;
+                                                                        const u64 t152 = load32(l2 + 4ull);
+                                                                        l15 = t152;
+                                                                        l2 = l10 + ((l17 + l15) << 3);
+                                                                        const u64 t153 = load32(l2 + 4ull);
+                                                                        const u32 t154 = load8(l2);
+                                                                        l18 = (t154 == 4u) ? t153 : 0ull;
+                                                                        l2 = l18 << 3;
+                                                                        const u32 t155 = load32((l5 + l2) + 4ull);
+                                                                        l24 = t155;
+                                                                        if (l9 != (u64)l24) goto L149;
+                                                                        if (l24 == 0) goto L124;
+                                                                        l2 = l2 + l19;
+                                                                        l3 = l20;
+                                                                        l6 = l9;
+                                                                        L156:;
+                                                                        {
+                                                                            const u32 t157 = load8(l2);
+                                                                            const u32 t158 = load8(l3);
+                                                                            if (t157 != t158) goto L149;
+                                                                            l2 = l2 + 8ull;
+                                                                            l3 = l3 + 8ull;
+                                                                            l6 = l6 - 1ull;
+                                                                            if ((l6 == 0) == 0) goto L156;
+                                                                        }
+                                                                        goto L124;
+                                                                    }
+                                                                    L149:;
+                                                                    l4 = l4 + 1ull;
+                                                                    if (l4 != l14) goto L146;
+                                                                }
+                                                                l24 = 0u;
+                                                                l30 = (u32)l12;
+                                                                goto L122;
+                                                            }
+                                                            l3 = 0ull;
+                                                            if (l9 == 0) {
+                                                                l26 = 0u;
+                                                                l2 = 0ull;
+                                                                u32 v160;
+                                                                {
+                                                                    {
+                                                                        L162:;
+                                                                        {
+                                                                            l4 = l5 + (l2 << 3);
+                                                                            const u32 t163 = load32(l4 + 4ull);
+                                                                            l24 = t163;
+                                                                            if (l24 == 0) goto L161;
+                                                                            const u64 t164 = load32(l4 + 12ull);
+                                                                            l2 = (t164 + (l2 + (u64)l24)) + 3ull;
+                                                                            l3 = l3 - 1ull;
+                                                                            l26 = l26 + 1u;
+                                                                            if (l25 != l26) goto L162;
+                                                                        }
+                                                                        l8 = 0ull;
+                                                                        l26 = l25;
+                                                                        v160 = 0u; goto L160;
+                                                                    }
+                                                                    L161:;
+                                                                    l8 = (l2 << 32) - l3;
+                                                                    v160 = 1u;
                                                                 }
                                                                 L160:;
-                                                                l11 = (l2 << 32) - l3;
-                                                                v159 = 1u;
+                                                                l24 = v160;
+                                                                if (l26 < 9u) goto L130;
+                                                                l26 = l26 - 8u;
+                                                                const u32 t165 = load32(l13);
+                                                                l28 = l26 + t165;
+                                                                store32(l13, (l26 > l28) ? 4294967295u : l28);
+                                                                l30 = (u32)l12;
+                                                                goto L122;
                                                             }
-                                                            L159:;
-                                                            l24 = v159;
-                                                            if (l26 < 9u) goto L126;
-                                                            l26 = l26 - 8u;
-                                                            const u32 t164 = load32(l12);
-                                                            l27 = l26 + t164;
-                                                            store32(l12, (l26 > l27) ? 4294967295u : l27);
-                                                            goto L126;
-                                                        }
-                                                        store_form_cells_find_between_by_call(stack, l6 + 80ull, l4, l30, l32, l25, l13, l9);
-                                                        const u32 t165 = load8(l6 + 80u);
-                                                        if (t165 == 1u) {
-                                                            const u64 t167 = load64(l6 + 84u);
-                                                            l11 = t167;
-                                                            l24 = (u32)l11 - l30;
-                                                            if (l24 < 9u) {
+                                                            store_form_cells_find_between_by_call(stack, l7 + 80ull, l5, l31, l32, l25, l15, l9);
+                                                            const u32 t166 = load8(l7 + 80u);
+                                                            if (t166 == 1u) {
+                                                                const u64 t168 = load64(l7 + 84u);
+                                                                l8 = t168;
+                                                                l24 = (u32)l8 - l31;
+                                                                if (l24 < 9u) {
+                                                                    l24 = 1u;
+                                                                    l30 = (u32)l12;
+                                                                    goto L122;
+                                                                }
+                                                                l24 = l24 - 8u;
+                                                                const u32 t170 = load32(l13);
+                                                                l26 = l24 + t170;
+                                                                store32(l13, (l24 > l26) ? 4294967295u : l26);
                                                                 l24 = 1u;
-                                                                goto L126;
+                                                                l30 = (u32)l12;
+                                                                goto L122;
                                                             }
-                                                            l24 = l24 - 8u;
-                                                            const u32 t169 = load32(l12);
-                                                            l26 = l24 + t169;
-                                                            store32(l12, (l24 > l26) ? 4294967295u : l26);
-                                                            l24 = 1u;
-                                                            goto L126;
+                                                            store_form_cells_find_between_by_call(stack, l7 + 96ull, l5, 0u, 0u, l31, l15, l9);
+                                                            const u32 t171 = load32(l7 + 100u);
+                                                            const u32 t172 = load8(l7 + 96u);
+                                                            l24 = t172;
+                                                            l26 = (l24 == 1u) ? t171 : l31;
+                                                            l28 = l26 + (l25 - l31);
+                                                            l26 = (l26 > l28) ? 4294967295u : l28;
+                                                            if (l26 >= 9u) {
+                                                                l26 = l26 - 8u;
+                                                                const u32 t174 = load32(l13);
+                                                                l28 = l26 + t174;
+                                                                store32(l13, (l26 > l28) ? 4294967295u : l28);
+                                                            }
+                                                            const u64 t175 = load64(l7 + 100u);
+                                                            l8 = t175;
                                                         }
-                                                        store_form_cells_find_between_by_call(stack, l6 + 96ull, l4, 0u, 0u, l30, l13, l9);
-                                                        const u32 t170 = load32(l6 + 100u);
-                                                        const u32 t171 = load8(l6 + 96u);
-                                                        l24 = t171;
-                                                        l26 = (l24 == 1u) ? t170 : l30;
-                                                        l27 = l26 + (l25 - l30);
-                                                        l26 = (l26 > l27) ? 4294967295u : l27;
-                                                        if (l26 >= 9u) {
-                                                            l26 = l26 - 8u;
-                                                            const u32 t173 = load32(l12);
-                                                            l27 = l26 + t173;
-                                                            store32(l12, (l26 > l27) ? 4294967295u : l27);
-                                                        }
-                                                        const u64 t174 = load64(l6 + 100u);
-                                                        l11 = t174;
-                                                        goto L126;
+                                                        L130:;
+                                                        l30 = (u32)l12;
+                                                        goto L122;
                                                     }
-                                                    if (l9 != 0ull) goto L127;
-                                                    if (l25 == 0) goto L122;
+                                                    store32(l7 + 72u, 0u);
+                                                    store64(l7 + 64u, 0ull);
+                                                    l30 = (u32)l12;
+                                                    if (l28) goto L123;
+                                                    if (l25 == 0) goto L118;
                                                     l24 = 0u;
                                                     l2 = 0ull;
-                                                    L175:;
+                                                    L176:;
                                                     {
-                                                        l3 = l4 + (l2 << 3);
-                                                        const u32 t176 = load32(l3 + 4ull);
-                                                        l26 = t176;
+                                                        l3 = l5 + (l2 << 3);
+                                                        const u32 t177 = load32(l3 + 4ull);
+                                                        l26 = t177;
                                                         if (l26 == 0) {
-                                                            store32(l6 + 72u, (u32)l2);
-                                                            store32(l6 + 68u, l24);
-                                                            const u64 t178 = load64(l6 + 68u);
-                                                            l11 = t178;
-                                                            goto L123;
+                                                            store32(l7 + 72u, (u32)l2);
+                                                            store32(l7 + 68u, l24);
+                                                            const u64 t179 = load64(l7 + 68u);
+                                                            l8 = t179;
+                                                            goto L119;
                                                         }
-                                                        const u64 t179 = load32(l3 + 12ull);
-                                                        l2 = (t179 + (l2 + (u64)l26)) + 3ull;
+                                                        const u64 t180 = load32(l3 + 12ull);
+                                                        l2 = (t180 + (l2 + (u64)l26)) + 3ull;
                                                         l24 = l24 + 1u;
-                                                        if (l25 != l24) goto L175;
+                                                        if (l25 != l24) goto L176;
                                                     }
-                                                    goto L122;
+                                                    goto L118;
                                                 }
-                                                L128:;
-                                                l11 = (l17 << 32) | l13;
+                                                L124:;
+                                                l8 = (l18 << 32) | l15;
                                                 l24 = 1u;
-                                                goto L126;
+                                                l30 = (u32)l12;
+                                                goto L122;
                                             }
-                                            L127:;
+                                            L123:;
+                                            l4 = (u64)(l26 + l27) - l2;
                                             if (l25 <= 7u) {
-                                                if (l25 == 0) goto L122;
-                                                const u32 t181 = load8((l13 + (l9 << 3)) - 7ull);
-                                                l24 = t181;
+                                                if (l25 == 0) goto L118;
+                                                const u32 t182 = load8((l3 + (l4 << 3)) - 7ull);
+                                                l24 = t182;
                                                 {
-                                                    const u64 t183 = load32(l4 + 4ull);
-                                                    l5 = t183;
-                                                    if (l9 != l5) goto L182;
-                                                    const u32 t184 = load8((l4 + (l9 << 3)) + 17ull);
-                                                    if (t184 != (l24 & 255u)) goto L182;
-                                                    l2 = l4 + 25ull;
-                                                    l3 = l9;
-                                                    L185:;
+                                                    const u64 t184 = load32(l5 + 4ull);
+                                                    l8 = t184;
+                                                    if (l4 != l8) goto L183;
+                                                    const u32 t185 = load8((l5 + (l4 << 3)) + 17ull);
+                                                    if (t185 != (l24 & 255u)) goto L183;
+                                                    l2 = l5 + 25ull;
+                                                    l6 = l4;
+                                                    L186:;
                                                     {
-                                                        const u32 t186 = load8(l2);
-                                                        const u32 t187 = load8((l2 + l10) - 24ull);
-                                                        if (t186 != t187) goto L182;
+                                                        const u32 t187 = load8(l2);
+                                                        const u32 t188 = load8((l2 + l10) - 24ull);
+                                                        if (t187 != t188) goto L183;
                                                         l2 = l2 + 8ull;
-                                                        l3 = l3 - 1ull;
-                                                        if ((l3 == 0) == 0) goto L185;
+                                                        l6 = l6 - 1ull;
+                                                        if ((l6 == 0) == 0) goto L186;
                                                     }
-                                                    l8 = 0ull;
-                                                    v124 = l25; goto L124;
+                                                    l10 = 0ull;
+                                                    v120 = l25; goto L120;
                                                 }
-                                                L182:;
-                                                if (l31 == 0) goto L122;
-                                                const u64 t188 = load32(l4 + 12ull);
-                                                l10 = l5 + t188;
-                                                l7 = l10 + 6ull;
-                                                l8 = l7 - 3ull;
-                                                const u64 t189 = load32((l4 + (l8 << 3)) + 4ull);
-                                                l11 = t189;
-                                                if (l9 != l11) goto L125;
-                                                const u32 t190 = load8((l4 + ((l7 + l9) << 3)) - 7ull);
-                                                if (t190 != (l24 & 255u)) goto L125;
-                                                l2 = l13 + 1ull;
-                                                l3 = (l4 + (l10 << 3)) + 49ull;
-                                                l5 = l9;
-                                                L191:;
+                                                L183:;
+                                                if (l33 == 0) goto L118;
+                                                const u64 t189 = load32(l5 + 12ull);
+                                                l14 = l8 + t189;
+                                                l9 = l14 + 6ull;
+                                                l10 = l9 - 3ull;
+                                                const u64 t190 = load32((l5 + (l10 << 3)) + 4ull);
+                                                l11 = t190;
+                                                if (l4 != l11) goto L121;
+                                                const u32 t191 = load8((l5 + ((l4 + l9) << 3)) - 7ull);
+                                                if (t191 != (l24 & 255u)) goto L121;
+                                                l2 = l3 + 1ull;
+                                                l6 = (l5 + (l14 << 3)) + 49ull;
+                                                l8 = l4;
+                                                L192:;
                                                 {
-                                                    const u32 t192 = load8(l3);
-                                                    const u32 t193 = load8(l2);
-                                                    if (t192 != t193) goto L125;
-                                                    l3 = l3 + 8ull;
+                                                    const u32 t193 = load8(l6);
+                                                    const u32 t194 = load8(l2);
+                                                    if (t193 != t194) goto L121;
+                                                    l6 = l6 + 8ull;
                                                     l2 = l2 + 8ull;
-                                                    l5 = l5 - 1ull;
-                                                    if ((l5 == 0) == 0) goto L191;
+                                                    l8 = l8 - 1ull;
+                                                    if ((l8 == 0) == 0) goto L192;
                                                 }
-                                                v124 = l31; goto L124;
+                                                v120 = l33; goto L120;
                                             }
-                                            store_form_cells_find_from_last(stack, l6 + 64ull, l4, l30, l32, l25, l13, l9);
-                                            const u32 t194 = load8(l6 + 64u);
-                                            l24 = t194;
-                                            const u64 t195 = load64(l6 + 68u);
-                                            l11 = t195;
+                                            store_form_cells_find_from_last(stack, l7 + 64ull, l5, l31, l32, l25, l3, l4);
+                                            const u32 t195 = load8(l7 + 64u);
+                                            l24 = t195;
+                                            const u64 t196 = load64(l7 + 68u);
+                                            l8 = t196;
                                         }
-                                        L126:;
-                                        if ((l24 & 255u) != 1u) goto L122;
-                                        goto L123;
+                                        L122:;
+                                        if ((l24 & 255u) != 1u) goto L118;
+                                        goto L119;
                                     }
-                                    L125:;
-                                    if (l33 == 0) goto L122;
+                                    L121:;
+                                    if (l38 == 0) goto L118;
                                     {
-                                        const u64 t197 = load32((l4 + (l7 << 3)) - 12ull);
-                                        l15 = t197;
-                                        l7 = (l15 + (l7 + l11)) + 3ull;
-                                        l8 = l7 - 3ull;
-                                        const u64 t198 = load32((l4 + (l8 << 3)) + 4ull);
-                                        l14 = t198;
-                                        if (l9 != l14) goto L196;
-                                        const u32 t199 = load8((l4 + ((l7 + l9) << 3)) - 7ull);
-                                        if (t199 != (l24 & 255u)) goto L196;
-                                        l2 = l13 + 1ull;
-                                        l3 = (l4 + (((l10 + l11) + l15) << 3)) + 73ull;
-                                        l5 = l9;
-                                        L200:;
+                                        const u64 t198 = load32((l5 + (l9 << 3)) - 12ull);
+                                        l15 = t198;
+                                        l9 = (l15 + (l9 + l11)) + 3ull;
+                                        l10 = l9 - 3ull;
+                                        const u64 t199 = load32((l5 + (l10 << 3)) + 4ull);
+                                        l16 = t199;
+                                        if (l4 != l16) goto L197;
+                                        const u32 t200 = load8((l5 + ((l4 + l9) << 3)) - 7ull);
+                                        if (t200 != (l24 & 255u)) goto L197;
+                                        l2 = l3 + 1ull;
+                                        l6 = (l5 + (((l11 + l14) + l15) << 3)) + 73ull;
+                                        l8 = l4;
+                                        L201:;
                                         {
-                                            const u32 t201 = load8(l3);
-                                            const u32 t202 = load8(l2);
-                                            if (t201 != t202) goto L196;
-                                            l3 = l3 + 8ull;
+                                            const u32 t202 = load8(l6);
+                                            const u32 t203 = load8(l2);
+                                            if (t202 != t203) goto L197;
+                                            l6 = l6 + 8ull;
                                             l2 = l2 + 8ull;
-                                            l5 = l5 - 1ull;
-                                            if ((l5 == 0) == 0) goto L200;
+                                            l8 = l8 - 1ull;
+                                            if ((l8 == 0) == 0) goto L201;
                                         }
-                                        v124 = l33; goto L124;
+                                        v120 = l38; goto L120;
                                     }
-                                    L196:;
-                                    if (l37 == 0) goto L122;
+                                    L197:;
+                                    if (l37 == 0) goto L118;
                                     {
-                                        const u64 t204 = load32((l4 + (l7 << 3)) - 12ull);
-                                        l17 = t204;
-                                        l7 = (l17 + (l7 + l14)) + 3ull;
-                                        l8 = l7 - 3ull;
-                                        const u64 t205 = load32((l4 + (l8 << 3)) + 4ull);
-                                        l16 = t205;
-                                        if (l9 != l16) goto L203;
-                                        const u32 t206 = load8((l4 + ((l7 + l9) << 3)) - 7ull);
-                                        if (t206 != (l24 & 255u)) goto L203;
-                                        l2 = l13 + 1ull;
-                                        l3 = (l4 + (((((l10 + l11) + l15) + l14) + l17) << 3)) + 97ull;
-                                        l5 = l9;
-                                        L207:;
+                                        const u64 t205 = load32((l5 + (l9 << 3)) - 12ull);
+                                        l18 = t205;
+                                        l9 = (l18 + (l9 + l16)) + 3ull;
+                                        l10 = l9 - 3ull;
+                                        const u64 t206 = load32((l5 + (l10 << 3)) + 4ull);
+                                        l17 = t206;
+                                        if (l4 != l17) goto L204;
+                                        const u32 t207 = load8((l5 + ((l4 + l9) << 3)) - 7ull);
+                                        if (t207 != (l24 & 255u)) goto L204;
+                                        l2 = l3 + 1ull;
+                                        l6 = (l5 + (((((l11 + l14) + l15) + l16) + l18) << 3)) + 97ull;
+                                        l8 = l4;
+                                        L208:;
                                         {
-                                            const u32 t208 = load8(l3);
-                                            const u32 t209 = load8(l2);
-                                            if (t208 != t209) goto L203;
-                                            l3 = l3 + 8ull;
+                                            const u32 t209 = load8(l6);
+                                            const u32 t210 = load8(l2);
+                                            if (t209 != t210) goto L204;
+                                            l6 = l6 + 8ull;
                                             l2 = l2 + 8ull;
-                                            l5 = l5 - 1ull;
-                                            if ((l5 == 0) == 0) goto L207;
+                                            l8 = l8 - 1ull;
+                                            if ((l8 == 0) == 0) goto L208;
                                         }
-                                        v124 = l37; goto L124;
+                                        v120 = l37; goto L120;
                                     }
-                                    L203:;
-                                    if (l36 == 0) goto L122;
+                                    L204:;
+                                    if (l36 == 0) goto L118;
                                     {
-                                        const u64 t211 = load32((l4 + (l7 << 3)) - 12ull);
-                                        l20 = t211;
-                                        l7 = (l20 + (l7 + l16)) + 3ull;
-                                        l8 = l7 - 3ull;
-                                        const u64 t212 = load32((l4 + (l8 << 3)) + 4ull);
-                                        l19 = t212;
-                                        if (l9 != l19) goto L210;
-                                        const u32 t213 = load8((l4 + ((l7 + l9) << 3)) - 7ull);
-                                        if (t213 != (l24 & 255u)) goto L210;
-                                        l2 = l13 + 1ull;
-                                        l3 = (l4 + (((((((l10 + l11) + l15) + l14) + l17) + l16) + l20) << 3)) + 121ull;
-                                        l5 = l9;
-                                        L214:;
+                                        const u64 t212 = load32((l5 + (l9 << 3)) - 12ull);
+                                        l20 = t212;
+                                        l9 = (l20 + (l9 + l17)) + 3ull;
+                                        l10 = l9 - 3ull;
+                                        const u64 t213 = load32((l5 + (l10 << 3)) + 4ull);
+                                        l19 = t213;
+                                        if (l4 != l19) goto L211;
+                                        const u32 t214 = load8((l5 + ((l4 + l9) << 3)) - 7ull);
+                                        if (t214 != (l24 & 255u)) goto L211;
+                                        l2 = l3 + 1ull;
+                                        l6 = (l5 + (((((((l11 + l14) + l15) + l16) + l18) + l17) + l20) << 3)) + 121ull;
+                                        l8 = l4;
+                                        L215:;
                                         {
-                                            const u32 t215 = load8(l3);
-                                            const u32 t216 = load8(l2);
-                                            if (t215 != t216) goto L210;
-                                            l3 = l3 + 8ull;
+                                            const u32 t216 = load8(l6);
+                                            const u32 t217 = load8(l2);
+                                            if (t216 != t217) goto L211;
+                                            l6 = l6 + 8ull;
                                             l2 = l2 + 8ull;
-                                            l5 = l5 - 1ull;
-                                            if ((l5 == 0) == 0) goto L214;
+                                            l8 = l8 - 1ull;
+                                            if ((l8 == 0) == 0) goto L215;
                                         }
-                                        v124 = l36; goto L124;
+                                        v120 = l36; goto L120;
                                     }
-                                    L210:;
-                                    if (l35 == 0) goto L122;
+                                    L211:;
+                                    if (l35 == 0) goto L118;
                                     {
-                                        const u64 t218 = load32((l4 + (l7 << 3)) - 12ull);
-                                        l21 = t218;
-                                        l7 = (l21 + (l7 + l19)) + 3ull;
-                                        l8 = l7 - 3ull;
-                                        const u64 t219 = load32((l4 + (l8 << 3)) + 4ull);
-                                        l22 = t219;
-                                        if (l9 != l22) goto L217;
-                                        const u32 t220 = load8((l4 + ((l7 + l9) << 3)) - 7ull);
-                                        if (t220 != (l24 & 255u)) goto L217;
-                                        l2 = l13 + 1ull;
-                                        const u64 t221 = (l4 + (((((((((l10 + l11) + l15) + l14) + l17) + l16) + l20) + l19) + l21) << 3)) + 145ull;
-                                        l3 = t221;
-                                        l5 = l9;
-                                        L222:;
+                                        const u64 t219 = load32((l5 + (l9 << 3)) - 12ull);
+                                        l21 = t219;
+                                        l9 = (l21 + (l9 + l19)) + 3ull;
+                                        l10 = l9 - 3ull;
+                                        const u64 t220 = load32((l5 + (l10 << 3)) + 4ull);
+                                        l22 = t220;
+                                        if (l4 != l22) goto L218;
+                                        const u32 t221 = load8((l5 + ((l4 + l9) << 3)) - 7ull);
+                                        if (t221 != (l24 & 255u)) goto L218;
+                                        l2 = l3 + 1ull;
+                                        const u64 t222 = (l5 + (((((((((l11 + l14) + l15) + l16) + l18) + l17) + l20) + l19) + l21) << 3)) + 145ull;
+                                        l6 = t222;
+                                        l8 = l4;
+                                        L223:;
                                         {
-                                            const u32 t223 = load8(l3);
-                                            const u32 t224 = load8(l2);
-                                            if (t223 != t224) goto L217;
-                                            l3 = l3 + 8ull;
+                                            const u32 t224 = load8(l6);
+                                            const u32 t225 = load8(l2);
+                                            if (t224 != t225) goto L218;
+                                            l6 = l6 + 8ull;
                                             l2 = l2 + 8ull;
-                                            l5 = l5 - 1ull;
-                                            if ((l5 == 0) == 0) goto L222;
+                                            l8 = l8 - 1ull;
+                                            if ((l8 == 0) == 0) goto L223;
                                         }
-                                        v124 = l35; goto L124;
+                                        v120 = l35; goto L120;
                                     }
-                                    L217:;
-                                    if (l34 == 0) goto L122;
-                                    const u64 t225 = load32((l4 + (l7 << 3)) - 12ull);
-                                    l3 = t225;
-                                    l2 = (l3 + (l7 + l22)) + 3ull;
-                                    l8 = l2 - 3ull;
-                                    const u64 t226 = load32((l4 + (l8 << 3)) + 4ull);
-                                    if (l9 != t226) goto L122;
-                                    const u32 t227 = load8((l4 + ((l2 + l9) << 3)) - 7ull);
-                                    if (t227 != (l24 & 255u)) goto L122;
-                                    l2 = l13 + 1ull;
-                                    const u64 t228 = l4 + (((((((((((l10 + l11) + l15) + l14) + l17) + l16) + l20) + l19) + l21) + l22) + l3) << 3);
-                                    l3 = t228 + 169ull;
-                                    L229:;
+                                    L218:;
+                                    if (l34 == 0) goto L118;
+                                    const u64 t226 = load32((l5 + (l9 << 3)) - 12ull);
+                                    l6 = t226;
+                                    l2 = (l6 + (l9 + l22)) + 3ull;
+                                    l10 = l2 - 3ull;
+                                    const u64 t227 = load32((l5 + (l10 << 3)) + 4ull);
+                                    if (l4 != t227) goto L118;
+                                    const u32 t228 = load8((l5 + ((l2 + l4) << 3)) - 7ull);
+                                    if (t228 != (l24 & 255u)) goto L118;
+                                    l2 = l3 + 1ull;
+                                    const u64 t229 = l5 + (((((((((((l11 + l14) + l15) + l16) + l18) + l17) + l20) + l19) + l21) + l22) + l6) << 3);
+                                    l3 = t229 + 169ull;
+                                    L230:;
                                     {
-                                        const u32 t230 = load8(l3);
-                                        const u32 t231 = load8(l2);
-                                        if (t230 != t231) goto L122;
+                                        const u32 t231 = load8(l3);
+                                        const u32 t232 = load8(l2);
+                                        if (t231 != t232) goto L118;
                                         l3 = l3 + 8ull;
                                         l2 = l2 + 8ull;
-                                        l9 = l9 - 1ull;
-                                        if ((l9 == 0) == 0) goto L229;
+                                        l4 = l4 - 1ull;
+                                        if ((l4 == 0) == 0) goto L230;
                                     }
-                                    v124 = l34;
+                                    v120 = l34;
                                 }
-                                L124:;
-                                l24 = v124;
-                                store32(l6 + 72u, (u32)l8);
-                                store32(l6 + 68u, l25 - l24);
-                                const u64 t232 = load64(l6 + 68u);
-                                l11 = t232;
+                                L120:;
+                                l24 = v120;
+                                store32(l7 + 72u, (u32)l10);
+                                store32(l7 + 68u, l25 - l24);
+                                const u64 t233 = load64(l7 + 68u);
+                                l8 = t233;
                             }
-                            L123:;
-                            l2 = l4 + (((l11 >> 29) + 16ull) & 34359738360ull);
+                            L119:;
+                            l2 = l5 + (((l8 >> 29) + 16ull) & 34359738360ull);
                             store16(l2, (u16)4u);
                             store32(l2 + 4ull, 4294967295u);
-                            l30 = (u32)l11;
-                            l18 = (l30 < (u32)l18) ? l11 : l18;
-                            l32 = (u32)(l11 >> 32);
+                            l31 = (u32)l8;
+                            l12 = (l30 > l31) ? l8 : l12;
+                            l32 = (u32)(l8 >> 32);
                         }
-                        L122:;
-                        l24 = l28 + 1u;
+                        L118:;
+                        l24 = l27 + 1u;
                         if (l24 <= l29) goto L102;
                     }
-                    l5 = l18 >> 32;
+                    l4 = l12 >> 32;
                     {
-                        const u32 t234 = load32(l1 + 40ull);
-                        l32 = t234;
-                        l27 = (u32)l18;
-                        l33 = l32 <= l27;
-                        if (l33) goto L233;
-                        const u32 t235 = load32(l1 + 28ull);
-                        const u32 t236 = load32(l1 + 8ull);
-                        if (t235 == t236) goto L233;
-                        l25 = l32;
-                        L237:;
+                        const u32 t235 = load32(l1 + 40ull);
+                        l31 = t235;
+                        l29 = (u32)l12;
+                        l33 = l31 <= l29;
+                        if (l33) goto L234;
+                        const u32 t236 = load32(l1 + 28ull);
+                        const u32 t237 = load32(l1 + 8ull);
+                        if (t236 == t237) goto L234;
+                        l25 = l31;
+                        L238:;
                         {
-                            const u64 t238 = load64(l1);
-                            l2 = t238;
-                            const u32 t239 = load32(l1 + 28ull);
-                            l24 = t239;
+                            const u64 t239 = load64(l1);
+                            l2 = t239;
+                            const u32 t240 = load32(l1 + 28ull);
+                            l24 = t240;
                             l25 = l25 - 1u;
-                            const u32 t240 = load32(l1 + 8ull);
-                            const u64 t241 = l2;
-                            l2 = (l2 + ((u64)l24 << 3)) + ((u64)((l25 + (((t240 - l24) >> 2) * 3u))) << 3);
-                            const u32 t242 = load32(l2 + 4ull);
-                            l26 = t242;
-                            const u32 t243 = load8(l2);
-                            l3 = t241 + ((u64)((((t243 == 4u) ? l26 : 0u) + l24)) << 3);
+                            const u32 t241 = load32(l1 + 8ull);
+                            const u64 t242 = l2;
+                            l2 = (l2 + ((u64)l24 << 3)) + ((u64)((l25 + (((t241 - l24) >> 2) * 3u))) << 3);
+                            const u32 t243 = load32(l2 + 4ull);
+                            l26 = t243;
+                            const u32 t244 = load8(l2);
+                            l3 = t242 + ((u64)((((t244 == 4u) ? l26 : 0u) + l24)) << 3);
                             store8(l3, (u8)2u);
                             store32(l3 + 4ull, l26);
-                            const u32 t244 = load8(l2 + 1ull);
-                            store8(l3 + 1ull, (u8)t244);
-                            if (l25 > l27) goto L237;
+                            const u32 t245 = load8(l2 + 1ull);
+                            store8(l3 + 1ull, (u8)t245);
+                            if (l25 > l29) goto L238;
                         }
                     }
-                    L233:;
-                    l31 = (u32)l5;
-                    l28 = l31;
-                    l29 = l31;
-                    l30 = l27;
+                    L234:;
+                    l32 = (u32)l4;
+                    l27 = l32;
+                    l28 = l32;
+                    l30 = l29;
                     if (l33 == 0) {
-                        l28 = l31;
-                        l24 = l28;
-                        l26 = l27;
-                        L246:;
+                        l27 = l32;
+                        l24 = l27;
+                        l26 = l29;
+                        L247:;
                         {
                             l25 = l24;
-                            const u64 t247 = load64(l1);
-                            l4 = t247;
+                            const u64 t248 = load64(l1);
+                            l5 = t248;
                             l3 = (u64)l25;
-                            l2 = l4 + (l3 << 3);
-                            const u32 t248 = load32(l2 + 4ull);
-                            const u32 t249 = load8(l2);
-                            const u32 t250 = load32(l2 + 12ull);
-                            const u32 t251 = load8(l2 + 8u);
-                            l24 = ((l25 + ((t249 == 4u) ? t248 : 0u)) + ((t251 == 4u) ? t250 : 0u)) + 3u;
+                            l2 = l5 + (l3 << 3);
+                            const u32 t249 = load32(l2 + 4ull);
+                            const u32 t250 = load8(l2);
+                            const u32 t251 = load32(l2 + 12ull);
+                            const u32 t252 = load8(l2 + 8u);
+                            l24 = ((l25 + ((t250 == 4u) ? t249 : 0u)) + ((t252 == 4u) ? t251 : 0u)) + 3u;
                             {
                                 {
-                                    const u32 t254 = load8(l2 + 16u);
-                                    if (t254 != 4u) goto L253;
-                                    const u32 t255 = load32(l2 + 20ull);
-                                    if (t255 != 4294967295u) goto L253;
-                                    if (l28 == l29) {
-                                        l28 = l24;
-                                        l29 = l25;
-                                        goto L252;
+                                    const u32 t255 = load8(l2 + 16u);
+                                    if (t255 != 4u) goto L254;
+                                    const u32 t256 = load32(l2 + 20ull);
+                                    if (t256 != 4294967295u) goto L254;
+                                    if (l27 == l28) {
+                                        l27 = l24;
+                                        l28 = l25;
+                                        goto L253;
                                     }
-                                    l10 = (u64)l29;
+                                    l9 = (u64)l28;
                                     {
-                                        l12 = (u64)l28;
-                                        l2 = l3 - l12;
+                                        l11 = (u64)l27;
+                                        l2 = l3 - l11;
                                         if (l2 <= 7ull) {
-                                            if (l28 >= l29) {
-                                                if (l25 == l28) goto L257;
-                                                l8 = 0ull;
-                                                if (l12 != (l3 - 1ull)) {
+                                            if (l27 >= l28) {
+                                                if (l25 == l27) goto L258;
+                                                l6 = 0ull;
+                                                if (l11 != (l3 - 1ull)) {
                                                     l14 = l2 & 1ull;
-                                                    l7 = l10 << 3;
-                                                    l11 = l12 << 3;
-                                                    l9 = l2 & 6ull;
-                                                    l2 = l4;
-                                                    L261:;
+                                                    l8 = l9 << 3;
+                                                    l13 = l11 << 3;
+                                                    l10 = l2 & 6ull;
+                                                    l2 = l5;
+                                                    L262:;
                                                     {
-                                                        l3 = l2 + l7;
-                                                        l5 = l2 + l11;
-                                                        const u32 t262 = load16(l5);
-                                                        store16(l3, (u16)t262);
-                                                        const u32 t263 = load32(l5 + 4ull);
-                                                        store32(l3 + 4ull, t263);
-                                                        const u32 t264 = load16(l5 + 8ull);
-                                                        store16(l3 + 8ull, (u16)t264);
-                                                        const u32 t265 = load32(l5 + 12ull);
-                                                        store32(l3 + 12ull, t265);
+                                                        l3 = l2 + l8;
+                                                        l4 = l2 + l13;
+                                                        const u32 t263 = load16(l4);
+                                                        store16(l3, (u16)t263);
+                                                        const u32 t264 = load32(l4 + 4ull);
+                                                        store32(l3 + 4ull, t264);
+                                                        const u32 t265 = load16(l4 + 8ull);
+                                                        store16(l3 + 8ull, (u16)t265);
+                                                        const u32 t266 = load32(l4 + 12ull);
+                                                        store32(l3 + 12ull, t266);
                                                         l2 = l2 + 16ull;
-                                                        l8 = l8 + 2ull;
-                                                        if (l9 != l8) goto L261;
+                                                        l6 = l6 + 2ull;
+                                                        if (l10 != l6) goto L262;
                                                     }
-                                                    if (l14 == 0) goto L257;
+                                                    if (l14 == 0) goto L258;
                                                 }
-                                                l2 = l4 + ((l8 + l10) << 3);
-                                                l3 = l4 + ((l8 + l12) << 3);
-                                                const u32 t266 = load16(l3);
-                                                store16(l2, (u16)t266);
-                                                const u32 t267 = load32(l3 + 4ull);
-                                                store32(l2 + 4ull, t267);
-                                                goto L257;
+                                                l2 = l5 + ((l6 + l9) << 3);
+                                                l3 = l5 + ((l6 + l11) << 3);
+                                                const u32 t267 = load16(l3);
+                                                store16(l2, (u16)t267);
+                                                const u32 t268 = load32(l3 + 4ull);
+                                                store32(l2 + 4ull, t268);
+                                                goto L258;
                                             }
-                                            if (l25 == l28) goto L257;
-                                            l8 = l2 - 1ull;
-                                            l7 = l4 + ((l8 + l10) << 3);
-                                            l5 = l4 + (l3 << 3);
-                                            const u32 t268 = load16(l5 - 8ull);
-                                            store16(l7, (u16)t268);
-                                            const u32 t269 = load32(l5 - 4ull);
-                                            store32(l7 + 4ull, t269);
-                                            if (l8 == 0) goto L257;
-                                            l8 = l2 - 2ull;
-                                            l7 = l4 + ((l8 + l10) << 3);
-                                            const u32 t270 = load16(l5 - 16ull);
-                                            store16(l7, (u16)t270);
-                                            const u32 t271 = load32(l5 - 12ull);
-                                            store32(l7 + 4ull, t271);
-                                            if (l8 == 0) goto L257;
-                                            l8 = l2 - 3ull;
-                                            l7 = l4 + ((l8 + l10) << 3);
-                                            l5 = l4 + (l3 << 3);
-                                            const u32 t272 = load16(l5 - 24ull);
-                                            store16(l7, (u16)t272);
-                                            const u32 t273 = load32(l5 - 20ull);
-                                            store32(l7 + 4ull, t273);
-                                            if (l8 == 0) goto L257;
-                                            l8 = l2 - 4ull;
-                                            l7 = l4 + ((l8 + l10) << 3);
-                                            const u32 t274 = load16(l5 - 32ull);
-                                            store16(l7, (u16)t274);
-                                            const u32 t275 = load32(l5 - 28ull);
-                                            store32(l7 + 4ull, t275);
-                                            if (l8 == 0) goto L257;
-                                            l8 = l2 - 5ull;
-                                            l7 = l4 + ((l8 + l10) << 3);
-                                            l5 = l4 + (l3 << 3);
-                                            const u32 t276 = load16(l5 - 40ull);
-                                            store16(l7, (u16)t276);
-                                            const u32 t277 = load32(l5 - 36ull);
-                                            store32(l7 + 4ull, t277);
-                                            if (l8 == 0) goto L257;
-                                            l8 = l2 - 6ull;
-                                            l7 = l4 + ((l8 + l10) << 3);
-                                            const u32 t278 = load16(l5 - 48ull);
-                                            store16(l7, (u16)t278);
-                                            const u32 t279 = load32(l5 - 44ull);
-                                            store32(l7 + 4ull, t279);
-                                            if (l8 == 0) goto L257;
-                                            l2 = (((l2 + l10) << 3) + l4) - 56ull;
-                                            l3 = l4 + (l3 << 3);
-                                            const u32 t280 = load16(l3 - 56ull);
-                                            store16(l2, (u16)t280);
-                                            const u32 t281 = load32(l3 - 52ull);
-                                            store32(l2 + 4ull, t281);
-                                            goto L257;
+                                            if (l25 == l27) goto L258;
+                                            l6 = l2 - 1ull;
+                                            l8 = l5 + ((l6 + l9) << 3);
+                                            l4 = l5 + (l3 << 3);
+                                            const u32 t269 = load16(l4 - 8ull);
+                                            store16(l8, (u16)t269);
+                                            const u32 t270 = load32(l4 - 4ull);
+                                            store32(l8 + 4ull, t270);
+                                            if (l6 == 0) goto L258;
+                                            l6 = l2 - 2ull;
+                                            l8 = l5 + ((l6 + l9) << 3);
+                                            const u32 t271 = load16(l4 - 16ull);
+                                            store16(l8, (u16)t271);
+                                            const u32 t272 = load32(l4 - 12ull);
+                                            store32(l8 + 4ull, t272);
+                                            if (l6 == 0) goto L258;
+                                            l6 = l2 - 3ull;
+                                            l8 = l5 + ((l6 + l9) << 3);
+                                            l4 = l5 + (l3 << 3);
+                                            const u32 t273 = load16(l4 - 24ull);
+                                            store16(l8, (u16)t273);
+                                            const u32 t274 = load32(l4 - 20ull);
+                                            store32(l8 + 4ull, t274);
+                                            if (l6 == 0) goto L258;
+                                            l6 = l2 - 4ull;
+                                            l8 = l5 + ((l6 + l9) << 3);
+                                            const u32 t275 = load16(l4 - 32ull);
+                                            store16(l8, (u16)t275);
+                                            const u32 t276 = load32(l4 - 28ull);
+                                            store32(l8 + 4ull, t276);
+                                            if (l6 == 0) goto L258;
+                                            l6 = l2 - 5ull;
+                                            l8 = l5 + ((l6 + l9) << 3);
+                                            l4 = l5 + (l3 << 3);
+                                            const u32 t277 = load16(l4 - 40ull);
+                                            store16(l8, (u16)t277);
+                                            const u32 t278 = load32(l4 - 36ull);
+                                            store32(l8 + 4ull, t278);
+                                            if (l6 == 0) goto L258;
+                                            l6 = l2 - 6ull;
+                                            l8 = l5 + ((l6 + l9) << 3);
+                                            const u32 t279 = load16(l4 - 48ull);
+                                            store16(l8, (u16)t279);
+                                            const u32 t280 = load32(l4 - 44ull);
+                                            store32(l8 + 4ull, t280);
+                                            if (l6 == 0) goto L258;
+                                            l2 = (((l2 + l9) << 3) + l5) - 56ull;
+                                            l3 = l5 + (l3 << 3);
+                                            const u32 t281 = load16(l3 - 56ull);
+                                            store16(l2, (u16)t281);
+                                            const u32 t282 = load32(l3 - 52ull);
+                                            store32(l2 + 4ull, t282);
+                                            goto L258;
                                         }
-                                        space_copies_copy_long(stack, l4, l12, l3, l10);
+                                        space_copies_copy_long(stack, l5, l11, l3, l9);
                                     }
-                                    L257:;
-                                    l29 = (l29 - l28) + l25;
-                                    l28 = l24;
-                                    goto L252;
+                                    L258:;
+                                    l28 = (l28 - l27) + l25;
+                                    l27 = l24;
+                                    goto L253;
                                 }
-                                L253:;
+                                L254:;
                                 l30 = l30 + 1u;
                             }
-                            L252:;
+                            L253:;
                             l26 = l26 + 1u;
-                            if (l26 != l32) goto L246;
+                            if (l26 != l31) goto L247;
                         }
                     }
-                    space_space_Space_remove_store(stack, l1, l29, l28);
-                    store_index_index_from(stack, l1, l27, l31, l30);
+                    space_space_Space_remove_store(stack, l1, l28, l27);
+                    store_index_index_from(stack, l1, l29, l32, l30);
                     store64(l1 + 44ull, 0ull);
                     store32(l1 + 40ull, l30);
                 }
@@ -9773,7 +9719,7 @@ static void functions_form_calls_delete_definition(u64 stack, u64 l0, u64 l1, u6
         store32(l0 + 4ull, 0u);
     }
     L1:;
-    stack = l6 + 112ull;
+    stack = l7 + 112ull;
 }
 
 static void functions_form_calls_delete_all(u64 stack, u64 l0, u64 l1) {
@@ -14633,80 +14579,88 @@ static void store_index_index_from(u64 stack, u64 l0, u32 l1, u32 l2, u32 l3) {
     trap();
 }
 
-static INLINE u32 store_form_cells_place_of(u64 stack, u64 l0, u32 l1, u32 l2, u32 l3) {
-    u64 l4 = 0;
+static u32 store_form_finder_FormFinder_place_of(u64 stack, u64 l0, u32 l1) {
+    u32 l2 = 0;
+    u32 l3 = 0;
+    u32 l4 = 0;
     u32 l5 = 0;
     u32 l6 = 0;
-    u32 l7 = 0;
+    u64 l7 = 0;
     (void)stack;
     {
+        const u32 t2 = load32(l0 + 16ull);
+        l2 = t2;
         {
-            if (l1 == l3) goto L2;
-            if (l1 < l3) {
-                l6 = l3 - l1;
-                const u32 t4 = load32(l0 + 16ull);
-                l5 = t4;
-                L5:;
+            const u32 t4 = load32(l0 + 12ull);
+            l3 = t4;
+            if (l1 == l3) goto L3;
+            const u64 t5 = load64(l0);
+            l0 = t5;
+            if (l1 > l3) {
+                l5 = l1 - l3;
+                const u32 t7 = load32(l0 + 16ull);
+                l4 = t7;
+                L8:;
                 {
-                    l3 = 3u;
-                    if (l2 < l5) {
-                        const u64 t7 = load64(l0);
-                        l4 = t7 + ((u64)l2 << 3);
-                        const u32 t8 = load32(l4 + 4ull);
-                        const u32 t9 = load8(l4);
-                        l3 = (t9 == 4u) ? (t8 + 3u) : 3u;
+                    l1 = 3u;
+                    if (l2 < l4) {
+                        const u64 t10 = load64(l0);
+                        l7 = t10 + ((u64)l2 << 3);
+                        const u32 t11 = load32(l7 + 4ull);
+                        const u32 t12 = load8(l7);
+                        l1 = (t12 == 4u) ? (t11 + 3u) : 3u;
                     }
-                    l1 = 0u;
-                    l7 = l2 + 1u;
-                    u32 v10;
-                    if (l5 > l7) {
-                        const u64 t11 = load64(l0);
-                        l4 = t11 + ((u64)l7 << 3);
-                        const u32 t12 = load32(l4 + 4ull);
-                        const u32 t13 = load8(l4);
-                        v10 = (t13 == 4u) ? t12 : 0u;
+                    l3 = 0u;
+                    l6 = l2 + 1u;
+                    u32 v13;
+                    if (l4 > l6) {
+                        const u64 t14 = load64(l0);
+                        l7 = t14 + ((u64)l6 << 3);
+                        const u32 t15 = load32(l7 + 4ull);
+                        const u32 t16 = load8(l7);
+                        v13 = (t16 == 4u) ? t15 : 0u;
                     } else {
-                        v10 = l1;
+                        v13 = l3;
                     }
-                    l2 = v10 + (l2 + l3);
-                    l6 = l6 - 1u;
-                    if (l6) goto L5;
+                    l2 = v13 + (l1 + l2);
+                    l5 = l5 - 1u;
+                    if (l5) goto L8;
                 }
-                goto L2;
+                goto L3;
             }
-            if (l3 == 0) {
+            if (l1 == 0) {
                 return 0u;
             }
-            const u32 t15 = load32(l0 + 16ull);
-            l5 = t15;
+            const u32 t18 = load32(l0 + 16ull);
+            l4 = t18;
             l2 = 0u;
-            L16:;
+            L19:;
             {
-                l1 = 3u;
-                if (l2 < l5) {
-                    const u64 t18 = load64(l0);
-                    l4 = t18 + ((u64)l2 << 3);
-                    const u32 t19 = load32(l4 + 4ull);
-                    const u32 t20 = load8(l4);
-                    l1 = (t20 == 4u) ? (t19 + 3u) : 3u;
+                l3 = 3u;
+                if (l2 < l4) {
+                    const u64 t21 = load64(l0);
+                    l7 = t21 + ((u64)l2 << 3);
+                    const u32 t22 = load32(l7 + 4ull);
+                    const u32 t23 = load8(l7);
+                    l3 = (t23 == 4u) ? (t22 + 3u) : 3u;
                 }
-                l7 = l2 + 1u;
-                u32 v21;
-                if (l5 > l7) {
-                    const u64 t22 = load64(l0);
-                    l4 = t22 + ((u64)l7 << 3);
-                    const u32 t23 = load32(l4 + 4ull);
-                    const u32 t24 = load8(l4);
-                    v21 = (t24 == 4u) ? t23 : 0u;
+                l6 = l2 + 1u;
+                u32 v24;
+                if (l4 > l6) {
+                    const u64 t25 = load64(l0);
+                    l7 = t25 + ((u64)l6 << 3);
+                    const u32 t26 = load32(l7 + 4ull);
+                    const u32 t27 = load8(l7);
+                    v24 = (t27 == 4u) ? t26 : 0u;
                 } else {
-                    v21 = l6;
+                    v24 = l5;
                 }
-                l2 = v21 + (l1 + l2);
-                l3 = l3 - 1u;
-                if (l3) goto L16;
+                l2 = v24 + (l2 + l3);
+                l1 = l1 - 1u;
+                if (l1) goto L19;
             }
         }
-        L2:;
+        L3:;
         return l2;
     }
     trap();
@@ -19421,22 +19375,22 @@ static u32 engine_rule(u64 stack, u64 l0) {
 }
 
 static void engine_run(u64 stack, u64 l0, u64 l1, u64 l2, u64 l3, u64 l4, u64 l5, u64 l6, u64 l7) {
-    u32 l8 = 0;
-    u32 l9 = 0;
-    u32 l10 = 0;
-    u32 l11 = 0;
-    u32 l12 = 0;
-    u32 l13 = 0;
-    u32 l14 = 0;
-    u32 l15 = 0;
-    u32 l16 = 0;
-    u32 l17 = 0;
-    u32 l18 = 0;
-    u32 l19 = 0;
-    u32 l20 = 0;
-    u32 l21 = 0;
-    u32 l22 = 0;
-    u32 l23 = 0;
+    u64 l8 = 0;
+    u64 l9 = 0;
+    u64 l10 = 0;
+    u64 l11 = 0;
+    u64 l12 = 0;
+    u64 l13 = 0;
+    u64 l14 = 0;
+    u64 l15 = 0;
+    u64 l16 = 0;
+    u64 l17 = 0;
+    u64 l18 = 0;
+    u64 l19 = 0;
+    u64 l20 = 0;
+    u64 l21 = 0;
+    u64 l22 = 0;
+    u64 l23 = 0;
     u64 l24 = 0;
     u64 l25 = 0;
     u64 l26 = 0;
@@ -19445,26 +19399,26 @@ static void engine_run(u64 stack, u64 l0, u64 l1, u64 l2, u64 l3, u64 l4, u64 l5
     u64 l29 = 0;
     u64 l30 = 0;
     u64 l31 = 0;
-    u64 l32 = 0;
-    u64 l33 = 0;
-    u64 l34 = 0;
-    u64 l35 = 0;
-    u64 l36 = 0;
-    u64 l37 = 0;
-    u64 l38 = 0;
-    u64 l39 = 0;
-    u64 l40 = 0;
-    u64 l41 = 0;
-    u64 l42 = 0;
-    u64 l43 = 0;
-    u64 l44 = 0;
-    u64 l45 = 0;
-    u64 l46 = 0;
-    u64 l47 = 0;
-    l25 = stack - 208ull;
-    stack = l25;
+    u32 l32 = 0;
+    u32 l33 = 0;
+    u32 l34 = 0;
+    u32 l35 = 0;
+    u32 l36 = 0;
+    u32 l37 = 0;
+    u32 l38 = 0;
+    u32 l39 = 0;
+    u32 l40 = 0;
+    u32 l41 = 0;
+    u32 l42 = 0;
+    u32 l43 = 0;
+    u32 l44 = 0;
+    u32 l45 = 0;
+    u32 l46 = 0;
+    u32 l47 = 0;
+    l9 = stack - 208ull;
+    stack = l9;
     {
-        l24 = l25;
+        l10 = l9;
         {
             {
                 if (l2 >= 16777217ull) {
@@ -19476,100 +19430,100 @@ static void engine_run(u64 stack, u64 l0, u64 l1, u64 l2, u64 l3, u64 l4, u64 l5
                     store32(l0 + 36u, 0u);
                     goto L3;
                 }
-                l30 = l6 + ((l6 == 0) ? 4096ull : 0ull);
-                l26 = l4 + ((l4 == 0) ? 4096ull : 0ull);
+                l17 = l6 + ((l6 == 0) ? 4096ull : 0ull);
+                l18 = l4 + ((l4 == 0) ? 4096ull : 0ull);
                 {
                     if (l2 == 0) goto L5;
                     l6 = l2 & 3ull;
                     if (l2 >= 4ull) {
-                        l25 = (l2 >> 2) & 8388607ull;
-                        l27 = l25 << 2;
-                        l28 = l25 << 5;
+                        l9 = (l2 >> 2) & 8388607ull;
+                        l19 = l9 << 2;
+                        l8 = l9 << 5;
                         l4 = 0ull;
                         L7:;
                         {
-                            l25 = l1 + l4;
-                            store16(l25, (u16)0u);
-                            store32(l25 + 28ull, 0u);
-                            store16(l25 + 24ull, (u16)0u);
-                            store32(l25 + 20ull, 0u);
-                            store16(l25 + 16ull, (u16)0u);
-                            store32(l25 + 12ull, 0u);
-                            store16(l25 + 8ull, (u16)0u);
-                            store32(l25 + 4ull, 0u);
+                            l9 = l1 + l4;
+                            store16(l9, (u16)0u);
+                            store32(l9 + 28ull, 0u);
+                            store16(l9 + 24ull, (u16)0u);
+                            store32(l9 + 20ull, 0u);
+                            store16(l9 + 16ull, (u16)0u);
+                            store32(l9 + 12ull, 0u);
+                            store16(l9 + 8ull, (u16)0u);
+                            store32(l9 + 4ull, 0u);
                             l4 = l4 + 32ull;
-                            if (l28 != l4) goto L7;
+                            if (l8 != l4) goto L7;
                         }
                         if (l6 == 0) goto L5;
                     }
-                    l25 = l1 + (l27 << 3);
+                    l9 = l1 + (l19 << 3);
                     L8:;
                     {
-                        store16(l25, (u16)0u);
-                        store32(l25 + 4ull, 0u);
-                        l25 = l25 + 8ull;
+                        store16(l9, (u16)0u);
+                        store32(l9 + 4ull, 0u);
+                        l9 = l9 + 8ull;
                         l6 = l6 - 1ull;
                         if (l6 != 0ull) goto L8;
                     }
                 }
                 L5:;
-                store64(l24 + 56u, 0ull);
-                store64(l24 + 40u, l26);
-                store64(l24 + 64u, 0ull);
-                store64(l24 + 24u, 0ull);
-                store64(l24 + 16u, l7);
-                store64(l24 + 8u, l30);
-                store64(l24 + 32u, 0ull);
-                store64(l24 + 48u, l5);
-                store64(l24 + 104u, 0ull);
-                store32(l24 + 100u, (u32)l2);
-                store32(l24 + 96u, 0u);
-                store64(l24 + 88u, 0ull);
-                store64(l24 + 80u, l2);
-                store64(l24 + 72u, l1);
-                store64(l24 + 112u, 0ull);
-                store64(l24 + 120u, 0ull);
-                store32(l24 + 129u, 0u);
-                store8(l24 + 128u, (u8)39u);
-                store32(l24 + 132u, 0u);
-                store64(l24 + 144u, 0ull);
-                store64(l24 + 136u, l3);
-                store64(l24 + 152u, 0ull);
-                store64(l24 + 200u, 0ull);
-                store64(l24 + 192u, 0ull);
-                store64(l24 + 184u, l3);
-                store64(l24 + 160u, 0ull);
-                store64(l24 + 168u, 0ull);
-                store64(l24 + 176u, 0ull);
-                l31 = l24 + 160ull;
-                l6 = l24 + 72ull;
-                l33 = l24 + 128ull;
-                l3 = l24 + 184ull;
-                l26 = l24 + 40ull;
-                l29 = l24 + 8ull;
+                store64(l10 + 56u, 0ull);
+                store64(l10 + 40u, l18);
+                store64(l10 + 64u, 0ull);
+                store64(l10 + 24u, 0ull);
+                store64(l10 + 16u, l7);
+                store64(l10 + 8u, l17);
+                store64(l10 + 32u, 0ull);
+                store64(l10 + 48u, l5);
+                store64(l10 + 104u, 0ull);
+                store32(l10 + 100u, (u32)l2);
+                store32(l10 + 96u, 0u);
+                store64(l10 + 88u, 0ull);
+                store64(l10 + 80u, l2);
+                store64(l10 + 72u, l1);
+                store64(l10 + 112u, 0ull);
+                store64(l10 + 120u, 0ull);
+                store32(l10 + 129u, 0u);
+                store8(l10 + 128u, (u8)39u);
+                store32(l10 + 132u, 0u);
+                store64(l10 + 144u, 0ull);
+                store64(l10 + 136u, l3);
+                store64(l10 + 152u, 0ull);
+                store64(l10 + 200u, 0ull);
+                store64(l10 + 192u, 0ull);
+                store64(l10 + 184u, l3);
+                store64(l10 + 160u, 0ull);
+                store64(l10 + 168u, 0ull);
+                store64(l10 + 176u, 0ull);
+                l15 = l10 + 160ull;
+                l7 = l10 + 72ull;
+                l20 = l10 + 128ull;
+                l8 = l10 + 184ull;
+                l11 = l10 + 40ull;
+                l14 = l10 + 8ull;
                 l1 = stack - 192ull;
                 stack = l1;
                 {
-                    l4 = l1;
+                    l9 = l1;
                     {
-                        const u64 t11 = load64(l3);
-                        l32 = t11;
-                        store32(l4 + 72u, 0u);
-                        const u32 t12 = load32(l6 + 20ull);
-                        l13 = t12;
-                        store32(l4 + 76u, l13);
-                        const u32 t13 = load32(l3 + 16u);
-                        l16 = t13;
-                        const u64 t14 = load64(l3 + 8u);
-                        l28 = l32 - t14;
-                        if ((l28 == 0) == 0) {
-                            const u32 t16 = load32(l6 + 24ull);
-                            const u32 t17 = load32(l6 + 16ull);
-                            l14 = t16 + (l13 + t17);
-                            l34 = l4 + 93ull;
-                            l35 = l4 + 181ull;
-                            l36 = l4 + 141ull;
-                            l37 = l4 + 125ull;
+                        const u64 t11 = load64(l8);
+                        l16 = t11;
+                        store32(l9 + 72u, 0u);
+                        const u32 t12 = load32(l7 + 20ull);
+                        l34 = t12;
+                        store32(l9 + 76u, l34);
+                        const u32 t13 = load32(l8 + 16u);
+                        l39 = t13;
+                        const u64 t14 = load64(l8 + 8u);
+                        l13 = l16 - t14;
+                        if ((l13 == 0) == 0) {
+                            const u32 t16 = load32(l7 + 24ull);
+                            const u32 t17 = load32(l7 + 16ull);
+                            l43 = t16 + (l34 + t17);
+                            l21 = l9 + 93ull;
+                            l22 = l9 + 181ull;
+                            l23 = l9 + 141ull;
+                            l24 = l9 + 125ull;
                             L18:;
                             {
                                 u32 v19;
@@ -19580,28 +19534,29 @@ static void engine_run(u64 stack, u64 l0, u64 l1, u64 l2, u64 l3, u64 l4, u64 l5
                                             {
                                                 {
                                                     {
+                                                        u32 v25;
                                                         {
                                                             {
                                                                 {
                                                                     {
                                                                         {
-                                                                            const u32 t30 = load32(l6 + 24ull);
-                                                                            l12 = t30;
-                                                                            if (l12) {
-                                                                                l3 = 1ull;
+                                                                            const u32 t30 = load32(l7 + 24ull);
+                                                                            l37 = t30;
+                                                                            if (l37) {
+                                                                                l8 = 1ull;
                                                                                 {
                                                                                     {
                                                                                         {
                                                                                             {
                                                                                                 {
                                                                                                     {
-                                                                                                        const u64 t38 = load64(l6);
+                                                                                                        const u64 t38 = load64(l7);
                                                                                                         l1 = t38;
-                                                                                                        const u32 t39 = load32(l6 + 28ull);
-                                                                                                        l13 = t39 - l12;
-                                                                                                        const u32 t40 = load8((l1 + ((u64)l13 << 3)) + 1ull);
-                                                                                                        l18 = t40;
-                                                                                                        switch (l18 - 13u) {
+                                                                                                        const u32 t39 = load32(l7 + 28ull);
+                                                                                                        l34 = t39 - l37;
+                                                                                                        const u32 t40 = load8((l1 + ((u64)l34 << 3)) + 1ull);
+                                                                                                        l42 = t40;
+                                                                                                        switch (l42 - 13u) {
                                                                                                         case 0: goto L32;
                                                                                                         case 22: goto L34;
                                                                                                         case 27: goto L37;
@@ -19611,121 +19566,117 @@ static void engine_run(u64 stack, u64 l0, u64 l1, u64 l2, u64 l3, u64 l4, u64 l5
                                                                                                         }
                                                                                                     }
                                                                                                     L37:;
-                                                                                                    core_scan_protect(stack, l6);
+                                                                                                    core_scan_protect(stack, l7);
                                                                                                     goto L20;
                                                                                                 }
                                                                                                 L36:;
-                                                                                                const u32 t41 = load32(l6 + 32ull);
-                                                                                                l20 = t41;
-                                                                                                if (l20) goto L29;
-                                                                                                store32(l6 + 24ull, l12 - 1u);
+                                                                                                const u32 t41 = load32(l7 + 32ull);
+                                                                                                l42 = t41;
+                                                                                                if (l42) goto L29;
+                                                                                                store32(l7 + 24ull, l37 - 1u);
                                                                                                 goto L20;
                                                                                             }
                                                                                             L35:;
-                                                                                            const u32 t42 = load32(l4 + 72u);
-                                                                                            const u64 t43 = core_scan_begin_argument(stack, l6, l28, l4 + 76ull, t42 > 1u);
-                                                                                            l3 = t43;
+                                                                                            const u32 t42 = load32(l9 + 72u);
+                                                                                            const u64 t43 = core_scan_begin_argument(stack, l7, l13, l9 + 76ull, t42 > 1u);
+                                                                                            l8 = t43;
                                                                                             goto L20;
                                                                                         }
                                                                                         L34:;
-                                                                                        const u32 t44 = load32(l4 + 72u);
-                                                                                        const u64 t45 = core_scan_number_sign(stack, l6, l28, l4 + 76ull, t44 > 1u);
-                                                                                        l3 = t45;
+                                                                                        const u32 t44 = load32(l9 + 72u);
+                                                                                        const u64 t45 = core_scan_number_sign(stack, l7, l13, l9 + 76ull, t44 > 1u);
+                                                                                        l8 = t45;
                                                                                         goto L20;
                                                                                     }
                                                                                     L33:;
-                                                                                    if (((l18 - 9u) & 255u) < 2u) goto L32;
-                                                                                    const u64 t46 = core_scan_add_characters(stack, l6, l28, l4 + 76ull, l4 + 72ull);
-                                                                                    l3 = t46;
+                                                                                    if (((l42 - 9u) & 255u) < 2u) goto L32;
+                                                                                    const u64 t46 = core_scan_add_characters(stack, l7, l13, l9 + 76ull, l9 + 72ull);
+                                                                                    l8 = t46;
                                                                                     goto L20;
                                                                                 }
                                                                                 L32:;
-                                                                                l3 = (u64)l12;
-                                                                                const u64 t47 = (u64)((l13 + (u32)(((l3 < l28) ? l3 : l28))));
-                                                                                l3 = (u64)(l13 + 1u);
-                                                                                l2 = t47 - l3;
+                                                                                l8 = (u64)l37;
+                                                                                const u64 t47 = (u64)((l34 + (u32)(((l8 < l13) ? l8 : l13))));
+                                                                                l8 = (u64)(l34 + 1u);
+                                                                                l2 = t47 - l8;
                                                                                 if (l2 == 0) { v21 = 1u; goto L21; }
-                                                                                l3 = (l1 + (l3 << 3)) + 1ull;
+                                                                                l8 = (l1 + (l8 << 3)) + 1ull;
                                                                                 l1 = 0ull;
                                                                                 L48:;
                                                                                 {
-                                                                                    const u32 t49 = load8(l3);
-                                                                                    l13 = t49;
-                                                                                    if (l13 > 13u) goto L22;
-                                                                                    if (((1u << (l13 & 31)) & 9728u) == 0) goto L22;
-                                                                                    l3 = l3 + 8ull;
+                                                                                    const u32 t49 = load8(l8);
+                                                                                    l34 = t49;
+                                                                                    if (l34 > 13u) goto L22;
+                                                                                    if (((1u << (l34 & 31)) & 9728u) == 0) goto L22;
+                                                                                    l8 = l8 + 8ull;
                                                                                     l1 = l1 + 1ull;
                                                                                     if (l2 != l1) goto L48;
                                                                                 }
                                                                                 l1 = l2;
                                                                                 goto L22;
                                                                             }
-                                                                            store32(l6 + 32ull, 0u);
-                                                                            l1 = l6 + 20ull;
+                                                                            store32(l7 + 32ull, 0u);
+                                                                            l1 = l7 + 20ull;
                                                                             store32(l1, 0u);
-                                                                            l13 = 11u;
-                                                                            const u32 t50 = load32(l6 + 28ull);
-                                                                            l12 = t50;
-                                                                            l2 = l6 + 16ull;
+                                                                            l34 = 11u;
+                                                                            const u32 t50 = load32(l7 + 28ull);
+                                                                            l37 = t50;
+                                                                            l2 = l7 + 16ull;
                                                                             const u32 t51 = load32(l2);
-                                                                            if ((l12 - t51) <= 10u) {
-                                                                                const u32 t53 = space_space_Space_try_claim_spare(stack, l6, 11ull);
+                                                                            if ((l37 - t51) <= 10u) {
+                                                                                const u32 t53 = space_space_Space_try_claim_spare(stack, l7, 11ull);
                                                                                 if (t53 == 0) goto L28;
-                                                                                const u32 t54 = load32(l6 + 24ull);
-                                                                                l13 = t54 + 11u;
-                                                                                const u32 t55 = load32(l6 + 28ull);
-                                                                                l12 = t55;
+                                                                                const u32 t54 = load32(l7 + 24ull);
+                                                                                l34 = t54 + 11u;
+                                                                                const u32 t55 = load32(l7 + 28ull);
+                                                                                l37 = t55;
                                                                             }
-                                                                            const u64 t56 = load64(l6);
-                                                                            l3 = t56 + ((u64)(l12 - l13) << 3);
-                                                                            store64(l3 + 56u, 0ull);
-                                                                            store64(l3 + 48u, 0ull);
-                                                                            store64(l3 + 40u, 0ull);
-                                                                            store64(l3 + 32u, 0ull);
-                                                                            store64(l3 + 24u, 0ull);
-                                                                            store64(l3 + 16u, 0ull);
-                                                                            store64(l3 + 8u, 0ull);
-                                                                            store64(l3, 0ull);
-                                                                            store16(l3 + 80u, (u16)10496u);
-                                                                            store16(l3 + 72u, (u16)10496u);
-                                                                            store16(l3 + 64u, (u16)29440u);
-                                                                            store32(l3 + 84ull, 0u);
-                                                                            store32(l3 + 76ull, 0u);
-                                                                            store32(l3 + 68ull, 0u);
-                                                                            store8(l3 + 57ull, (u8)114u);
-                                                                            store8(l3 + 49ull, (u8)40u);
-                                                                            store8(l3 + 41ull, (u8)35u);
-                                                                            store8(l3 + 33ull, (u8)44u);
-                                                                            store8(l3 + 25ull, (u8)115u);
-                                                                            store8(l3 + 17ull, (u8)112u);
-                                                                            store8(l3 + 9ull, (u8)40u);
-                                                                            store8(l3 + 1ull, (u8)35u);
-                                                                            store32(l6 + 24ull, l13);
-                                                                            const u32 t57 = load32(l2);
-                                                                            l18 = t57;
-                                                                            const u32 t58 = load32(l1);
-                                                                            const u32 t59 = l18 + l13;
-                                                                            l13 = t58;
-                                                                            l12 = t59 + l13;
-                                                                            goto L25;
+                                                                            const u64 t56 = load64(l7);
+                                                                            l8 = t56 + ((u64)(l37 - l34) << 3);
+                                                                            store64(l8 + 56u, 0ull);
+                                                                            store64(l8 + 48u, 0ull);
+                                                                            store64(l8 + 40u, 0ull);
+                                                                            store64(l8 + 32u, 0ull);
+                                                                            store64(l8 + 24u, 0ull);
+                                                                            store64(l8 + 16u, 0ull);
+                                                                            store64(l8 + 8u, 0ull);
+                                                                            store64(l8, 0ull);
+                                                                            store16(l8 + 80u, (u16)10496u);
+                                                                            store16(l8 + 72u, (u16)10496u);
+                                                                            store16(l8 + 64u, (u16)29440u);
+                                                                            store32(l8 + 84ull, 0u);
+                                                                            store32(l8 + 76ull, 0u);
+                                                                            store32(l8 + 68ull, 0u);
+                                                                            store8(l8 + 57ull, (u8)114u);
+                                                                            store8(l8 + 49ull, (u8)40u);
+                                                                            store8(l8 + 41ull, (u8)35u);
+                                                                            store8(l8 + 33ull, (u8)44u);
+                                                                            store8(l8 + 25ull, (u8)115u);
+                                                                            store8(l8 + 17ull, (u8)112u);
+                                                                            store8(l8 + 9ull, (u8)40u);
+                                                                            store8(l8 + 1ull, (u8)35u);
+                                                                            store32(l7 + 24ull, l34);
+                                                                            const u32 t57 = load32(l1);
+                                                                            const u32 t58 = load32(l2);
+                                                                            v25 = t57 + (t58 + l34); goto L25;
                                                                         }
                                                                         L29:;
-                                                                        l18 = l12 - 1u;
-                                                                        store32(l6 + 24ull, l18);
-                                                                        const u32 t60 = load32(l6 + 20ull);
-                                                                        l14 = t60;
-                                                                        const u32 t61 = load32(l6 + 16ull);
-                                                                        l12 = t61;
-                                                                        const u32 t62 = load32(l4 + 76u);
-                                                                        l9 = t62;
-                                                                        store64(l4 + 96u, 0ull);
-                                                                        store64(l4 + 80u, 0ull);
-                                                                        store64(l4 + 88u, 0ull);
-                                                                        l13 = l20 - 1u;
-                                                                        const u32 t63 = load8((l1 + ((u64)(l12 + l13) << 3)) + 1ull);
-                                                                        l8 = t63;
-                                                                        store8(l4 + 130u, (u8)0u);
-                                                                        store16(l4 + 128u, (u16)0u);
+                                                                        l44 = l37 - 1u;
+                                                                        store32(l7 + 24ull, l44);
+                                                                        const u32 t59 = load32(l7 + 20ull);
+                                                                        l37 = t59;
+                                                                        const u32 t60 = load32(l7 + 16ull);
+                                                                        l34 = t60;
+                                                                        const u32 t61 = load32(l9 + 76u);
+                                                                        l33 = t61;
+                                                                        store64(l9 + 96u, 0ull);
+                                                                        store64(l9 + 80u, 0ull);
+                                                                        store64(l9 + 88u, 0ull);
+                                                                        l43 = l42 - 1u;
+                                                                        const u32 t62 = load8((l1 + ((u64)(l34 + l43) << 3)) + 1ull);
+                                                                        l32 = t62;
+                                                                        store8(l9 + 130u, (u8)0u);
+                                                                        store16(l9 + 128u, (u16)0u);
                                                                         {
                                                                             {
                                                                                 {
@@ -19738,305 +19689,305 @@ static void engine_run(u64 stack, u64 l0, u64 l1, u64 l2, u64 l3, u64 l4, u64 l5
                                                                                                             {
                                                                                                                 {
                                                                                                                     {
-                                                                                                                        l21 = l12 + l14;
-                                                                                                                        l3 = (u64)(l12 + l20);
-                                                                                                                        l2 = (u64)l21 - l3;
-                                                                                                                        if (l2 < 2ull) goto L75;
-                                                                                                                        l3 = l1 + (l3 << 3);
+                                                                                                                        l47 = l34 + l37;
+                                                                                                                        l8 = (u64)(l34 + l42);
+                                                                                                                        l2 = (u64)l47 - l8;
+                                                                                                                        if (l2 < 2ull) goto L74;
+                                                                                                                        l8 = l1 + (l8 << 3);
                                                                                                                         if (l2 != 2ull) {
-                                                                                                                            const u32 t77 = load8(l3 + 16ull);
-                                                                                                                            if (t77 != 2u) goto L75;
+                                                                                                                            const u32 t76 = load8(l8 + 16ull);
+                                                                                                                            if (t76 != 2u) goto L74;
                                                                                                                         }
-                                                                                                                        functions_function_function_of(stack, l4 + 128ull, l3, l3 + 8ull);
-                                                                                                                        const u32 t78 = load8(l4 + 128u);
-                                                                                                                        if (t78 != 1u) goto L75;
-                                                                                                                        l15 = l8 == 0;
-                                                                                                                        l17 = l20 + 3u;
+                                                                                                                        functions_function_function_of(stack, l9 + 128ull, l8, l8 + 8ull);
+                                                                                                                        const u32 t77 = load8(l9 + 128u);
+                                                                                                                        if (t77 != 1u) goto L74;
+                                                                                                                        l38 = l32 == 0;
+                                                                                                                        l40 = l42 + 3u;
                                                                                                                         {
                                                                                                                             {
                                                                                                                                 {
                                                                                                                                     {
                                                                                                                                         {
-                                                                                                                                            const u32 t84 = load8(l4 + 129u);
-                                                                                                                                            l10 = t84;
-                                                                                                                                            switch (l10 - 1u) {
-                                                                                                                                            case 0: goto L82;
-                                                                                                                                            case 1: goto L80;
-                                                                                                                                            case 2: goto L79;
-                                                                                                                                            case 3: goto L80;
-                                                                                                                                            case 4: goto L80;
-                                                                                                                                            case 5: goto L80;
-                                                                                                                                            case 6: goto L80;
-                                                                                                                                            case 7: goto L80;
-                                                                                                                                            case 8: goto L80;
-                                                                                                                                            case 9: goto L81;
-                                                                                                                                            case 10: goto L80;
-                                                                                                                                            case 11: goto L80;
-                                                                                                                                            case 12: goto L80;
-                                                                                                                                            case 13: goto L80;
-                                                                                                                                            case 14: goto L80;
-                                                                                                                                            case 15: goto L80;
-                                                                                                                                            case 16: goto L80;
-                                                                                                                                            case 17: goto L80;
-                                                                                                                                            case 18: goto L80;
-                                                                                                                                            case 19: goto L80;
-                                                                                                                                            case 20: goto L80;
-                                                                                                                                            case 21: goto L80;
-                                                                                                                                            case 22: goto L80;
-                                                                                                                                            case 23: goto L80;
-                                                                                                                                            default: goto L83;
+                                                                                                                                            const u32 t83 = load8(l9 + 129u);
+                                                                                                                                            l35 = t83;
+                                                                                                                                            switch (l35 - 1u) {
+                                                                                                                                            case 0: goto L81;
+                                                                                                                                            case 1: goto L79;
+                                                                                                                                            case 2: goto L78;
+                                                                                                                                            case 3: goto L79;
+                                                                                                                                            case 4: goto L79;
+                                                                                                                                            case 5: goto L79;
+                                                                                                                                            case 6: goto L79;
+                                                                                                                                            case 7: goto L79;
+                                                                                                                                            case 8: goto L79;
+                                                                                                                                            case 9: goto L80;
+                                                                                                                                            case 10: goto L79;
+                                                                                                                                            case 11: goto L79;
+                                                                                                                                            case 12: goto L79;
+                                                                                                                                            case 13: goto L79;
+                                                                                                                                            case 14: goto L79;
+                                                                                                                                            case 15: goto L79;
+                                                                                                                                            case 16: goto L79;
+                                                                                                                                            case 17: goto L79;
+                                                                                                                                            case 18: goto L79;
+                                                                                                                                            case 19: goto L79;
+                                                                                                                                            case 20: goto L79;
+                                                                                                                                            case 21: goto L79;
+                                                                                                                                            case 22: goto L79;
+                                                                                                                                            case 23: goto L79;
+                                                                                                                                            default: goto L82;
                                                                                                                                             }
                                                                                                                                         }
-                                                                                                                                        L83:;
-                                                                                                                                        const u32 t85 = load8(l33);
-                                                                                                                                        l9 = t85;
-                                                                                                                                        devices_slice_source_SliceSourceSource_take_held(stack, l26, l9, l6);
+                                                                                                                                        L82:;
+                                                                                                                                        const u32 t84 = load8(l20);
+                                                                                                                                        l33 = t84;
+                                                                                                                                        devices_slice_source_SliceSourceSource_take_held(stack, l11, l33, l7);
                                                                                                                                         {
                                                                                                                                             {
-                                                                                                                                                const u32 t88 = load8(l26 + 17ull);
-                                                                                                                                                if (t88) goto L87;
-                                                                                                                                                L89:;
+                                                                                                                                                const u32 t87 = load8(l11 + 17ull);
+                                                                                                                                                if (t87) goto L86;
+                                                                                                                                                L88:;
                                                                                                                                                 {
-                                                                                                                                                    const u64 t90 = load64(l26 + 8u);
-                                                                                                                                                    l3 = t90;
-                                                                                                                                                    if (l3 == 0) {
-                                                                                                                                                        const u32 t92 = load8(l26 + 16ull);
-                                                                                                                                                        if (t92) goto L86;
-                                                                                                                                                        store8(l26 + 17ull, (u8)1u);
-                                                                                                                                                        goto L87;
+                                                                                                                                                    const u64 t89 = load64(l11 + 8u);
+                                                                                                                                                    l8 = t89;
+                                                                                                                                                    if (l8 == 0) {
+                                                                                                                                                        const u32 t91 = load8(l11 + 16ull);
+                                                                                                                                                        if (t91) goto L85;
+                                                                                                                                                        store8(l11 + 17ull, (u8)1u);
+                                                                                                                                                        goto L86;
                                                                                                                                                     }
-                                                                                                                                                    store64(l26 + 8u, l3 - 1ull);
-                                                                                                                                                    const u64 t93 = load64(l26);
-                                                                                                                                                    l3 = t93;
-                                                                                                                                                    store64(l26, l3 + 1ull);
-                                                                                                                                                    const u32 t94 = load8(l3);
-                                                                                                                                                    l8 = t94;
-                                                                                                                                                    if (l8 == (l9 & 255u)) goto L67;
-                                                                                                                                                    store64(l4 + 128u, 0ull);
-                                                                                                                                                    store8(l4 + 129u, (u8)l8);
+                                                                                                                                                    store64(l11 + 8u, l8 - 1ull);
+                                                                                                                                                    const u64 t92 = load64(l11);
+                                                                                                                                                    l8 = t92;
+                                                                                                                                                    store64(l11, l8 + 1ull);
+                                                                                                                                                    const u32 t93 = load8(l8);
+                                                                                                                                                    l32 = t93;
+                                                                                                                                                    if (l32 == (l33 & 255u)) goto L66;
+                                                                                                                                                    store64(l9 + 128u, 0ull);
+                                                                                                                                                    store8(l9 + 129u, (u8)l32);
                                                                                                                                                     {
-                                                                                                                                                        const u32 t96 = load32(l6 + 28ull);
-                                                                                                                                                        l3 = l6 + 20ull;
-                                                                                                                                                        const u32 t97 = load32(l3);
-                                                                                                                                                        l10 = t97;
-                                                                                                                                                        const u32 t98 = load32(l6 + 16ull);
-                                                                                                                                                        l11 = l10 + t98;
-                                                                                                                                                        const u32 t99 = load32(l6 + 24ull);
-                                                                                                                                                        if (t96 == (l11 + t99)) {
-                                                                                                                                                            const u32 t101 = space_space_Space_push_over_spare(stack, l6, l4 + 128ull);
-                                                                                                                                                            if (t101) goto L95;
-                                                                                                                                                            goto L68;
+                                                                                                                                                        const u32 t95 = load32(l7 + 28ull);
+                                                                                                                                                        l8 = l7 + 20ull;
+                                                                                                                                                        const u32 t96 = load32(l8);
+                                                                                                                                                        l35 = t96;
+                                                                                                                                                        const u32 t97 = load32(l7 + 16ull);
+                                                                                                                                                        l36 = l35 + t97;
+                                                                                                                                                        const u32 t98 = load32(l7 + 24ull);
+                                                                                                                                                        if (t95 == (l36 + t98)) {
+                                                                                                                                                            const u32 t100 = space_space_Space_push_over_spare(stack, l7, l9 + 128ull);
+                                                                                                                                                            if (t100) goto L94;
+                                                                                                                                                            goto L67;
                                                                                                                                                         }
-                                                                                                                                                        l2 = l6 + 32ull;
-                                                                                                                                                        const u32 t102 = load32(l2);
-                                                                                                                                                        l15 = t102;
-                                                                                                                                                        const u64 t103 = load64(l6);
-                                                                                                                                                        l1 = t103 + ((u64)l11 << 3);
+                                                                                                                                                        l2 = l7 + 32ull;
+                                                                                                                                                        const u32 t101 = load32(l2);
+                                                                                                                                                        l38 = t101;
+                                                                                                                                                        const u64 t102 = load64(l7);
+                                                                                                                                                        l1 = t102 + ((u64)l36 << 3);
                                                                                                                                                         store8(l1, (u8)0u);
                                                                                                                                                         store32(l1 + 4ull, 0u);
-                                                                                                                                                        store8(l1 + 1ull, (u8)l8);
-                                                                                                                                                        store32(l3, l10 + 1u);
-                                                                                                                                                        store32(l2, l15);
+                                                                                                                                                        store8(l1 + 1ull, (u8)l32);
+                                                                                                                                                        store32(l8, l35 + 1u);
+                                                                                                                                                        store32(l2, l38);
                                                                                                                                                     }
-                                                                                                                                                    L95:;
-                                                                                                                                                    devices_slice_source_SliceSourceSource_take_held(stack, l26, l9, l6);
-                                                                                                                                                    const u32 t104 = load8(l26 + 17ull);
-                                                                                                                                                    if (t104 == 0) goto L89;
+                                                                                                                                                    L94:;
+                                                                                                                                                    devices_slice_source_SliceSourceSource_take_held(stack, l11, l33, l7);
+                                                                                                                                                    const u32 t103 = load8(l11 + 17ull);
+                                                                                                                                                    if (t103 == 0) goto L88;
                                                                                                                                                 }
                                                                                                                                             }
-                                                                                                                                            L87:;
-                                                                                                                                            const u32 t105 = load32(l6 + 20ull);
-                                                                                                                                            l11 = t105 == l14;
-                                                                                                                                            l10 = l11 ? 4u : 1u;
-                                                                                                                                            goto L66;
+                                                                                                                                            L86:;
+                                                                                                                                            const u32 t104 = load32(l7 + 20ull);
+                                                                                                                                            l36 = t104 == l37;
+                                                                                                                                            l35 = l36 ? 4u : 1u;
+                                                                                                                                            goto L65;
                                                                                                                                         }
-                                                                                                                                        L86:;
-                                                                                                                                        l3 = l26 + 24ull;
-                                                                                                                                        const u64 t106 = load64(l3);
-                                                                                                                                        store64(l3, t106 + 1ull);
-                                                                                                                                        goto L69;
-                                                                                                                                    }
-                                                                                                                                    L82:;
-                                                                                                                                    l10 = 4u;
-                                                                                                                                    const u32 t107 = load8(l26 + 17ull);
-                                                                                                                                    if (t107) {
-                                                                                                                                        l11 = 1u;
-                                                                                                                                        goto L66;
-                                                                                                                                    }
-                                                                                                                                    {
-                                                                                                                                        const u64 t110 = load64(l26 + 8u);
-                                                                                                                                        l3 = t110;
-                                                                                                                                        if (l3 == 0) {
-                                                                                                                                            const u32 t112 = load8(l26 + 16ull);
-                                                                                                                                            if (t112) goto L109;
-                                                                                                                                            l11 = 1u;
-                                                                                                                                            store8(l26 + 17ull, (u8)1u);
-                                                                                                                                            goto L66;
-                                                                                                                                        }
-                                                                                                                                        store64(l26 + 8u, l3 - 1ull);
-                                                                                                                                        const u64 t113 = load64(l26);
-                                                                                                                                        l3 = t113;
-                                                                                                                                        store64(l26, l3 + 1ull);
-                                                                                                                                        const u32 t114 = load8(l3);
-                                                                                                                                        l8 = t114;
-                                                                                                                                        store64(l4 + 128u, 0ull);
-                                                                                                                                        store8(l4 + 129u, (u8)l8);
-                                                                                                                                        const u32 t115 = load32(l6 + 28ull);
-                                                                                                                                        l3 = l6 + 20ull;
-                                                                                                                                        const u32 t116 = load32(l3);
-                                                                                                                                        l9 = t116;
-                                                                                                                                        const u32 t117 = load32(l6 + 16ull);
-                                                                                                                                        l10 = l9 + t117;
-                                                                                                                                        const u32 t118 = load32(l6 + 24ull);
-                                                                                                                                        if (t115 != (l10 + t118)) {
-                                                                                                                                            l2 = l6 + 32ull;
-                                                                                                                                            const u32 t120 = load32(l2);
-                                                                                                                                            l11 = t120;
-                                                                                                                                            const u64 t121 = load64(l6);
-                                                                                                                                            l1 = t121 + ((u64)l10 << 3);
-                                                                                                                                            store8(l1, (u8)0u);
-                                                                                                                                            store32(l1 + 4ull, 0u);
-                                                                                                                                            store8(l1 + 1ull, (u8)l8);
-                                                                                                                                            store32(l3, l9 + 1u);
-                                                                                                                                            store32(l2, l11);
-                                                                                                                                            goto L67;
-                                                                                                                                        }
-                                                                                                                                        const u32 t122 = space_space_Space_push_over_spare(stack, l6, l4 + 128ull);
-                                                                                                                                        if (t122) goto L67;
+                                                                                                                                        L85:;
+                                                                                                                                        l8 = l11 + 24ull;
+                                                                                                                                        const u64 t105 = load64(l8);
+                                                                                                                                        store64(l8, t105 + 1ull);
                                                                                                                                         goto L68;
                                                                                                                                     }
-                                                                                                                                    L109:;
-                                                                                                                                    l3 = l26 + 24ull;
-                                                                                                                                    const u64 t123 = load64(l3);
-                                                                                                                                    store64(l3, t123 + 1ull);
-                                                                                                                                    goto L69;
+                                                                                                                                    L81:;
+                                                                                                                                    l35 = 4u;
+                                                                                                                                    const u32 t106 = load8(l11 + 17ull);
+                                                                                                                                    if (t106) {
+                                                                                                                                        l36 = 1u;
+                                                                                                                                        goto L65;
+                                                                                                                                    }
+                                                                                                                                    {
+                                                                                                                                        const u64 t109 = load64(l11 + 8u);
+                                                                                                                                        l8 = t109;
+                                                                                                                                        if (l8 == 0) {
+                                                                                                                                            const u32 t111 = load8(l11 + 16ull);
+                                                                                                                                            if (t111) goto L108;
+                                                                                                                                            l36 = 1u;
+                                                                                                                                            store8(l11 + 17ull, (u8)1u);
+                                                                                                                                            goto L65;
+                                                                                                                                        }
+                                                                                                                                        store64(l11 + 8u, l8 - 1ull);
+                                                                                                                                        const u64 t112 = load64(l11);
+                                                                                                                                        l8 = t112;
+                                                                                                                                        store64(l11, l8 + 1ull);
+                                                                                                                                        const u32 t113 = load8(l8);
+                                                                                                                                        l32 = t113;
+                                                                                                                                        store64(l9 + 128u, 0ull);
+                                                                                                                                        store8(l9 + 129u, (u8)l32);
+                                                                                                                                        const u32 t114 = load32(l7 + 28ull);
+                                                                                                                                        l8 = l7 + 20ull;
+                                                                                                                                        const u32 t115 = load32(l8);
+                                                                                                                                        l33 = t115;
+                                                                                                                                        const u32 t116 = load32(l7 + 16ull);
+                                                                                                                                        l35 = l33 + t116;
+                                                                                                                                        const u32 t117 = load32(l7 + 24ull);
+                                                                                                                                        if (t114 != (l35 + t117)) {
+                                                                                                                                            l2 = l7 + 32ull;
+                                                                                                                                            const u32 t119 = load32(l2);
+                                                                                                                                            l36 = t119;
+                                                                                                                                            const u64 t120 = load64(l7);
+                                                                                                                                            l1 = t120 + ((u64)l35 << 3);
+                                                                                                                                            store8(l1, (u8)0u);
+                                                                                                                                            store32(l1 + 4ull, 0u);
+                                                                                                                                            store8(l1 + 1ull, (u8)l32);
+                                                                                                                                            store32(l8, l33 + 1u);
+                                                                                                                                            store32(l2, l36);
+                                                                                                                                            goto L66;
+                                                                                                                                        }
+                                                                                                                                        const u32 t121 = space_space_Space_push_over_spare(stack, l7, l9 + 128ull);
+                                                                                                                                        if (t121) goto L66;
+                                                                                                                                        goto L67;
+                                                                                                                                    }
+                                                                                                                                    L108:;
+                                                                                                                                    l8 = l11 + 24ull;
+                                                                                                                                    const u64 t122 = load64(l8);
+                                                                                                                                    store64(l8, t122 + 1ull);
+                                                                                                                                    goto L68;
                                                                                                                                 }
-                                                                                                                                L81:;
-                                                                                                                                store16(l35, (u16)0u);
-                                                                                                                                store8(l35 + 2u, (u8)0u);
-                                                                                                                                store8(l4 + 180u, (u8)l15);
-                                                                                                                                store32(l4 + 176u, l9);
-                                                                                                                                store32(l4 + 172u, l14);
-                                                                                                                                store32(l4 + 168u, l17);
-                                                                                                                                functions_arguments_Arguments_next(stack, l4 + 16ull, l4 + 168ull, l6);
-                                                                                                                                const u32 t124 = load32(l4 + 20u);
-                                                                                                                                l8 = t124;
-                                                                                                                                const u32 t125 = load32(l4 + 16u);
-                                                                                                                                l9 = t125;
-                                                                                                                                store64(l4 + 160u, 0ull);
-                                                                                                                                store64(l4 + 152u, 0ull);
-                                                                                                                                store64(l4 + 144u, 0ull);
-                                                                                                                                store64(l4 + 136u, 0ull);
-                                                                                                                                store64(l4 + 128u, 0ull);
+                                                                                                                                L80:;
+                                                                                                                                store16(l22, (u16)0u);
+                                                                                                                                store8(l22 + 2u, (u8)0u);
+                                                                                                                                store8(l9 + 180u, (u8)l38);
+                                                                                                                                store32(l9 + 176u, l33);
+                                                                                                                                store32(l9 + 172u, l37);
+                                                                                                                                store32(l9 + 168u, l40);
+                                                                                                                                functions_arguments_Arguments_next(stack, l9 + 16ull, l9 + 168ull, l7);
+                                                                                                                                const u32 t123 = load32(l9 + 20u);
+                                                                                                                                l32 = t123;
+                                                                                                                                const u32 t124 = load32(l9 + 16u);
+                                                                                                                                l33 = t124;
+                                                                                                                                store64(l9 + 160u, 0ull);
+                                                                                                                                store64(l9 + 152u, 0ull);
+                                                                                                                                store64(l9 + 144u, 0ull);
+                                                                                                                                store64(l9 + 136u, 0ull);
+                                                                                                                                store64(l9 + 128u, 0ull);
                                                                                                                                 {
                                                                                                                                     {
-                                                                                                                                        u32 v128;
+                                                                                                                                        u32 v127;
                                                                                                                                         {
-                                                                                                                                            const u32 t129 = load32(l6 + 40ull);
-                                                                                                                                            l10 = t129;
-                                                                                                                                            if (l10 >= 8u) {
-                                                                                                                                                forms_work_Work_find_among_more(stack, l4, l6, l9, l8);
-                                                                                                                                                const u32 t131 = load8(l4);
-                                                                                                                                                l8 = t131;
-                                                                                                                                                const u32 t132 = load32(l4 + 4u);
-                                                                                                                                                v128 = t132; goto L128;
+                                                                                                                                            const u32 t128 = load32(l7 + 40ull);
+                                                                                                                                            l35 = t128;
+                                                                                                                                            if (l35 >= 8u) {
+                                                                                                                                                forms_work_Work_find_among_more(stack, l9, l7, l33, l32);
+                                                                                                                                                const u32 t130 = load8(l9);
+                                                                                                                                                l32 = t130;
+                                                                                                                                                const u32 t131 = load32(l9 + 4u);
+                                                                                                                                                v127 = t131; goto L127;
                                                                                                                                             }
                                                                                                                                             {
-                                                                                                                                                if (l10 == 0) goto L133;
-                                                                                                                                                const u64 t134 = load32(l1 + 4ull);
-                                                                                                                                                l3 = (u64)(l8 + l12);
-                                                                                                                                                l2 = (u64)(l9 + l12);
-                                                                                                                                                if (t134 != (l3 - l2)) goto L133;
-                                                                                                                                                l25 = 17ull - (l2 << 3);
-                                                                                                                                                l2 = (l3 ^ 18446744073709551615ull) + l2;
-                                                                                                                                                l3 = l1 + (l3 << 3);
-                                                                                                                                                L135:;
+                                                                                                                                                if (l35 == 0) goto L132;
+                                                                                                                                                const u64 t133 = load32(l1 + 4ull);
+                                                                                                                                                l8 = (u64)(l32 + l34);
+                                                                                                                                                l2 = (u64)(l33 + l34);
+                                                                                                                                                if (t133 != (l8 - l2)) goto L132;
+                                                                                                                                                l4 = 17ull - (l2 << 3);
+                                                                                                                                                l2 = (l8 ^ 18446744073709551615ull) + l2;
+                                                                                                                                                l8 = l1 + (l8 << 3);
+                                                                                                                                                L134:;
                                                                                                                                                 {
                                                                                                                                                     l2 = l2 + 1ull;
-                                                                                                                                                    if (l2 == 0) goto L127;
-                                                                                                                                                    l1 = l3 - 7ull;
-                                                                                                                                                    l27 = l3 + l25;
-                                                                                                                                                    l3 = l3 - 8ull;
-                                                                                                                                                    const u32 t136 = load8(l27);
-                                                                                                                                                    const u32 t137 = load8(l1);
-                                                                                                                                                    if (t136 == t137) goto L135;
+                                                                                                                                                    if (l2 == 0) goto L126;
+                                                                                                                                                    l1 = l8 - 7ull;
+                                                                                                                                                    l12 = l4 + l8;
+                                                                                                                                                    l8 = l8 - 8ull;
+                                                                                                                                                    const u32 t135 = load8(l12);
+                                                                                                                                                    const u32 t136 = load8(l1);
+                                                                                                                                                    if (t135 == t136) goto L134;
                                                                                                                                                 }
                                                                                                                                             }
-                                                                                                                                            L133:;
-                                                                                                                                            forms_work_Work_find_among_few(stack, l4 + 8ull, l6, l9, l8);
-                                                                                                                                            const u32 t138 = load8(l4 + 8u);
-                                                                                                                                            l8 = t138;
-                                                                                                                                            const u32 t139 = load32(l4 + 12u);
-                                                                                                                                            v128 = t139;
+                                                                                                                                            L132:;
+                                                                                                                                            forms_work_Work_find_among_few(stack, l9 + 8ull, l7, l33, l32);
+                                                                                                                                            const u32 t137 = load8(l9 + 8u);
+                                                                                                                                            l32 = t137;
+                                                                                                                                            const u32 t138 = load32(l9 + 12u);
+                                                                                                                                            v127 = t138;
                                                                                                                                         }
-                                                                                                                                        L128:;
-                                                                                                                                        l9 = v128;
-                                                                                                                                        if ((l8 & 255u) == 1u) goto L126;
-                                                                                                                                        l11 = 0u;
-                                                                                                                                        l10 = 3u;
-                                                                                                                                        goto L66;
+                                                                                                                                        L127:;
+                                                                                                                                        l33 = v127;
+                                                                                                                                        if ((l32 & 255u) == 1u) goto L125;
+                                                                                                                                        l36 = 0u;
+                                                                                                                                        l35 = 3u;
+                                                                                                                                        goto L65;
                                                                                                                                     }
-                                                                                                                                    L127:;
-                                                                                                                                    store64(l6 + 44ull, 0ull);
-                                                                                                                                    l9 = 0u;
+                                                                                                                                    L126:;
+                                                                                                                                    store64(l7 + 44ull, 0ull);
+                                                                                                                                    l33 = 0u;
                                                                                                                                 }
-                                                                                                                                L126:;
-                                                                                                                                forms_work_Work_stored(stack, l4 + 128ull, l6, l9);
-                                                                                                                                const u32 t140 = core_display_show_form(stack, l4 + 128ull, l29);
-                                                                                                                                l8 = t140 & 255u;
-                                                                                                                                l11 = l8 ? 5u : 0u;
-                                                                                                                                l10 = l8 + 3u;
-                                                                                                                                goto L66;
+                                                                                                                                L125:;
+                                                                                                                                forms_work_Work_stored(stack, l9 + 128ull, l7, l33);
+                                                                                                                                const u32 t139 = core_display_show_form(stack, l9 + 128ull, l14);
+                                                                                                                                l32 = t139 & 255u;
+                                                                                                                                l36 = l32 ? 5u : 0u;
+                                                                                                                                l35 = l32 + 3u;
+                                                                                                                                goto L65;
                                                                                                                             }
-                                                                                                                            L80:;
-                                                                                                                            const u32 t141 = load8(l4 + 130u);
-                                                                                                                            l19 = t141;
+                                                                                                                            L79:;
+                                                                                                                            const u32 t140 = load8(l9 + 130u);
+                                                                                                                            l41 = t140;
                                                                                                                             {
-                                                                                                                                if ((l10 - 5u) < 20u) goto L142;
-                                                                                                                                l8 = 0u;
-                                                                                                                                l11 = 0u;
+                                                                                                                                if ((l35 - 5u) < 20u) goto L141;
+                                                                                                                                l32 = 0u;
+                                                                                                                                l36 = 0u;
                                                                                                                                 {
-                                                                                                                                    switch (l10 - 3u) {
-                                                                                                                                    case 0: goto L142;
-                                                                                                                                    case 1: goto L70;
-                                                                                                                                    default: goto L143;
+                                                                                                                                    switch (l35 - 3u) {
+                                                                                                                                    case 0: goto L141;
+                                                                                                                                    case 1: goto L69;
+                                                                                                                                    default: goto L142;
                                                                                                                                     }
                                                                                                                                 }
-                                                                                                                                L143:;
-                                                                                                                                store16(l36, (u16)0u);
-                                                                                                                                store8(l36 + 2u, (u8)0u);
-                                                                                                                                store8(l4 + 140u, (u8)l15);
-                                                                                                                                store32(l4 + 136u, l9);
-                                                                                                                                store32(l4 + 132u, l14);
-                                                                                                                                store32(l4 + 128u, l17);
-                                                                                                                                functions_arguments_Arguments_next(stack, l4 + 24ull, l4 + 128ull, l6);
-                                                                                                                                const u32 t144 = load32(l4 + 24u);
-                                                                                                                                l9 = t144;
-                                                                                                                                const u32 t145 = load32(l4 + 28u);
-                                                                                                                                if (l9 != t145) {
-                                                                                                                                    l3 = l1 + ((u64)(l9 + l12) << 3);
-                                                                                                                                    const u32 t147 = load8(l3);
-                                                                                                                                    const u64 t148 = l33;
-                                                                                                                                    u32 v149;
-                                                                                                                                    if (t147) {
-                                                                                                                                        v149 = 0u;
+                                                                                                                                L142:;
+                                                                                                                                store16(l23, (u16)0u);
+                                                                                                                                store8(l23 + 2u, (u8)0u);
+                                                                                                                                store8(l9 + 140u, (u8)l38);
+                                                                                                                                store32(l9 + 136u, l33);
+                                                                                                                                store32(l9 + 132u, l37);
+                                                                                                                                store32(l9 + 128u, l40);
+                                                                                                                                functions_arguments_Arguments_next(stack, l9 + 24ull, l9 + 128ull, l7);
+                                                                                                                                const u32 t143 = load32(l9 + 24u);
+                                                                                                                                l33 = t143;
+                                                                                                                                const u32 t144 = load32(l9 + 28u);
+                                                                                                                                if (l33 != t144) {
+                                                                                                                                    l8 = l1 + ((u64)(l33 + l34) << 3);
+                                                                                                                                    const u32 t146 = load8(l8);
+                                                                                                                                    const u64 t147 = l20;
+                                                                                                                                    u32 v148;
+                                                                                                                                    if (t146) {
+                                                                                                                                        v148 = 0u;
                                                                                                                                     } else {
-                                                                                                                                        const u32 t150 = load8(l3 + 1ull);
-                                                                                                                                        v149 = t150;
+                                                                                                                                        const u32 t149 = load8(l8 + 1ull);
+                                                                                                                                        v148 = t149;
                                                                                                                                     }
-                                                                                                                                    store8(t148, (u8)v149);
+                                                                                                                                    store8(t147, (u8)v148);
                                                                                                                                 }
-                                                                                                                                l10 = 3u;
-                                                                                                                                goto L70;
+                                                                                                                                l35 = 3u;
+                                                                                                                                goto L69;
                                                                                                                             }
-                                                                                                                            L142:;
-                                                                                                                            store16(l37, (u16)0u);
-                                                                                                                            store8(l37 + 2u, (u8)0u);
-                                                                                                                            store8(l4 + 124u, (u8)l15);
-                                                                                                                            store32(l4 + 120u, l9);
-                                                                                                                            store32(l4 + 116u, l14);
-                                                                                                                            store32(l4 + 112u, l17);
-                                                                                                                            store64(l4 + 104u, 0ull);
+                                                                                                                            L141:;
+                                                                                                                            store16(l24, (u16)0u);
+                                                                                                                            store8(l24 + 2u, (u8)0u);
+                                                                                                                            store8(l9 + 124u, (u8)l38);
+                                                                                                                            store32(l9 + 120u, l33);
+                                                                                                                            store32(l9 + 116u, l37);
+                                                                                                                            store32(l9 + 112u, l40);
+                                                                                                                            store64(l9 + 104u, 0ull);
                                                                                                                             {
                                                                                                                                 {
                                                                                                                                     {
@@ -20057,817 +20008,814 @@ static void engine_run(u64 stack, u64 l0, u64 l1, u64 l2, u64 l3, u64 l4, u64 l5
                                                                                                                                                                                                 {
                                                                                                                                                                                                     {
                                                                                                                                                                                                         {
-                                                                                                                                                                                                            switch (l10 - 5u) {
-                                                                                                                                                                                                            case 0: goto L157;
-                                                                                                                                                                                                            case 1: goto L156;
-                                                                                                                                                                                                            case 2: goto L154;
-                                                                                                                                                                                                            case 3: goto L153;
-                                                                                                                                                                                                            case 4: goto L152;
-                                                                                                                                                                                                            case 6: goto L155;
-                                                                                                                                                                                                            case 7: goto L162;
-                                                                                                                                                                                                            case 8: goto L161;
-                                                                                                                                                                                                            case 9: goto L160;
-                                                                                                                                                                                                            case 10: goto L159;
-                                                                                                                                                                                                            case 11: goto L158;
-                                                                                                                                                                                                            case 12: goto L170;
-                                                                                                                                                                                                            case 13: goto L169;
-                                                                                                                                                                                                            case 14: goto L168;
-                                                                                                                                                                                                            case 15: goto L167;
-                                                                                                                                                                                                            case 16: goto L166;
-                                                                                                                                                                                                            case 17: goto L165;
-                                                                                                                                                                                                            case 18: goto L164;
-                                                                                                                                                                                                            case 19: goto L163;
-                                                                                                                                                                                                            default: goto L151;
+                                                                                                                                                                                                            switch (l35 - 5u) {
+                                                                                                                                                                                                            case 0: goto L156;
+                                                                                                                                                                                                            case 1: goto L155;
+                                                                                                                                                                                                            case 2: goto L153;
+                                                                                                                                                                                                            case 3: goto L152;
+                                                                                                                                                                                                            case 4: goto L151;
+                                                                                                                                                                                                            case 6: goto L154;
+                                                                                                                                                                                                            case 7: goto L161;
+                                                                                                                                                                                                            case 8: goto L160;
+                                                                                                                                                                                                            case 9: goto L159;
+                                                                                                                                                                                                            case 10: goto L158;
+                                                                                                                                                                                                            case 11: goto L157;
+                                                                                                                                                                                                            case 12: goto L169;
+                                                                                                                                                                                                            case 13: goto L168;
+                                                                                                                                                                                                            case 14: goto L167;
+                                                                                                                                                                                                            case 15: goto L166;
+                                                                                                                                                                                                            case 16: goto L165;
+                                                                                                                                                                                                            case 17: goto L164;
+                                                                                                                                                                                                            case 18: goto L163;
+                                                                                                                                                                                                            case 19: goto L162;
+                                                                                                                                                                                                            default: goto L150;
                                                                                                                                                                                                             }
                                                                                                                                                                                                         }
-                                                                                                                                                                                                        L170:;
-                                                                                                                                                                                                        functions_comparing_equal(stack, l4 + 104ull, l6, l4 + 112ull);
-                                                                                                                                                                                                        goto L71;
+                                                                                                                                                                                                        L169:;
+                                                                                                                                                                                                        functions_comparing_equal(stack, l9 + 104ull, l7, l9 + 112ull);
+                                                                                                                                                                                                        goto L70;
                                                                                                                                                                                                     }
-                                                                                                                                                                                                    L169:;
-                                                                                                                                                                                                    functions_comparing_greater(stack, l4 + 104ull, l6, l4 + 112ull);
-                                                                                                                                                                                                    goto L71;
+                                                                                                                                                                                                    L168:;
+                                                                                                                                                                                                    functions_comparing_greater(stack, l9 + 104ull, l7, l9 + 112ull);
+                                                                                                                                                                                                    goto L70;
                                                                                                                                                                                                 }
-                                                                                                                                                                                                L168:;
-                                                                                                                                                                                                functions_arithmetic_arithmetic(stack, l4 + 104ull, l6, l19, l4 + 112ull);
-                                                                                                                                                                                                goto L71;
+                                                                                                                                                                                                L167:;
+                                                                                                                                                                                                functions_arithmetic_arithmetic(stack, l9 + 104ull, l7, l41, l9 + 112ull);
+                                                                                                                                                                                                goto L70;
                                                                                                                                                                                             }
-                                                                                                                                                                                            L167:;
-                                                                                                                                                                                            functions_bit_strings_union(stack, l4 + 104ull, l6, l4 + 112ull);
-                                                                                                                                                                                            goto L71;
+                                                                                                                                                                                            L166:;
+                                                                                                                                                                                            functions_bit_strings_union(stack, l9 + 104ull, l7, l9 + 112ull);
+                                                                                                                                                                                            goto L70;
                                                                                                                                                                                         }
-                                                                                                                                                                                        L166:;
-                                                                                                                                                                                        functions_bit_strings_intersection(stack, l4 + 104ull, l6, l4 + 112ull);
-                                                                                                                                                                                        goto L71;
+                                                                                                                                                                                        L165:;
+                                                                                                                                                                                        functions_bit_strings_intersection(stack, l9 + 104ull, l7, l9 + 112ull);
+                                                                                                                                                                                        goto L70;
                                                                                                                                                                                     }
-                                                                                                                                                                                    L165:;
-                                                                                                                                                                                    store64(l4 + 184u, 0ull);
-                                                                                                                                                                                    const u64 t171 = load64(l4 + 112u);
-                                                                                                                                                                                    store64(l4 + 168u, t171);
-                                                                                                                                                                                    const u64 t172 = load64(l4 + 120u);
-                                                                                                                                                                                    store64(l4 + 176u, t172);
-                                                                                                                                                                                    store64(l4 + 140u, 0ull);
-                                                                                                                                                                                    functions_arguments_Arguments_next(stack, l4 + 32ull, l4 + 168ull, l6);
-                                                                                                                                                                                    const u32 t173 = load32(l4 + 32u);
-                                                                                                                                                                                    l11 = t173;
-                                                                                                                                                                                    const u32 t174 = load32(l4 + 36u);
-                                                                                                                                                                                    l10 = t174;
-                                                                                                                                                                                    l3 = (u64)(l10 + l12);
-                                                                                                                                                                                    l2 = (u64)(l11 + l12) - l3;
-                                                                                                                                                                                    l3 = (l1 + (l3 << 3)) - 8ull;
-                                                                                                                                                                                    l9 = l10;
-                                                                                                                                                                                    L175:;
+                                                                                                                                                                                    L164:;
+                                                                                                                                                                                    store64(l9 + 184u, 0ull);
+                                                                                                                                                                                    const u64 t170 = load64(l9 + 112u);
+                                                                                                                                                                                    store64(l9 + 168u, t170);
+                                                                                                                                                                                    const u64 t171 = load64(l9 + 120u);
+                                                                                                                                                                                    store64(l9 + 176u, t171);
+                                                                                                                                                                                    store64(l9 + 140u, 0ull);
+                                                                                                                                                                                    functions_arguments_Arguments_next(stack, l9 + 32ull, l9 + 168ull, l7);
+                                                                                                                                                                                    const u32 t172 = load32(l9 + 32u);
+                                                                                                                                                                                    l36 = t172;
+                                                                                                                                                                                    const u32 t173 = load32(l9 + 36u);
+                                                                                                                                                                                    l35 = t173;
+                                                                                                                                                                                    l8 = (u64)(l35 + l34);
+                                                                                                                                                                                    l2 = (u64)(l36 + l34) - l8;
+                                                                                                                                                                                    l8 = (l1 + (l8 << 3)) - 8ull;
+                                                                                                                                                                                    l33 = l35;
+                                                                                                                                                                                    L174:;
                                                                                                                                                                                     {
                                                                                                                                                                                         {
-                                                                                                                                                                                            l8 = l9;
-                                                                                                                                                                                            if (l2 == 0) goto L176;
-                                                                                                                                                                                            const u32 t177 = load8(l3);
-                                                                                                                                                                                            if (t177) goto L176;
+                                                                                                                                                                                            l32 = l33;
+                                                                                                                                                                                            if (l2 == 0) goto L175;
+                                                                                                                                                                                            const u32 t176 = load8(l8);
+                                                                                                                                                                                            if (t176) goto L175;
                                                                                                                                                                                             l2 = l2 + 1ull;
-                                                                                                                                                                                            l9 = l8 - 1u;
-                                                                                                                                                                                            l1 = l3 + 1ull;
-                                                                                                                                                                                            l3 = l3 - 8ull;
-                                                                                                                                                                                            const u32 t178 = load8(l1);
-                                                                                                                                                                                            if ((t178 & 248u) == 48u) goto L175;
+                                                                                                                                                                                            l33 = l32 - 1u;
+                                                                                                                                                                                            l1 = l8 + 1ull;
+                                                                                                                                                                                            l8 = l8 - 8ull;
+                                                                                                                                                                                            const u32 t177 = load8(l1);
+                                                                                                                                                                                            if ((t177 & 248u) == 48u) goto L174;
                                                                                                                                                                                         }
-                                                                                                                                                                                        L176:;
+                                                                                                                                                                                        L175:;
                                                                                                                                                                                     }
-                                                                                                                                                                                    store32(l4 + 136u, l10);
-                                                                                                                                                                                    store32(l4 + 132u, l8);
-                                                                                                                                                                                    store32(l4 + 128u, 2u);
-                                                                                                                                                                                    functions_bit_strings_give_bits(stack, l4 + 184ull, l6, l11, l8, l4 + 128ull);
-                                                                                                                                                                                    const u32 t179 = load16(l4 + 184u);
-                                                                                                                                                                                    store16(l4 + 104u, (u16)t179);
-                                                                                                                                                                                    const u32 t180 = load32(l4 + 188u);
-                                                                                                                                                                                    store32(l4 + 108u, t180);
-                                                                                                                                                                                    goto L71;
+                                                                                                                                                                                    store32(l9 + 136u, l35);
+                                                                                                                                                                                    store32(l9 + 132u, l32);
+                                                                                                                                                                                    store32(l9 + 128u, 2u);
+                                                                                                                                                                                    functions_bit_strings_give_bits(stack, l9 + 184ull, l7, l36, l32, l9 + 128ull);
+                                                                                                                                                                                    const u32 t178 = load16(l9 + 184u);
+                                                                                                                                                                                    store16(l9 + 104u, (u16)t178);
+                                                                                                                                                                                    const u32 t179 = load32(l9 + 188u);
+                                                                                                                                                                                    store32(l9 + 108u, t179);
+                                                                                                                                                                                    goto L70;
                                                                                                                                                                                 }
-                                                                                                                                                                                L164:;
-                                                                                                                                                                                functions_bit_strings_shift(stack, l4 + 104ull, l6, l4 + 112ull);
-                                                                                                                                                                                goto L71;
+                                                                                                                                                                                L163:;
+                                                                                                                                                                                functions_bit_strings_shift(stack, l9 + 104ull, l7, l9 + 112ull);
+                                                                                                                                                                                goto L70;
                                                                                                                                                                             }
-                                                                                                                                                                            L163:;
-                                                                                                                                                                            functions_bit_strings_rotate(stack, l4 + 104ull, l6, l4 + 112ull);
-                                                                                                                                                                            goto L71;
+                                                                                                                                                                            L162:;
+                                                                                                                                                                            functions_bit_strings_rotate(stack, l9 + 104ull, l7, l9 + 112ull);
+                                                                                                                                                                            goto L70;
                                                                                                                                                                         }
-                                                                                                                                                                        L162:;
-                                                                                                                                                                        functions_form_parts_call_segment(stack, l4 + 104ull, l6, l4 + 112ull);
-                                                                                                                                                                        goto L71;
+                                                                                                                                                                        L161:;
+                                                                                                                                                                        functions_form_parts_call_segment(stack, l9 + 104ull, l7, l9 + 112ull);
+                                                                                                                                                                        goto L70;
                                                                                                                                                                     }
-                                                                                                                                                                    L161:;
-                                                                                                                                                                    functions_form_parts_call_character(stack, l4 + 104ull, l6, l4 + 112ull);
-                                                                                                                                                                    goto L71;
+                                                                                                                                                                    L160:;
+                                                                                                                                                                    functions_form_parts_call_character(stack, l9 + 104ull, l7, l9 + 112ull);
+                                                                                                                                                                    goto L70;
                                                                                                                                                                 }
-                                                                                                                                                                L160:;
-                                                                                                                                                                functions_form_parts_call_number(stack, l4 + 104ull, l6, l4 + 112ull);
-                                                                                                                                                                goto L71;
+                                                                                                                                                                L159:;
+                                                                                                                                                                functions_form_parts_call_number(stack, l9 + 104ull, l7, l9 + 112ull);
+                                                                                                                                                                goto L70;
                                                                                                                                                             }
-                                                                                                                                                            L159:;
-                                                                                                                                                            functions_form_parts_initial_part(stack, l4 + 104ull, l6, l4 + 112ull);
-                                                                                                                                                            goto L71;
+                                                                                                                                                            L158:;
+                                                                                                                                                            functions_form_parts_initial_part(stack, l9 + 104ull, l7, l9 + 112ull);
+                                                                                                                                                            goto L70;
                                                                                                                                                         }
-                                                                                                                                                        L158:;
-                                                                                                                                                        functions_form_parts_call_restore(stack, l4 + 104ull, l6, l4 + 112ull);
-                                                                                                                                                        goto L71;
+                                                                                                                                                        L157:;
+                                                                                                                                                        functions_form_parts_call_restore(stack, l9 + 104ull, l7, l9 + 112ull);
+                                                                                                                                                        goto L70;
                                                                                                                                                     }
-                                                                                                                                                    L157:;
-                                                                                                                                                    functions_form_calls_define_string(stack, l4 + 104ull, l6, l4 + 112ull);
-                                                                                                                                                    goto L71;
+                                                                                                                                                    L156:;
+                                                                                                                                                    functions_form_calls_define_string(stack, l9 + 104ull, l7, l9 + 112ull);
+                                                                                                                                                    goto L70;
                                                                                                                                                 }
-                                                                                                                                                L156:;
-                                                                                                                                                functions_form_calls_segment_string(stack, l4 + 104ull, l6, l4 + 112ull);
-                                                                                                                                                goto L71;
+                                                                                                                                                L155:;
+                                                                                                                                                functions_form_calls_segment_string(stack, l9 + 104ull, l7, l9 + 112ull);
+                                                                                                                                                goto L70;
                                                                                                                                             }
-                                                                                                                                            L155:;
-                                                                                                                                            const u64 t181 = load64(l4 + 120u);
-                                                                                                                                            store64(l4 + 136u, t181);
-                                                                                                                                            const u64 t182 = load64(l4 + 112u);
-                                                                                                                                            store64(l4 + 128u, t182);
-                                                                                                                                            const u32 t183 = load8(l4 + 140u);
-                                                                                                                                            l10 = t183;
-                                                                                                                                            functions_arguments_Arguments_next(stack, l4 + 64ull, l4 + 128ull, l6);
-                                                                                                                                            const u32 t184 = load32(l4 + 68u);
-                                                                                                                                            l8 = t184;
-                                                                                                                                            const u32 t185 = load32(l4 + 64u);
-                                                                                                                                            l9 = t185;
-                                                                                                                                            u32 v186;
+                                                                                                                                            L154:;
+                                                                                                                                            const u64 t180 = load64(l9 + 120u);
+                                                                                                                                            store64(l9 + 136u, t180);
+                                                                                                                                            const u64 t181 = load64(l9 + 112u);
+                                                                                                                                            store64(l9 + 128u, t181);
+                                                                                                                                            const u32 t182 = load8(l9 + 140u);
+                                                                                                                                            l35 = t182;
+                                                                                                                                            functions_arguments_Arguments_next(stack, l9 + 64ull, l9 + 128ull, l7);
+                                                                                                                                            const u32 t183 = load32(l9 + 68u);
+                                                                                                                                            l32 = t183;
+                                                                                                                                            const u32 t184 = load32(l9 + 64u);
+                                                                                                                                            l33 = t184;
+                                                                                                                                            u32 v185;
                                                                                                                                             {
-                                                                                                                                                const u32 t187 = load32(l6 + 40ull);
-                                                                                                                                                l11 = t187;
-                                                                                                                                                if (l11 >= 8u) {
-                                                                                                                                                    forms_work_Work_find_among_more(stack, l4 + 48ull, l6, l9, l8);
-                                                                                                                                                    const u32 t189 = load32(l4 + 52u);
-                                                                                                                                                    l19 = t189;
-                                                                                                                                                    const u32 t190 = load8(l4 + 48u);
-                                                                                                                                                    v186 = t190; goto L186;
+                                                                                                                                                const u32 t186 = load32(l7 + 40ull);
+                                                                                                                                                l36 = t186;
+                                                                                                                                                if (l36 >= 8u) {
+                                                                                                                                                    forms_work_Work_find_among_more(stack, l9 + 48ull, l7, l33, l32);
+                                                                                                                                                    const u32 t188 = load32(l9 + 52u);
+                                                                                                                                                    l41 = t188;
+                                                                                                                                                    const u32 t189 = load8(l9 + 48u);
+                                                                                                                                                    v185 = t189; goto L185;
                                                                                                                                                 }
                                                                                                                                                 {
-                                                                                                                                                    if (l11 == 0) goto L191;
-                                                                                                                                                    const u64 t192 = load32(l1 + 4ull);
-                                                                                                                                                    l3 = (u64)(l8 + l12);
-                                                                                                                                                    l2 = (u64)(l9 + l12);
-                                                                                                                                                    if (t192 != (l3 - l2)) goto L191;
-                                                                                                                                                    l25 = 17ull - (l2 << 3);
-                                                                                                                                                    l2 = (l3 ^ 18446744073709551615ull) + l2;
-                                                                                                                                                    l3 = l1 + (l3 << 3);
-                                                                                                                                                    L193:;
+                                                                                                                                                    if (l36 == 0) goto L190;
+                                                                                                                                                    const u64 t191 = load32(l1 + 4ull);
+                                                                                                                                                    l8 = (u64)(l32 + l34);
+                                                                                                                                                    l2 = (u64)(l33 + l34);
+                                                                                                                                                    if (t191 != (l8 - l2)) goto L190;
+                                                                                                                                                    l4 = 17ull - (l2 << 3);
+                                                                                                                                                    l2 = (l8 ^ 18446744073709551615ull) + l2;
+                                                                                                                                                    l8 = l1 + (l8 << 3);
+                                                                                                                                                    L192:;
                                                                                                                                                     {
                                                                                                                                                         l2 = l2 + 1ull;
-                                                                                                                                                        if (l2 == 0) goto L74;
-                                                                                                                                                        l1 = l3 - 7ull;
-                                                                                                                                                        l27 = l3 + l25;
-                                                                                                                                                        l3 = l3 - 8ull;
-                                                                                                                                                        const u32 t194 = load8(l27);
-                                                                                                                                                        const u32 t195 = load8(l1);
-                                                                                                                                                        if (t194 == t195) goto L193;
+                                                                                                                                                        if (l2 == 0) goto L73;
+                                                                                                                                                        l1 = l8 - 7ull;
+                                                                                                                                                        l12 = l4 + l8;
+                                                                                                                                                        l8 = l8 - 8ull;
+                                                                                                                                                        const u32 t193 = load8(l12);
+                                                                                                                                                        const u32 t194 = load8(l1);
+                                                                                                                                                        if (t193 == t194) goto L192;
                                                                                                                                                     }
                                                                                                                                                 }
-                                                                                                                                                L191:;
-                                                                                                                                                forms_work_Work_find_among_few(stack, l4 + 56ull, l6, l9, l8);
-                                                                                                                                                const u32 t196 = load32(l4 + 60u);
-                                                                                                                                                l19 = t196;
-                                                                                                                                                const u32 t197 = load8(l4 + 56u);
-                                                                                                                                                v186 = t197;
+                                                                                                                                                L190:;
+                                                                                                                                                forms_work_Work_find_among_few(stack, l9 + 56ull, l7, l33, l32);
+                                                                                                                                                const u32 t195 = load32(l9 + 60u);
+                                                                                                                                                l41 = t195;
+                                                                                                                                                const u32 t196 = load8(l9 + 56u);
+                                                                                                                                                v185 = t196;
                                                                                                                                             }
-                                                                                                                                            L186:;
-                                                                                                                                            if ((v186 & 255u) != 1u) goto L73;
-                                                                                                                                            goto L72;
+                                                                                                                                            L185:;
+                                                                                                                                            if ((v185 & 255u) != 1u) goto L72;
+                                                                                                                                            goto L71;
                                                                                                                                         }
-                                                                                                                                        L154:;
-                                                                                                                                        functions_form_calls_delete_definition(stack, l4 + 104ull, l6, l4 + 112ull);
-                                                                                                                                        goto L71;
+                                                                                                                                        L153:;
+                                                                                                                                        functions_form_calls_delete_definition(stack, l9 + 104ull, l7, l9 + 112ull);
+                                                                                                                                        goto L70;
                                                                                                                                     }
-                                                                                                                                    L153:;
-                                                                                                                                    functions_form_calls_delete_all(stack, l4 + 104ull, l6);
-                                                                                                                                    goto L71;
+                                                                                                                                    L152:;
+                                                                                                                                    functions_form_calls_delete_all(stack, l9 + 104ull, l7);
+                                                                                                                                    goto L70;
                                                                                                                                 }
-                                                                                                                                L152:;
-                                                                                                                                functions_form_calls_list_names(stack, l4 + 104ull, l6, l4 + 112ull);
-                                                                                                                                goto L71;
+                                                                                                                                L151:;
+                                                                                                                                functions_form_calls_list_names(stack, l9 + 104ull, l7, l9 + 112ull);
+                                                                                                                                goto L70;
                                                                                                                             }
-                                                                                                                            L151:;
-                                                                                                                            store8(l4 + 104u, (u8)1u);
-                                                                                                                            goto L71;
+                                                                                                                            L150:;
+                                                                                                                            store8(l9 + 104u, (u8)1u);
+                                                                                                                            goto L70;
                                                                                                                         }
-                                                                                                                        L79:;
-                                                                                                                        store16(l34, (u16)0u);
-                                                                                                                        store8(l34 + 2u, (u8)0u);
-                                                                                                                        store8(l4 + 92u, (u8)l15);
-                                                                                                                        store32(l4 + 88u, l9);
-                                                                                                                        store32(l4 + 84u, l14);
-                                                                                                                        store32(l4 + 80u, l17);
-                                                                                                                        l25 = l4 + 96ull;
-                                                                                                                        l3 = l6;
-                                                                                                                        l7 = l4 + 80ull;
+                                                                                                                        L78:;
+                                                                                                                        store16(l21, (u16)0u);
+                                                                                                                        store8(l21 + 2u, (u8)0u);
+                                                                                                                        store8(l9 + 92u, (u8)l38);
+                                                                                                                        store32(l9 + 88u, l33);
+                                                                                                                        store32(l9 + 84u, l37);
+                                                                                                                        store32(l9 + 80u, l40);
+                                                                                                                        l4 = l9 + 96ull;
+                                                                                                                        l8 = l7;
+                                                                                                                        l6 = l9 + 80ull;
                                                                                                                         l2 = stack - 32ull;
                                                                                                                         stack = l2;
                                                                                                                         {
                                                                                                                             l1 = l2;
                                                                                                                             {
-                                                                                                                                const u64 t200 = load64(l7 + 8u);
-                                                                                                                                store64(l1 + 24u, t200);
-                                                                                                                                const u64 t201 = load64(l7);
-                                                                                                                                store64(l1 + 16u, t201);
-                                                                                                                                functions_arguments_Arguments_next(stack, l1 + 8ull, l1 + 16ull, l3);
-                                                                                                                                l10 = 3u;
-                                                                                                                                u32 v202;
+                                                                                                                                const u64 t199 = load64(l6 + 8u);
+                                                                                                                                store64(l1 + 24u, t199);
+                                                                                                                                const u64 t200 = load64(l6);
+                                                                                                                                store64(l1 + 16u, t200);
+                                                                                                                                functions_arguments_Arguments_next(stack, l1 + 8ull, l1 + 16ull, l8);
+                                                                                                                                l35 = 3u;
+                                                                                                                                u32 v201;
                                                                                                                                 {
-                                                                                                                                    const u32 t203 = load32(l1 + 12u);
-                                                                                                                                    l9 = t203;
-                                                                                                                                    const u32 t204 = load32(l1 + 8u);
-                                                                                                                                    l8 = t204;
-                                                                                                                                    if (l9 == l8) { v202 = 0u; goto L202; }
-                                                                                                                                    const u64 t205 = load64(l3);
-                                                                                                                                    const u32 t206 = load32(l3 + 16ull);
-                                                                                                                                    const u32 t207 = l8;
-                                                                                                                                    l8 = t206;
-                                                                                                                                    l3 = (u64)(t207 + l8);
-                                                                                                                                    l7 = t205 + (l3 << 3);
+                                                                                                                                    const u32 t202 = load32(l1 + 12u);
+                                                                                                                                    l33 = t202;
+                                                                                                                                    const u32 t203 = load32(l1 + 8u);
+                                                                                                                                    l32 = t203;
+                                                                                                                                    if (l33 == l32) { v201 = 0u; goto L201; }
+                                                                                                                                    const u64 t204 = load64(l8);
+                                                                                                                                    const u32 t205 = load32(l8 + 16ull);
+                                                                                                                                    const u32 t206 = l32;
+                                                                                                                                    l32 = t205;
+                                                                                                                                    l8 = (u64)(t206 + l32);
+                                                                                                                                    l6 = t204 + (l8 << 3);
                                                                                                                                     {
-                                                                                                                                        l2 = (u64)(l8 + l9) - l3;
+                                                                                                                                        l2 = (u64)(l32 + l33) - l8;
                                                                                                                                         if (l2 <= 15ull) {
                                                                                                                                             {
-                                                                                                                                                L211:;
+                                                                                                                                                L210:;
                                                                                                                                                 {
-                                                                                                                                                    l9 = 0u;
-                                                                                                                                                    const u32 t212 = load8(l7);
-                                                                                                                                                    if (t212 == 0) {
-                                                                                                                                                        const u32 t214 = load8(l7 + 1ull);
-                                                                                                                                                        l9 = t214;
+                                                                                                                                                    l33 = 0u;
+                                                                                                                                                    const u32 t211 = load8(l6);
+                                                                                                                                                    if (t211 == 0) {
+                                                                                                                                                        const u32 t213 = load8(l6 + 1ull);
+                                                                                                                                                        l33 = t213;
                                                                                                                                                     }
-                                                                                                                                                    l3 = l29 + 16ull;
-                                                                                                                                                    const u64 t215 = load64(l3);
-                                                                                                                                                    l30 = t215;
-                                                                                                                                                    const u64 t216 = load64(l29 + 8ull);
-                                                                                                                                                    if (l30 >= t216) goto L210;
-                                                                                                                                                    const u64 t217 = load64(l29);
-                                                                                                                                                    store8(t217 + l30, (u8)l9);
-                                                                                                                                                    const u64 t218 = load64(l3);
-                                                                                                                                                    store64(l3, t218 + 1ull);
-                                                                                                                                                    l7 = l7 + 8ull;
+                                                                                                                                                    l8 = l14 + 16ull;
+                                                                                                                                                    const u64 t214 = load64(l8);
+                                                                                                                                                    l3 = t214;
+                                                                                                                                                    const u64 t215 = load64(l14 + 8ull);
+                                                                                                                                                    if (l3 >= t215) goto L209;
+                                                                                                                                                    const u64 t216 = load64(l14);
+                                                                                                                                                    store8(t216 + l3, (u8)l33);
+                                                                                                                                                    const u64 t217 = load64(l8);
+                                                                                                                                                    store64(l8, t217 + 1ull);
+                                                                                                                                                    l6 = l6 + 8ull;
                                                                                                                                                     l2 = l2 - 1ull;
-                                                                                                                                                    if ((l2 == 0) == 0) goto L211;
+                                                                                                                                                    if ((l2 == 0) == 0) goto L210;
                                                                                                                                                 }
-                                                                                                                                                v202 = 0u; goto L202;
+                                                                                                                                                v201 = 0u; goto L201;
                                                                                                                                             }
-                                                                                                                                            L210:;
-                                                                                                                                            l7 = l29 + 24ull;
-                                                                                                                                            const u64 t219 = load64(l7);
-                                                                                                                                            store64(l7, t219 + 1ull);
-                                                                                                                                            goto L208;
+                                                                                                                                            L209:;
+                                                                                                                                            l6 = l14 + 24ull;
+                                                                                                                                            const u64 t218 = load64(l6);
+                                                                                                                                            store64(l6, t218 + 1ull);
+                                                                                                                                            goto L207;
                                                                                                                                         }
-                                                                                                                                        l3 = l29 + 16ull;
-                                                                                                                                        const u64 t220 = load64(l3);
-                                                                                                                                        const u64 t221 = load64(l29);
-                                                                                                                                        const u64 t222 = load64(l29 + 8ull);
-                                                                                                                                        const u64 t223 = c_filling_put_characters(stack, l7, l2, t220, t221, t222);
-                                                                                                                                        l7 = t223;
-                                                                                                                                        const u64 t224 = load64(l3);
-                                                                                                                                        store64(l3, l7 + t224);
-                                                                                                                                        if (l2 <= l7) { v202 = 0u; goto L202; }
-                                                                                                                                        l7 = l29 + 24ull;
-                                                                                                                                        const u64 t225 = load64(l7);
-                                                                                                                                        store64(l7, t225 + 1ull);
+                                                                                                                                        l8 = l14 + 16ull;
+                                                                                                                                        const u64 t219 = load64(l8);
+                                                                                                                                        const u64 t220 = load64(l14);
+                                                                                                                                        const u64 t221 = load64(l14 + 8ull);
+                                                                                                                                        const u64 t222 = c_filling_put_characters(stack, l6, l2, t219, t220, t221);
+                                                                                                                                        l6 = t222;
+                                                                                                                                        const u64 t223 = load64(l8);
+                                                                                                                                        store64(l8, l6 + t223);
+                                                                                                                                        if (l2 <= l6) { v201 = 0u; goto L201; }
+                                                                                                                                        l6 = l14 + 24ull;
+                                                                                                                                        const u64 t224 = load64(l6);
+                                                                                                                                        store64(l6, t224 + 1ull);
                                                                                                                                     }
-                                                                                                                                    L208:;
-                                                                                                                                    l10 = 4u;
-                                                                                                                                    v202 = 5u;
+                                                                                                                                    L207:;
+                                                                                                                                    l35 = 4u;
+                                                                                                                                    v201 = 5u;
                                                                                                                                 }
-                                                                                                                                L202:;
-                                                                                                                                l9 = v202;
-                                                                                                                                store8(l25, (u8)l10);
-                                                                                                                                store32(l25 + 4ull, 0u);
-                                                                                                                                store8(l25 + 1ull, (u8)l9);
+                                                                                                                                L201:;
+                                                                                                                                l33 = v201;
+                                                                                                                                store8(l4, (u8)l35);
+                                                                                                                                store32(l4 + 4ull, 0u);
+                                                                                                                                store8(l4 + 1ull, (u8)l33);
                                                                                                                                 stack = l1 + 32ull;
-                                                                                                                                goto L198;
+                                                                                                                                goto L197;
                                                                                                                             }
                                                                                                                             trap();
                                                                                                                         }
-                                                                                                                        L198:;
-                                                                                                                        const u32 t226 = load32(l4 + 100u);
-                                                                                                                        l8 = t226;
-                                                                                                                        const u32 t227 = load8(l4 + 97u);
-                                                                                                                        l11 = t227;
-                                                                                                                        const u32 t228 = load8(l4 + 96u);
-                                                                                                                        l10 = t228;
-                                                                                                                        goto L65;
+                                                                                                                        L197:;
+                                                                                                                        const u32 t225 = load32(l9 + 100u);
+                                                                                                                        l32 = t225;
+                                                                                                                        const u32 t226 = load8(l9 + 97u);
+                                                                                                                        l36 = t226;
+                                                                                                                        const u32 t227 = load8(l9 + 96u);
+                                                                                                                        l35 = t227;
+                                                                                                                        goto L64;
                                                                                                                     }
-                                                                                                                    L75:;
-                                                                                                                    l8 = 0u;
-                                                                                                                    goto L64;
+                                                                                                                    L74:;
+                                                                                                                    l32 = 0u;
+                                                                                                                    goto L63;
                                                                                                                 }
-                                                                                                                L74:;
-                                                                                                                store64(l6 + 44ull, 0ull);
-                                                                                                                l19 = 0u;
-                                                                                                                goto L72;
+                                                                                                                L73:;
+                                                                                                                store64(l7 + 44ull, 0ull);
+                                                                                                                l41 = 0u;
+                                                                                                                goto L71;
                                                                                                             }
-                                                                                                            L73:;
-                                                                                                            store32(l4 + 108u, 0u);
-                                                                                                            store16(l4 + 104u, (u16)1u);
-                                                                                                            goto L71;
+                                                                                                            L72:;
+                                                                                                            store32(l9 + 108u, 0u);
+                                                                                                            store16(l9 + 104u, (u16)1u);
+                                                                                                            goto L70;
                                                                                                         }
-                                                                                                        L72:;
-                                                                                                        const u32 t229 = load32(l4 + 132u);
-                                                                                                        l22 = t229;
-                                                                                                        const u32 t230 = load32(l4 + 128u);
-                                                                                                        l23 = t230;
+                                                                                                        L71:;
+                                                                                                        const u32 t228 = load32(l9 + 132u);
+                                                                                                        l45 = t228;
+                                                                                                        const u32 t229 = load32(l9 + 128u);
+                                                                                                        l46 = t229;
                                                                                                         {
                                                                                                             {
                                                                                                                 {
                                                                                                                     {
                                                                                                                         {
-                                                                                                                            if ((l10 & 1u) == 0) goto L235;
-                                                                                                                            if (l22 >= l23) goto L235;
-                                                                                                                            const u32 t236 = load32(l6 + 48ull);
-                                                                                                                            l8 = t236;
+                                                                                                                            if ((l35 & 1u) == 0) goto L234;
+                                                                                                                            if (l45 >= l46) goto L234;
+                                                                                                                            const u32 t235 = load32(l7 + 48ull);
+                                                                                                                            l32 = t235;
                                                                                                                             {
-                                                                                                                                const u32 t238 = load32(l6 + 44ull);
-                                                                                                                                l9 = t238;
-                                                                                                                                if (l19 == l9) goto L237;
-                                                                                                                                if (l9 < l19) {
-                                                                                                                                    l11 = l19 - l9;
-                                                                                                                                    const u32 t240 = load32(l6 + 16ull);
-                                                                                                                                    l15 = t240;
-                                                                                                                                    L241:;
+                                                                                                                                const u32 t237 = load32(l7 + 44ull);
+                                                                                                                                l33 = t237;
+                                                                                                                                if (l41 == l33) goto L236;
+                                                                                                                                if (l33 < l41) {
+                                                                                                                                    l36 = l41 - l33;
+                                                                                                                                    const u32 t239 = load32(l7 + 16ull);
+                                                                                                                                    l38 = t239;
+                                                                                                                                    L240:;
                                                                                                                                     {
-                                                                                                                                        l9 = 3u;
-                                                                                                                                        if (l8 < l15) {
-                                                                                                                                            const u64 t243 = load64(l6);
-                                                                                                                                            l3 = t243 + ((u64)l8 << 3);
-                                                                                                                                            const u32 t244 = load32(l3 + 4ull);
-                                                                                                                                            const u32 t245 = load8(l3);
-                                                                                                                                            l9 = (t245 == 4u) ? (t244 + 3u) : 3u;
+                                                                                                                                        l33 = 3u;
+                                                                                                                                        if (l32 < l38) {
+                                                                                                                                            const u64 t242 = load64(l7);
+                                                                                                                                            l8 = t242 + ((u64)l32 << 3);
+                                                                                                                                            const u32 t243 = load32(l8 + 4ull);
+                                                                                                                                            const u32 t244 = load8(l8);
+                                                                                                                                            l33 = (t244 == 4u) ? (t243 + 3u) : 3u;
                                                                                                                                         }
-                                                                                                                                        l17 = l8 + 1u;
-                                                                                                                                        u32 v246;
-                                                                                                                                        if (l15 > l17) {
-                                                                                                                                            const u64 t247 = load64(l6);
-                                                                                                                                            l3 = t247 + ((u64)l17 << 3);
-                                                                                                                                            const u32 t248 = load32(l3 + 4ull);
-                                                                                                                                            const u32 t249 = load8(l3);
-                                                                                                                                            v246 = (t249 == 4u) ? t248 : 0u;
+                                                                                                                                        l40 = l32 + 1u;
+                                                                                                                                        u32 v245;
+                                                                                                                                        if (l38 > l40) {
+                                                                                                                                            const u64 t246 = load64(l7);
+                                                                                                                                            l8 = t246 + ((u64)l40 << 3);
+                                                                                                                                            const u32 t247 = load32(l8 + 4ull);
+                                                                                                                                            const u32 t248 = load8(l8);
+                                                                                                                                            v245 = (t248 == 4u) ? t247 : 0u;
                                                                                                                                         } else {
-                                                                                                                                            v246 = 0u;
+                                                                                                                                            v245 = 0u;
                                                                                                                                         }
-                                                                                                                                        l8 = v246 + (l8 + l9);
-                                                                                                                                        l11 = l11 - 1u;
-                                                                                                                                        if (l11) goto L241;
+                                                                                                                                        l32 = v245 + (l32 + l33);
+                                                                                                                                        l36 = l36 - 1u;
+                                                                                                                                        if (l36) goto L240;
                                                                                                                                     }
-                                                                                                                                    goto L237;
+                                                                                                                                    goto L236;
                                                                                                                                 }
-                                                                                                                                if (l19 == 0) {
-                                                                                                                                    l8 = 0u;
-                                                                                                                                    goto L237;
+                                                                                                                                if (l41 == 0) {
+                                                                                                                                    l32 = 0u;
+                                                                                                                                    goto L236;
                                                                                                                                 }
-                                                                                                                                const u32 t251 = load32(l6 + 16ull);
-                                                                                                                                l11 = t251;
-                                                                                                                                l8 = 0u;
-                                                                                                                                l15 = l19;
-                                                                                                                                L252:;
+                                                                                                                                const u32 t250 = load32(l7 + 16ull);
+                                                                                                                                l36 = t250;
+                                                                                                                                l32 = 0u;
+                                                                                                                                l38 = l41;
+                                                                                                                                L251:;
                                                                                                                                 {
-                                                                                                                                    l9 = 3u;
-                                                                                                                                    if (l8 < l11) {
-                                                                                                                                        const u64 t254 = load64(l6);
-                                                                                                                                        l3 = t254 + ((u64)l8 << 3);
-                                                                                                                                        const u32 t255 = load32(l3 + 4ull);
-                                                                                                                                        const u32 t256 = load8(l3);
-                                                                                                                                        l9 = (t256 == 4u) ? (t255 + 3u) : 3u;
+                                                                                                                                    l33 = 3u;
+                                                                                                                                    if (l32 < l36) {
+                                                                                                                                        const u64 t253 = load64(l7);
+                                                                                                                                        l8 = t253 + ((u64)l32 << 3);
+                                                                                                                                        const u32 t254 = load32(l8 + 4ull);
+                                                                                                                                        const u32 t255 = load8(l8);
+                                                                                                                                        l33 = (t255 == 4u) ? (t254 + 3u) : 3u;
                                                                                                                                     }
-                                                                                                                                    l17 = l8 + 1u;
-                                                                                                                                    u32 v257;
-                                                                                                                                    if (l11 > l17) {
-                                                                                                                                        const u64 t258 = load64(l6);
-                                                                                                                                        l3 = t258 + ((u64)l17 << 3);
-                                                                                                                                        const u32 t259 = load32(l3 + 4ull);
-                                                                                                                                        const u32 t260 = load8(l3);
-                                                                                                                                        v257 = (t260 == 4u) ? t259 : 0u;
+                                                                                                                                    l40 = l32 + 1u;
+                                                                                                                                    u32 v256;
+                                                                                                                                    if (l36 > l40) {
+                                                                                                                                        const u64 t257 = load64(l7);
+                                                                                                                                        l8 = t257 + ((u64)l40 << 3);
+                                                                                                                                        const u32 t258 = load32(l8 + 4ull);
+                                                                                                                                        const u32 t259 = load8(l8);
+                                                                                                                                        v256 = (t259 == 4u) ? t258 : 0u;
                                                                                                                                     } else {
-                                                                                                                                        v257 = 0u;
+                                                                                                                                        v256 = 0u;
                                                                                                                                     }
-                                                                                                                                    l8 = v257 + (l8 + l9);
-                                                                                                                                    l15 = l15 - 1u;
-                                                                                                                                    if (l15) goto L252;
+                                                                                                                                    l32 = v256 + (l32 + l33);
+                                                                                                                                    l38 = l38 - 1u;
+                                                                                                                                    if (l38) goto L251;
                                                                                                                                 }
                                                                                                                             }
-                                                                                                                            L237:;
-                                                                                                                            const u64 t261 = load64(l6);
-                                                                                                                            l7 = t261;
-                                                                                                                            l3 = l7 + ((u64)l8 << 3);
-                                                                                                                            const u32 t262 = load32(l3 + 12ull);
-                                                                                                                            l11 = t262;
-                                                                                                                            const u32 t263 = load32(l3 + 20ull);
-                                                                                                                            l10 = t263;
-                                                                                                                            l9 = l11 - l10;
-                                                                                                                            if (l9 == 0) {
-                                                                                                                                l9 = 0u;
-                                                                                                                                goto L231;
+                                                                                                                            L236:;
+                                                                                                                            const u64 t260 = load64(l7);
+                                                                                                                            l6 = t260;
+                                                                                                                            l8 = l6 + ((u64)l32 << 3);
+                                                                                                                            const u32 t261 = load32(l8 + 12ull);
+                                                                                                                            l36 = t261;
+                                                                                                                            const u32 t262 = load32(l8 + 20ull);
+                                                                                                                            l35 = t262;
+                                                                                                                            l33 = l36 - l35;
+                                                                                                                            if (l33 == 0) {
+                                                                                                                                l33 = 0u;
+                                                                                                                                goto L230;
                                                                                                                             }
-                                                                                                                            const u32 t265 = load32(l3 + 4ull);
-                                                                                                                            l15 = (l8 + t265) + 3u;
-                                                                                                                            l8 = l10 + l15;
+                                                                                                                            const u32 t264 = load32(l8 + 4ull);
+                                                                                                                            l38 = (l32 + t264) + 3u;
+                                                                                                                            l32 = l35 + l38;
                                                                                                                             {
-                                                                                                                                const u32 t267 = load32(l6 + 28ull);
-                                                                                                                                l10 = t267;
-                                                                                                                                const u32 t268 = load32(l6 + 20ull);
-                                                                                                                                const u32 t269 = load32(l6 + 24ull);
-                                                                                                                                l17 = t269;
-                                                                                                                                const u32 t270 = load32(l6 + 16ull);
-                                                                                                                                if (l9 <= (l10 - (t268 + (l17 + t270)))) {
-                                                                                                                                    l25 = (u64)l9;
-                                                                                                                                    l2 = (u64)l8;
+                                                                                                                                const u32 t266 = load32(l7 + 28ull);
+                                                                                                                                l35 = t266;
+                                                                                                                                const u32 t267 = load32(l7 + 20ull);
+                                                                                                                                const u32 t268 = load32(l7 + 24ull);
+                                                                                                                                l40 = t268;
+                                                                                                                                const u32 t269 = load32(l7 + 16ull);
+                                                                                                                                if (l33 <= (l35 - (t267 + (l40 + t269)))) {
+                                                                                                                                    l4 = (u64)l33;
+                                                                                                                                    l2 = (u64)l32;
                                                                                                                                     {
                                                                                                                                         {
-                                                                                                                                            if (l9 >= 8u) {
-                                                                                                                                                if (l9 == 8u) goto L272;
-                                                                                                                                                l3 = l7 + (l2 << 3);
-                                                                                                                                                l1 = l25;
-                                                                                                                                                goto L273;
+                                                                                                                                            if (l33 >= 8u) {
+                                                                                                                                                if (l33 == 8u) goto L271;
+                                                                                                                                                l8 = l6 + (l2 << 3);
+                                                                                                                                                l1 = l4;
+                                                                                                                                                goto L272;
                                                                                                                                             }
-                                                                                                                                            if (l9 >= 4u) {
-                                                                                                                                                l3 = l7 + (l2 << 3);
-                                                                                                                                                const u32 t276 = load8(l3 + 24ull);
-                                                                                                                                                const u32 t277 = load8(l3 + 16ull);
-                                                                                                                                                const u32 t278 = load8(l3 + 8ull);
-                                                                                                                                                const u32 t279 = load8(l3);
-                                                                                                                                                if (((t276 + t277) | (t278 + t279)) & 255u) goto L235;
-                                                                                                                                                l1 = l2 + l25;
-                                                                                                                                                l3 = l7 + (l1 << 3);
-                                                                                                                                                const u32 t280 = load8(l3 - 8ull);
-                                                                                                                                                const u32 t281 = load8(l3 - 16ull);
-                                                                                                                                                const u32 t282 = load8(l3 - 24ull);
-                                                                                                                                                const u32 t283 = load8(l3 - 32ull);
-                                                                                                                                                if (((t280 + t281) | (t282 + t283)) & 255u) goto L235;
-                                                                                                                                                l11 = l9 + l17;
-                                                                                                                                                l3 = (u64)(l10 - l11);
-                                                                                                                                                core_slice_edits_slice_T_copy_from_slice(stack, l7 + (l3 << 3), l7 + (l2 << 3), 4ull);
-                                                                                                                                                const u64 t284 = l3 - l2;
-                                                                                                                                                l3 = l1 - 4ull;
-                                                                                                                                                core_slice_edits_slice_T_copy_from_slice(stack, l7 + ((t284 + l3) << 3), l7 + (l3 << 3), 4ull);
-                                                                                                                                                goto L232;
+                                                                                                                                            if (l33 >= 4u) {
+                                                                                                                                                l8 = l6 + (l2 << 3);
+                                                                                                                                                const u32 t275 = load8(l8 + 24ull);
+                                                                                                                                                const u32 t276 = load8(l8 + 16ull);
+                                                                                                                                                const u32 t277 = load8(l8 + 8ull);
+                                                                                                                                                const u32 t278 = load8(l8);
+                                                                                                                                                if (((t275 + t276) | (t277 + t278)) & 255u) goto L234;
+                                                                                                                                                l1 = l2 + l4;
+                                                                                                                                                l8 = l6 + (l1 << 3);
+                                                                                                                                                const u32 t279 = load8(l8 - 8ull);
+                                                                                                                                                const u32 t280 = load8(l8 - 16ull);
+                                                                                                                                                const u32 t281 = load8(l8 - 24ull);
+                                                                                                                                                const u32 t282 = load8(l8 - 32ull);
+                                                                                                                                                if (((t279 + t280) | (t281 + t282)) & 255u) goto L234;
+                                                                                                                                                l36 = l33 + l40;
+                                                                                                                                                l8 = (u64)(l35 - l36);
+                                                                                                                                                core_slice_edits_slice_T_copy_from_slice(stack, l6 + (l8 << 3), l6 + (l2 << 3), 4ull);
+                                                                                                                                                const u64 t283 = l8 - l2;
+                                                                                                                                                l8 = l1 - 4ull;
+                                                                                                                                                core_slice_edits_slice_T_copy_from_slice(stack, l6 + ((t283 + l8) << 3), l6 + (l8 << 3), 4ull);
+                                                                                                                                                goto L231;
                                                                                                                                             }
-                                                                                                                                            l3 = l7 + (l2 << 3);
-                                                                                                                                            const u32 t285 = load8(l3);
-                                                                                                                                            l8 = t285;
-                                                                                                                                            if (l9 == 1u) goto L266;
-                                                                                                                                            const u32 t286 = load8(l3 + 8ull);
-                                                                                                                                            if (t286 | (l8 & 255u)) goto L235;
-                                                                                                                                            l1 = l2 + l25;
-                                                                                                                                            l3 = l7 + (l1 << 3);
-                                                                                                                                            const u32 t287 = load8(l3 - 8ull);
-                                                                                                                                            const u32 t288 = load8(l3 - 16ull);
-                                                                                                                                            if (t287 | t288) goto L235;
-                                                                                                                                            l11 = l9 + l17;
-                                                                                                                                            l3 = (u64)(l10 - l11);
-                                                                                                                                            core_slice_edits_slice_T_copy_from_slice(stack, l7 + (l3 << 3), l7 + (l2 << 3), 2ull);
-                                                                                                                                            const u64 t289 = l3 - l2;
-                                                                                                                                            l3 = l1 - 2ull;
-                                                                                                                                            core_slice_edits_slice_T_copy_from_slice(stack, l7 + ((t289 + l3) << 3), l7 + (l3 << 3), 2ull);
-                                                                                                                                            goto L232;
+                                                                                                                                            l8 = l6 + (l2 << 3);
+                                                                                                                                            const u32 t284 = load8(l8);
+                                                                                                                                            l32 = t284;
+                                                                                                                                            if (l33 == 1u) goto L265;
+                                                                                                                                            const u32 t285 = load8(l8 + 8ull);
+                                                                                                                                            if (t285 | (l32 & 255u)) goto L234;
+                                                                                                                                            l1 = l2 + l4;
+                                                                                                                                            l8 = l6 + (l1 << 3);
+                                                                                                                                            const u32 t286 = load8(l8 - 8ull);
+                                                                                                                                            const u32 t287 = load8(l8 - 16ull);
+                                                                                                                                            if (t286 | t287) goto L234;
+                                                                                                                                            l36 = l33 + l40;
+                                                                                                                                            l8 = (u64)(l35 - l36);
+                                                                                                                                            core_slice_edits_slice_T_copy_from_slice(stack, l6 + (l8 << 3), l6 + (l2 << 3), 2ull);
+                                                                                                                                            const u64 t288 = l8 - l2;
+                                                                                                                                            l8 = l1 - 2ull;
+                                                                                                                                            core_slice_edits_slice_T_copy_from_slice(stack, l6 + ((t288 + l8) << 3), l6 + (l8 << 3), 2ull);
+                                                                                                                                            goto L231;
                                                                                                                                         }
-                                                                                                                                        L273:;
-                                                                                                                                        L290:;
+                                                                                                                                        L272:;
+                                                                                                                                        L289:;
                                                                                                                                         {
-                                                                                                                                            const u32 t291 = load8(l3 + 56ull);
-                                                                                                                                            const u32 t292 = load8(l3 + 48ull);
-                                                                                                                                            const u32 t293 = load8(l3 + 40ull);
-                                                                                                                                            const u32 t294 = load8(l3 + 32ull);
-                                                                                                                                            const u32 t295 = load8(l3 + 24ull);
-                                                                                                                                            const u32 t296 = load8(l3 + 16ull);
-                                                                                                                                            const u32 t297 = load8(l3 + 8ull);
-                                                                                                                                            const u32 t298 = load8(l3);
-                                                                                                                                            if (t291 | ((t292 + (t293 + (t294 + (t295 + (t296 + (t297 + t298)))))) & 255u)) goto L235;
-                                                                                                                                            l3 = l3 + 64ull;
+                                                                                                                                            const u32 t290 = load8(l8 + 56ull);
+                                                                                                                                            const u32 t291 = load8(l8 + 48ull);
+                                                                                                                                            const u32 t292 = load8(l8 + 40ull);
+                                                                                                                                            const u32 t293 = load8(l8 + 32ull);
+                                                                                                                                            const u32 t294 = load8(l8 + 24ull);
+                                                                                                                                            const u32 t295 = load8(l8 + 16ull);
+                                                                                                                                            const u32 t296 = load8(l8 + 8ull);
+                                                                                                                                            const u32 t297 = load8(l8);
+                                                                                                                                            if (t290 | ((t291 + (t292 + (t293 + (t294 + (t295 + (t296 + t297)))))) & 255u)) goto L234;
+                                                                                                                                            l8 = l8 + 64ull;
                                                                                                                                             l1 = l1 - 8ull;
-                                                                                                                                            if (l1 >= 9ull) goto L290;
+                                                                                                                                            if (l1 >= 9ull) goto L289;
                                                                                                                                         }
                                                                                                                                     }
-                                                                                                                                    L272:;
-                                                                                                                                    l1 = l2 + l25;
-                                                                                                                                    l3 = l7 + (l1 << 3);
-                                                                                                                                    const u32 t299 = load8(l3 - 56ull);
-                                                                                                                                    const u32 t300 = load8(l3 - 64ull);
-                                                                                                                                    const u32 t301 = load8(l3 - 48ull);
-                                                                                                                                    const u32 t302 = load8(l3 - 40ull);
-                                                                                                                                    const u32 t303 = load8(l3 - 32ull);
-                                                                                                                                    const u32 t304 = load8(l3 - 24ull);
-                                                                                                                                    const u32 t305 = load8(l3 - 16ull);
-                                                                                                                                    const u32 t306 = load8(l3 - 8ull);
-                                                                                                                                    if ((((((((t299 + t300) + t301) + t302) + t303) + t304) + t305) & 255u) | t306) goto L235;
-                                                                                                                                    l11 = l9 + l17;
-                                                                                                                                    l3 = (u64)(l10 - l11);
-                                                                                                                                    if (l9 > 24u) goto L234;
-                                                                                                                                    l38 = l2 << 3;
-                                                                                                                                    l39 = l3 << 3;
-                                                                                                                                    if (l9 != 8u) {
-                                                                                                                                        l40 = l39 - l38;
-                                                                                                                                        l41 = l1 << 3;
-                                                                                                                                        l42 = (l3 + l25) << 3;
-                                                                                                                                        l30 = l7;
-                                                                                                                                        L308:;
+                                                                                                                                    L271:;
+                                                                                                                                    l1 = l2 + l4;
+                                                                                                                                    l8 = l6 + (l1 << 3);
+                                                                                                                                    const u32 t298 = load8(l8 - 56ull);
+                                                                                                                                    const u32 t299 = load8(l8 - 64ull);
+                                                                                                                                    const u32 t300 = load8(l8 - 48ull);
+                                                                                                                                    const u32 t301 = load8(l8 - 40ull);
+                                                                                                                                    const u32 t302 = load8(l8 - 32ull);
+                                                                                                                                    const u32 t303 = load8(l8 - 24ull);
+                                                                                                                                    const u32 t304 = load8(l8 - 16ull);
+                                                                                                                                    const u32 t305 = load8(l8 - 8ull);
+                                                                                                                                    if ((((((((t298 + t299) + t300) + t301) + t302) + t303) + t304) & 255u) | t305) goto L234;
+                                                                                                                                    l36 = l33 + l40;
+                                                                                                                                    l8 = (u64)(l35 - l36);
+                                                                                                                                    if (l33 > 24u) goto L233;
+                                                                                                                                    l25 = l2 << 3;
+                                                                                                                                    l26 = l8 << 3;
+                                                                                                                                    if (l33 != 8u) {
+                                                                                                                                        l27 = l26 - l25;
+                                                                                                                                        l28 = l1 << 3;
+                                                                                                                                        l29 = (l4 + l8) << 3;
+                                                                                                                                        l3 = l6;
+                                                                                                                                        L307:;
                                                                                                                                         {
-                                                                                                                                            l25 = l25 - 8ull;
-                                                                                                                                            l3 = l30 + l41;
-                                                                                                                                            l2 = l3 - 64ull;
-                                                                                                                                            l1 = l30 + l42;
-                                                                                                                                            l27 = l1 - 64ull;
+                                                                                                                                            l4 = l4 - 8ull;
+                                                                                                                                            l8 = l3 + l28;
+                                                                                                                                            l2 = l8 - 64ull;
+                                                                                                                                            l1 = l3 + l29;
+                                                                                                                                            l12 = l1 - 64ull;
                                                                                                                                             {
-                                                                                                                                                if (l40 <= 63ull) {
-                                                                                                                                                    const u32 t311 = load8(l2);
-                                                                                                                                                    store8(l27, (u8)t311);
-                                                                                                                                                    const u32 t312 = load8(l3 - 63ull);
-                                                                                                                                                    store8(l1 - 63ull, (u8)t312);
-                                                                                                                                                    const u32 t313 = load32(l3 - 60ull);
-                                                                                                                                                    store32(l1 - 60ull, t313);
-                                                                                                                                                    const u32 t314 = load16(l3 - 56ull);
-                                                                                                                                                    store16(l1 - 56ull, (u16)t314);
-                                                                                                                                                    const u32 t315 = load32(l3 - 52ull);
-                                                                                                                                                    store32(l1 - 52ull, t315);
-                                                                                                                                                    const u32 t316 = load16(l3 - 48ull);
-                                                                                                                                                    store16(l1 - 48ull, (u16)t316);
-                                                                                                                                                    const u32 t317 = load32(l3 - 44ull);
-                                                                                                                                                    store32(l1 - 44ull, t317);
-                                                                                                                                                    const u32 t318 = load16(l3 - 40ull);
-                                                                                                                                                    store16(l1 - 40ull, (u16)t318);
-                                                                                                                                                    const u32 t319 = load32(l3 - 36ull);
-                                                                                                                                                    store32(l1 - 36ull, t319);
-                                                                                                                                                    const u32 t320 = load16(l3 - 32ull);
-                                                                                                                                                    store16(l1 - 32ull, (u16)t320);
-                                                                                                                                                    const u32 t321 = load32(l3 - 28ull);
-                                                                                                                                                    store32(l1 - 28ull, t321);
-                                                                                                                                                    const u32 t322 = load16(l3 - 24ull);
-                                                                                                                                                    store16(l1 - 24ull, (u16)t322);
-                                                                                                                                                    const u32 t323 = load32(l3 - 20ull);
-                                                                                                                                                    store32(l1 - 20ull, t323);
-                                                                                                                                                    const u32 t324 = load16(l3 - 16ull);
-                                                                                                                                                    store16(l1 - 16ull, (u16)t324);
-                                                                                                                                                    const u32 t325 = load32(l3 - 12ull);
-                                                                                                                                                    store32(l1 - 12ull, t325);
-                                                                                                                                                    const u32 t326 = load16(l3 - 8ull);
-                                                                                                                                                    l8 = t326;
-                                                                                                                                                    const u32 t327 = load32(l3 - 4ull);
-                                                                                                                                                    store32(l1 - 4ull, t327);
-                                                                                                                                                    store16(l1 - 8ull, (u16)l8);
-                                                                                                                                                    goto L309;
+                                                                                                                                                if (l27 <= 63ull) {
+                                                                                                                                                    const u32 t310 = load8(l2);
+                                                                                                                                                    store8(l12, (u8)t310);
+                                                                                                                                                    const u32 t311 = load8(l8 - 63ull);
+                                                                                                                                                    store8(l1 - 63ull, (u8)t311);
+                                                                                                                                                    const u32 t312 = load32(l8 - 60ull);
+                                                                                                                                                    store32(l1 - 60ull, t312);
+                                                                                                                                                    const u32 t313 = load16(l8 - 56ull);
+                                                                                                                                                    store16(l1 - 56ull, (u16)t313);
+                                                                                                                                                    const u32 t314 = load32(l8 - 52ull);
+                                                                                                                                                    store32(l1 - 52ull, t314);
+                                                                                                                                                    const u32 t315 = load16(l8 - 48ull);
+                                                                                                                                                    store16(l1 - 48ull, (u16)t315);
+                                                                                                                                                    const u32 t316 = load32(l8 - 44ull);
+                                                                                                                                                    store32(l1 - 44ull, t316);
+                                                                                                                                                    const u32 t317 = load16(l8 - 40ull);
+                                                                                                                                                    store16(l1 - 40ull, (u16)t317);
+                                                                                                                                                    const u32 t318 = load32(l8 - 36ull);
+                                                                                                                                                    store32(l1 - 36ull, t318);
+                                                                                                                                                    const u32 t319 = load16(l8 - 32ull);
+                                                                                                                                                    store16(l1 - 32ull, (u16)t319);
+                                                                                                                                                    const u32 t320 = load32(l8 - 28ull);
+                                                                                                                                                    store32(l1 - 28ull, t320);
+                                                                                                                                                    const u32 t321 = load16(l8 - 24ull);
+                                                                                                                                                    store16(l1 - 24ull, (u16)t321);
+                                                                                                                                                    const u32 t322 = load32(l8 - 20ull);
+                                                                                                                                                    store32(l1 - 20ull, t322);
+                                                                                                                                                    const u32 t323 = load16(l8 - 16ull);
+                                                                                                                                                    store16(l1 - 16ull, (u16)t323);
+                                                                                                                                                    const u32 t324 = load32(l8 - 12ull);
+                                                                                                                                                    store32(l1 - 12ull, t324);
+                                                                                                                                                    const u32 t325 = load16(l8 - 8ull);
+                                                                                                                                                    l32 = t325;
+                                                                                                                                                    const u32 t326 = load32(l8 - 4ull);
+                                                                                                                                                    store32(l1 - 4ull, t326);
+                                                                                                                                                    store16(l1 - 8ull, (u16)l32);
+                                                                                                                                                    goto L308;
                                                                                                                                                 }
-                                                                                                                                                const u64 t328 = load64(l2);
-                                                                                                                                                l3 = t328;
-                                                                                                                                                const u64 t329 = load64(l2 + 8u);
-                                                                                                                                                l1 = t329;
-                                                                                                                                                const u64 t330 = load64(l2 + 16u);
-                                                                                                                                                l43 = t330;
-                                                                                                                                                const u64 t331 = load64(l2 + 24u);
-                                                                                                                                                l44 = t331;
-                                                                                                                                                const u64 t332 = load64(l2 + 32u);
-                                                                                                                                                l45 = t332;
-                                                                                                                                                const u64 t333 = load64(l2 + 40u);
-                                                                                                                                                l46 = t333;
-                                                                                                                                                const u64 t334 = load64(l2 + 48u);
-                                                                                                                                                l47 = t334;
-                                                                                                                                                const u64 t335 = load64(l2 + 56u);
-                                                                                                                                                store64(l27 + 56u, t335);
-                                                                                                                                                store64(l27 + 48u, l47);
-                                                                                                                                                store64(l27 + 40u, l46);
-                                                                                                                                                store64(l27 + 32u, l45);
-                                                                                                                                                store64(l27 + 24u, l44);
-                                                                                                                                                store64(l27 + 16u, l43);
-                                                                                                                                                store64(l27 + 8u, l1);
-                                                                                                                                                store64(l27, l3);
+                                                                                                                                                const u64 t327 = load64(l2);
+                                                                                                                                                l8 = t327;
+                                                                                                                                                const u64 t328 = load64(l2 + 8u);
+                                                                                                                                                l1 = t328;
+                                                                                                                                                const u64 t329 = load64(l2 + 16u);
+                                                                                                                                                l30 = t329;
+                                                                                                                                                const u64 t330 = load64(l2 + 24u);
+                                                                                                                                                l31 = t330;
+                                                                                                                                                const u64 t331 = load64(l2 + 32u);
+                                                                                                                                                l17 = t331;
+                                                                                                                                                const u64 t332 = load64(l2 + 40u);
+                                                                                                                                                l18 = t332;
+                                                                                                                                                const u64 t333 = load64(l2 + 48u);
+                                                                                                                                                l19 = t333;
+                                                                                                                                                const u64 t334 = load64(l2 + 56u);
+                                                                                                                                                store64(l12 + 56u, t334);
+                                                                                                                                                store64(l12 + 48u, l19);
+                                                                                                                                                store64(l12 + 40u, l18);
+                                                                                                                                                store64(l12 + 32u, l17);
+                                                                                                                                                store64(l12 + 24u, l31);
+                                                                                                                                                store64(l12 + 16u, l30);
+                                                                                                                                                store64(l12 + 8u, l1);
+                                                                                                                                                store64(l12, l8);
                                                                                                                                             }
-                                                                                                                                            L309:;
-                                                                                                                                            l30 = l30 - 64ull;
-                                                                                                                                            if (l25 > 8ull) goto L308;
+                                                                                                                                            L308:;
+                                                                                                                                            l3 = l3 - 64ull;
+                                                                                                                                            if (l4 > 8ull) goto L307;
                                                                                                                                         }
                                                                                                                                     }
-                                                                                                                                    core_slice_edits_slice_T_copy_from_slice(stack, l7 + l39, l7 + l38, 8ull);
-                                                                                                                                    store32(l6 + 24ull, l11);
-                                                                                                                                    goto L231;
+                                                                                                                                    core_slice_edits_slice_T_copy_from_slice(stack, l6 + l26, l6 + l25, 8ull);
+                                                                                                                                    store32(l7 + 24ull, l36);
+                                                                                                                                    goto L230;
                                                                                                                                 }
-                                                                                                                                store_item_copies_load_items_over_spare(stack, l4 + 40ull, l6, l8, l11 + l15);
-                                                                                                                                const u32 t336 = load8(l4 + 40u);
-                                                                                                                                if (t336 != 1u) goto L235;
-                                                                                                                                const u32 t337 = load32(l4 + 44u);
-                                                                                                                                l9 = t337;
-                                                                                                                                goto L231;
+                                                                                                                                store_item_copies_load_items_over_spare(stack, l9 + 40ull, l7, l32, l36 + l38);
+                                                                                                                                const u32 t335 = load8(l9 + 40u);
+                                                                                                                                if (t335 != 1u) goto L234;
+                                                                                                                                const u32 t336 = load32(l9 + 44u);
+                                                                                                                                l33 = t336;
+                                                                                                                                goto L230;
                                                                                                                             }
-                                                                                                                            L266:;
-                                                                                                                            if ((l8 & 255u) == 0) goto L233;
+                                                                                                                            L265:;
+                                                                                                                            if ((l32 & 255u) == 0) goto L232;
                                                                                                                         }
-                                                                                                                        L235:;
-                                                                                                                        u32 v338;
+                                                                                                                        L234:;
+                                                                                                                        u32 v337;
                                                                                                                         {
-                                                                                                                            const u32 t339 = load32(l6 + 44ull);
-                                                                                                                            if (l19 != t339) {
-                                                                                                                                const u32 t341 = forms_work_Work_fill_other(stack, l6, l19, l23, l22);
-                                                                                                                                v338 = t341; goto L338;
+                                                                                                                            const u32 t338 = load32(l7 + 44ull);
+                                                                                                                            if (l41 != t338) {
+                                                                                                                                const u32 t340 = forms_work_Work_fill_other(stack, l7, l41, l46, l45);
+                                                                                                                                v337 = t340; goto L337;
                                                                                                                             }
-                                                                                                                            const u64 t342 = load64(l6);
-                                                                                                                            const u32 t343 = load32(l6 + 48ull);
-                                                                                                                            l8 = t343;
-                                                                                                                            l3 = t342 + ((u64)l8 << 3);
-                                                                                                                            const u32 t344 = load32(l3 + 20ull);
-                                                                                                                            const u32 t345 = load32(l3 + 4ull);
-                                                                                                                            l8 = (l8 + t345) + 3u;
-                                                                                                                            const u32 t346 = load32(l3 + 12ull);
-                                                                                                                            const u32 t347 = store_item_copies_fill_items(stack, l6, t344 + l8, l8 + t346, l23, l22);
-                                                                                                                            v338 = t347;
+                                                                                                                            const u64 t341 = load64(l7);
+                                                                                                                            const u32 t342 = load32(l7 + 48ull);
+                                                                                                                            l32 = t342;
+                                                                                                                            l8 = t341 + ((u64)l32 << 3);
+                                                                                                                            const u32 t343 = load32(l8 + 20ull);
+                                                                                                                            const u32 t344 = load32(l8 + 4ull);
+                                                                                                                            l32 = (l32 + t344) + 3u;
+                                                                                                                            const u32 t345 = load32(l8 + 12ull);
+                                                                                                                            const u32 t346 = store_item_copies_fill_items(stack, l7, t343 + l32, l32 + t345, l46, l45);
+                                                                                                                            v337 = t346;
                                                                                                                         }
-                                                                                                                        L338:;
-                                                                                                                        l8 = v338;
-                                                                                                                        store32(l4 + 108u, 0u);
-                                                                                                                        store8(l4 + 105u, (u8)0u);
-                                                                                                                        store8(l4 + 104u, (u8)l8);
-                                                                                                                        goto L71;
+                                                                                                                        L337:;
+                                                                                                                        l32 = v337;
+                                                                                                                        store32(l9 + 108u, 0u);
+                                                                                                                        store8(l9 + 105u, (u8)0u);
+                                                                                                                        store8(l9 + 104u, (u8)l32);
+                                                                                                                        goto L70;
                                                                                                                     }
-                                                                                                                    L234:;
-                                                                                                                    space_copies_copy_long(stack, l7, l2, l1, l3);
-                                                                                                                    goto L232;
+                                                                                                                    L233:;
+                                                                                                                    space_copies_copy_long(stack, l6, l2, l1, l8);
+                                                                                                                    goto L231;
                                                                                                                 }
-                                                                                                                L233:;
-                                                                                                                l11 = l9 + l17;
-                                                                                                                l3 = l7 + ((u64)(l10 - l11) << 3);
-                                                                                                                l1 = l7 + (l2 << 3);
-                                                                                                                const u32 t348 = load16(l1);
-                                                                                                                store16(l3, (u16)t348);
-                                                                                                                const u32 t349 = load32(l1 + 4ull);
-                                                                                                                store32(l3 + 4ull, t349);
+                                                                                                                L232:;
+                                                                                                                l36 = l33 + l40;
+                                                                                                                l8 = l6 + ((u64)(l35 - l36) << 3);
+                                                                                                                l1 = l6 + (l2 << 3);
+                                                                                                                const u32 t347 = load16(l1);
+                                                                                                                store16(l8, (u16)t347);
+                                                                                                                const u32 t348 = load32(l1 + 4ull);
+                                                                                                                store32(l8 + 4ull, t348);
                                                                                                             }
-                                                                                                            L232:;
-                                                                                                            store32(l6 + 24ull, l11);
+                                                                                                            L231:;
+                                                                                                            store32(l7 + 24ull, l36);
                                                                                                         }
-                                                                                                        L231:;
-                                                                                                        store32(l4 + 108u, l9);
-                                                                                                        store16(l4 + 104u, (u16)2u);
+                                                                                                        L230:;
+                                                                                                        store32(l9 + 108u, l33);
+                                                                                                        store16(l9 + 104u, (u16)2u);
                                                                                                     }
-                                                                                                    L71:;
-                                                                                                    const u32 t350 = load32(l4 + 108u);
-                                                                                                    l8 = t350;
-                                                                                                    const u32 t351 = load8(l4 + 105u);
-                                                                                                    l11 = t351;
-                                                                                                    const u32 t352 = load8(l4 + 104u);
-                                                                                                    l10 = t352;
+                                                                                                    L70:;
+                                                                                                    const u32 t349 = load32(l9 + 108u);
+                                                                                                    l32 = t349;
+                                                                                                    const u32 t350 = load8(l9 + 105u);
+                                                                                                    l36 = t350;
+                                                                                                    const u32 t351 = load8(l9 + 104u);
+                                                                                                    l35 = t351;
                                                                                                 }
-                                                                                                L70:;
-                                                                                                store32(l4 + 100u, l8);
-                                                                                                store8(l4 + 97u, (u8)l11);
-                                                                                                store8(l4 + 96u, (u8)l10);
-                                                                                                goto L65;
+                                                                                                L69:;
+                                                                                                store32(l9 + 100u, l32);
+                                                                                                store8(l9 + 97u, (u8)l36);
+                                                                                                store8(l9 + 96u, (u8)l35);
+                                                                                                goto L64;
                                                                                             }
-                                                                                            L69:;
-                                                                                            l10 = 4u;
-                                                                                            l11 = 4u;
-                                                                                            goto L66;
+                                                                                            L68:;
+                                                                                            l35 = 4u;
+                                                                                            l36 = 4u;
+                                                                                            goto L65;
                                                                                         }
-                                                                                        L68:;
-                                                                                        l10 = 0u;
-                                                                                        l11 = 0u;
-                                                                                        goto L66;
+                                                                                        L67:;
+                                                                                        l35 = 0u;
+                                                                                        l36 = 0u;
+                                                                                        goto L65;
                                                                                     }
-                                                                                    L67:;
-                                                                                    l11 = 0u;
-                                                                                    l10 = 1u;
+                                                                                    L66:;
+                                                                                    l36 = 0u;
+                                                                                    l35 = 1u;
                                                                                 }
-                                                                                L66:;
-                                                                                store8(l4 + 97u, (u8)l11);
-                                                                                store8(l4 + 96u, (u8)l10);
-                                                                                l8 = 0u;
+                                                                                L65:;
+                                                                                store8(l9 + 97u, (u8)l36);
+                                                                                store8(l9 + 96u, (u8)l35);
+                                                                                l32 = 0u;
                                                                             }
-                                                                            L65:;
-                                                                            switch ((u32)(((u64)l10 & 255ull)) - 1u) {
+                                                                            L64:;
+                                                                            switch ((u32)(((u64)l35 & 255ull)) - 1u) {
                                                                             case 0: goto L26;
-                                                                            case 1: goto L64;
-                                                                            case 2: goto L64;
+                                                                            case 1: goto L63;
+                                                                            case 2: goto L63;
                                                                             case 3: goto L27;
                                                                             default: goto L28;
                                                                             }
                                                                         }
-                                                                        L64:;
-                                                                        l21 = l18 + l21;
-                                                                        const u64 t353 = load64(l6);
-                                                                        const u32 t354 = load32(l6 + 16ull);
-                                                                        l18 = t354;
-                                                                        l3 = t353 + ((u64)l18 << 3);
+                                                                        L63:;
+                                                                        l44 = l44 + l47;
+                                                                        const u64 t352 = load64(l7);
+                                                                        const u64 t353 = load32(l7 + 16ull);
+                                                                        l8 = t352 + (t353 << 3);
                                                                         {
-                                                                            const u32 t356 = load32(l6 + 32ull);
-                                                                            l12 = t356;
-                                                                            if (l20 == l12) {
-                                                                                const u32 t358 = load32((l3 + ((u64)l13 << 3)) + 4ull);
-                                                                                l12 = t358;
-                                                                                l14 = l12 ? (l20 - l12) : 0u;
-                                                                                goto L355;
+                                                                            const u32 t355 = load32(l7 + 32ull);
+                                                                            l34 = t355;
+                                                                            if (l42 == l34) {
+                                                                                const u32 t357 = load32((l8 + ((u64)l43 << 3)) + 4ull);
+                                                                                l34 = t357;
+                                                                                l37 = l34 ? (l42 - l34) : 0u;
+                                                                                goto L354;
                                                                             }
-                                                                            if (l12 <= l13) {
-                                                                                l14 = l12;
-                                                                                goto L355;
+                                                                            if (l34 <= l43) {
+                                                                                l37 = l34;
+                                                                                goto L354;
                                                                             }
-                                                                            L360:;
+                                                                            L359:;
                                                                             {
-                                                                                const u32 t361 = load32((l3 + ((u64)(l12 - 1u) << 3)) + 4ull);
-                                                                                l14 = t361;
-                                                                                l12 = l12 - l14;
-                                                                                l14 = l14 ? l12 : 0u;
-                                                                                if (l13 < l14) goto L360;
+                                                                                const u32 t360 = load32((l8 + ((u64)(l34 - 1u) << 3)) + 4ull);
+                                                                                l37 = t360;
+                                                                                l34 = l34 - l37;
+                                                                                l37 = l37 ? l34 : 0u;
+                                                                                if (l43 < l37) goto L359;
                                                                             }
                                                                         }
-                                                                        L355:;
-                                                                        store32(l6 + 20ull, l13);
-                                                                        store32(l6 + 32ull, l14);
-                                                                        l12 = l8 + l21;
-                                                                        goto L25;
+                                                                        L354:;
+                                                                        store32(l7 + 20ull, l43);
+                                                                        store32(l7 + 32ull, l37);
+                                                                        v25 = l32 + l44; goto L25;
                                                                     }
                                                                     L28:;
-                                                                    l3 = l32 - l28;
-                                                                    l11 = 2u;
+                                                                    l8 = l16 - l13;
+                                                                    l36 = 2u;
                                                                     goto L23;
                                                                 }
                                                                 L27:;
-                                                                const u32 t362 = load32(l6 + 24ull);
-                                                                const u32 t363 = load32(l6 + 20ull);
-                                                                const u32 t364 = load32(l6 + 16ull);
-                                                                l13 = t362 + (t363 + t364);
-                                                                l3 = l32 - l28;
-                                                                l12 = 1u << (l11 & 31);
-                                                                if (l12 & 3u) goto L24;
-                                                                if (l12 & 12u) goto L23;
-                                                                l16 = (l13 > l16) ? l13 : l16;
+                                                                const u32 t361 = load32(l7 + 24ull);
+                                                                const u32 t362 = load32(l7 + 20ull);
+                                                                const u32 t363 = load32(l7 + 16ull);
+                                                                l34 = t361 + (t362 + t363);
+                                                                l8 = l16 - l13;
+                                                                l37 = 1u << (l36 & 31);
+                                                                if (l37 & 3u) goto L24;
+                                                                if (l37 & 12u) goto L23;
+                                                                l39 = (l34 > l39) ? l34 : l39;
                                                                 goto L23;
                                                             }
                                                             L26:;
-                                                            l3 = l6 + 20ull;
-                                                            const u32 t365 = load32(l3);
-                                                            l20 = t365;
-                                                            core_delivery_deliver(stack, l6, l13, l14);
-                                                            l12 = l20 + (l12 + l18);
-                                                            const u32 t366 = load32(l3);
-                                                            l13 = t366;
-                                                            const u32 t367 = load32(l6 + 16ull);
-                                                            l18 = t367;
+                                                            const u32 t364 = load32(l7 + 20ull);
+                                                            l42 = t364;
+                                                            core_delivery_deliver(stack, l7, l43, l37);
+                                                            v25 = l42 + (l34 + l44);
                                                         }
                                                         L25:;
-                                                        store32(l4 + 72u, 0u);
-                                                        store32(l4 + 76u, l13);
-                                                        const u32 t368 = load32(l6 + 24ull);
-                                                        l14 = t368 + (l13 + l18);
-                                                        l28 = l28 - 1ull;
-                                                        v19 = (l12 > l16) ? l12 : l16; goto L19;
+                                                        l34 = v25;
+                                                        store32(l9 + 72u, 0u);
+                                                        const u32 t365 = load32(l7 + 20ull);
+                                                        l37 = t365;
+                                                        store32(l9 + 76u, l37);
+                                                        const u32 t366 = load32(l7 + 24ull);
+                                                        const u32 t367 = load32(l7 + 16ull);
+                                                        l43 = t366 + (l37 + t367);
+                                                        l13 = l13 - 1ull;
+                                                        v19 = (l34 > l39) ? l34 : l39; goto L19;
                                                     }
                                                     L24:;
-                                                    l16 = (l13 > l16) ? l13 : l16;
-                                                    l3 = l3 + 1ull;
+                                                    l39 = (l34 > l39) ? l34 : l39;
+                                                    l8 = l8 + 1ull;
                                                 }
                                                 L23:;
-                                                store32(l31 + 20u, 0u);
-                                                store32(l31 + 16u, l16);
-                                                store64(l31 + 8u, l3);
-                                                store64(l31, (u64)l11 & 255ull);
+                                                store32(l15 + 20u, 0u);
+                                                store32(l15 + 16u, l39);
+                                                store64(l15 + 8u, l8);
+                                                store64(l15, (u64)l36 & 255ull);
                                                 goto L9;
                                             }
                                             L22:;
                                             v21 = (u32)l1 + 1u;
                                         }
                                         L21:;
-                                        l18 = v21;
-                                        store32(l6 + 24ull, l12 - l18);
-                                        l3 = (u64)l18;
+                                        l42 = v21;
+                                        store32(l7 + 24ull, l37 - l42);
+                                        l8 = (u64)l42;
                                     }
                                     L20:;
-                                    l28 = l28 - l3;
-                                    v19 = (l14 > l16) ? l14 : l16;
+                                    l13 = l13 - l8;
+                                    v19 = (l39 < l43) ? l43 : l39;
                                 }
                                 L19:;
-                                l16 = v19;
-                                if (l28 != 0ull) goto L18;
+                                l39 = v19;
+                                if (l13 != 0ull) goto L18;
                             }
                         }
-                        store32(l31 + 20u, 0u);
-                        store32(l31 + 16u, l16);
-                        store64(l31 + 8u, l32);
-                        store64(l31, 3ull);
+                        store32(l15 + 20u, 0u);
+                        store32(l15 + 16u, l39);
+                        store64(l15 + 8u, l16);
+                        store64(l15, 3ull);
                         goto L9;
                     }
                     trap();
                 }
                 L9:;
-                stack = l4 + 192ull;
-                const u32 t369 = load8(l24 + 160u);
-                l9 = t369;
-                const u32 t370 = load32(l24 + 176u);
-                l8 = t370;
-                const u64 t371 = load64(l24 + 168u);
-                l25 = t371;
-                const u64 t372 = load64(l24 + 24u);
-                l6 = t372;
-                const u64 t373 = load64(l24 + 48u);
-                l4 = t373;
+                stack = l9 + 192ull;
+                const u32 t368 = load8(l10 + 160u);
+                l41 = t368;
+                const u32 t369 = load32(l10 + 176u);
+                l33 = t369;
+                const u64 t370 = load64(l10 + 168u);
+                l9 = t370;
+                const u64 t371 = load64(l10 + 24u);
+                l6 = t371;
+                const u64 t372 = load64(l10 + 48u);
+                l4 = t372;
                 store64(l0 + 32u, 0ull);
                 l4 = l5 - l4;
                 store64(l0 + 24u, (l4 > l5) ? 0ull : l4);
                 store64(l0 + 16u, l6);
-                store64(l0 + 8u, l25);
-                store32(l0 + 4u, l8);
-                store32(l0, l9 + 1u);
+                store64(l0 + 8u, l9);
+                store32(l0 + 4u, l33);
+                store32(l0, l41 + 1u);
             }
             L3:;
-            stack = l24 + 208ull;
+            stack = l10 + 208ull;
             goto L1;
         }
         trap();
@@ -21348,7 +21296,7 @@ static void engine_turn(u64 stack, u64 l0, u64 l1, u64 l2, u64 l3, u64 l4, u64 l
     u32 l46 = 0;
     l20 = l0;
     l9 = l1;
-    l8 = stack - 288ull;
+    l8 = stack - 304ull;
     stack = l8;
     {
         {
@@ -21367,9 +21315,9 @@ static void engine_turn(u64 stack, u64 l0, u64 l1, u64 l2, u64 l3, u64 l4, u64 l
                     goto L3;
                 }
                 l23 = l9 + 56ull;
-                l25 = l8 + 157ull;
+                l25 = l8 + 277ull;
                 l26 = l8 + 261ull;
-                l27 = l8 + 181ull;
+                l27 = l8 + 157ull;
                 l19 = l8 + 145ull;
                 l4 = 0ull;
                 L5:;
@@ -21398,7 +21346,7 @@ static void engine_turn(u64 stack, u64 l0, u64 l1, u64 l2, u64 l3, u64 l4, u64 l
                         l15 = l8 + 208ull;
                         l14 = l9 + 60ull;
                         const u32 t11 = load32(l14);
-                        l31 = t11;
+                        l32 = t11;
                         l11 = l8 + 168ull;
                         l1 = l7 - l4;
                         l12 = stack - 144ull;
@@ -21410,10 +21358,10 @@ static void engine_turn(u64 stack, u64 l0, u64 l1, u64 l2, u64 l3, u64 l4, u64 l
                                 l21 = t14;
                                 store32(l10 + 64u, 0u);
                                 store8(l10 + 68u, (u8)0u);
-                                store32(l10 + 60u, l31);
+                                store32(l10 + 60u, l32);
                                 store32(l10 + 56u, 0u);
                                 const u32 t15 = load32(l11 + 16u);
-                                l35 = t15;
+                                l37 = t15;
                                 const u64 t16 = load64(l11);
                                 l11 = t16 - l21;
                                 l17 = (l1 > l11) ? l11 : l1;
@@ -21421,7 +21369,7 @@ static void engine_turn(u64 stack, u64 l0, u64 l1, u64 l2, u64 l3, u64 l4, u64 l
                                     const u32 t18 = load32(l9 + 24ull);
                                     const u32 t19 = load32(l9 + 20ull);
                                     const u32 t20 = load32(l9 + 16ull);
-                                    l40 = t18 + (t19 + t20);
+                                    l39 = t18 + (t19 + t20);
                                     l22 = l10 + 109ull;
                                     l28 = l10 + 93ull;
                                     l12 = l17;
@@ -21439,8 +21387,8 @@ static void engine_turn(u64 stack, u64 l0, u64 l1, u64 l2, u64 l3, u64 l4, u64 l
                                                                 {
                                                                     {
                                                                         const u32 t30 = load32(l9 + 24ull);
-                                                                        l33 = t30;
-                                                                        if (l33) {
+                                                                        l35 = t30;
+                                                                        if (l35) {
                                                                             l11 = 1ull;
                                                                             {
                                                                                 {
@@ -21451,10 +21399,10 @@ static void engine_turn(u64 stack, u64 l0, u64 l1, u64 l2, u64 l3, u64 l4, u64 l
                                                                                                     const u64 t38 = load64(l9);
                                                                                                     l1 = t38;
                                                                                                     const u32 t39 = load32(l9 + 28ull);
-                                                                                                    l31 = t39 - l33;
-                                                                                                    const u32 t40 = load8((l1 + ((u64)l31 << 3)) + 1ull);
-                                                                                                    l36 = t40;
-                                                                                                    switch (l36 - 13u) {
+                                                                                                    l32 = t39 - l35;
+                                                                                                    const u32 t40 = load8((l1 + ((u64)l32 << 3)) + 1ull);
+                                                                                                    l31 = t40;
+                                                                                                    switch (l31 - 13u) {
                                                                                                     case 0: goto L32;
                                                                                                     case 22: goto L34;
                                                                                                     case 27: goto L37;
@@ -21469,9 +21417,9 @@ static void engine_turn(u64 stack, u64 l0, u64 l1, u64 l2, u64 l3, u64 l4, u64 l
                                                                                             }
                                                                                             L36:;
                                                                                             const u32 t41 = load32(l9 + 32ull);
-                                                                                            l36 = t41;
-                                                                                            if (l36) goto L29;
-                                                                                            store32(l9 + 24ull, l33 - 1u);
+                                                                                            l31 = t41;
+                                                                                            if (l31) goto L29;
+                                                                                            store32(l9 + 24ull, l35 - 1u);
                                                                                             goto L23;
                                                                                         }
                                                                                         L35:;
@@ -21487,15 +21435,15 @@ static void engine_turn(u64 stack, u64 l0, u64 l1, u64 l2, u64 l3, u64 l4, u64 l
                                                                                     goto L23;
                                                                                 }
                                                                                 L33:;
-                                                                                if (((l36 - 9u) & 255u) < 2u) goto L32;
+                                                                                if (((l31 - 9u) & 255u) < 2u) goto L32;
                                                                                 const u64 t46 = core_scan_add_characters(stack, l9, l12, l10 + 60ull, l10 + 56ull);
                                                                                 l11 = t46;
                                                                                 goto L23;
                                                                             }
                                                                             L32:;
-                                                                            l11 = (u64)l33;
-                                                                            const u64 t47 = (u64)((l31 + (u32)(((l11 < l12) ? l11 : l12))));
-                                                                            l11 = (u64)(l31 + 1u);
+                                                                            l11 = (u64)l35;
+                                                                            const u64 t47 = (u64)((l32 + (u32)(((l11 < l12) ? l11 : l12))));
+                                                                            l11 = (u64)(l32 + 1u);
                                                                             l13 = t47 - l11;
                                                                             if (l13 == 0) { v24 = 1u; goto L24; }
                                                                             l11 = (l1 + (l11 << 3)) + 1ull;
@@ -21503,9 +21451,9 @@ static void engine_turn(u64 stack, u64 l0, u64 l1, u64 l2, u64 l3, u64 l4, u64 l
                                                                             L48:;
                                                                             {
                                                                                 const u32 t49 = load8(l11);
-                                                                                l31 = t49;
-                                                                                if (l31 > 13u) goto L25;
-                                                                                if (((1u << (l31 & 31)) & 9728u) == 0) goto L25;
+                                                                                l32 = t49;
+                                                                                if (l32 > 13u) goto L25;
+                                                                                if (((1u << (l32 & 31)) & 9728u) == 0) goto L25;
                                                                                 l11 = l11 + 8ull;
                                                                                 l1 = l1 + 1ull;
                                                                                 if (l13 != l1) goto L48;
@@ -21516,21 +21464,21 @@ static void engine_turn(u64 stack, u64 l0, u64 l1, u64 l2, u64 l3, u64 l4, u64 l
                                                                         store32(l9 + 32ull, 0u);
                                                                         l1 = l9 + 20ull;
                                                                         store32(l1, 0u);
-                                                                        l31 = 11u;
+                                                                        l32 = 11u;
                                                                         const u32 t50 = load32(l9 + 28ull);
-                                                                        l33 = t50;
+                                                                        l35 = t50;
                                                                         l13 = l9 + 16ull;
                                                                         const u32 t51 = load32(l13);
-                                                                        if ((l33 - t51) <= 10u) {
+                                                                        if ((l35 - t51) <= 10u) {
                                                                             const u32 t53 = space_space_Space_try_claim_spare(stack, l9, 11ull);
                                                                             if (t53 == 0) goto L27;
                                                                             const u32 t54 = load32(l9 + 28ull);
-                                                                            l33 = t54;
+                                                                            l35 = t54;
                                                                             const u32 t55 = load32(l9 + 24ull);
-                                                                            l31 = t55 + 11u;
+                                                                            l32 = t55 + 11u;
                                                                         }
                                                                         const u64 t56 = load64(l9);
-                                                                        l11 = t56 + ((u64)(l33 - l31) << 3);
+                                                                        l11 = t56 + ((u64)(l35 - l32) << 3);
                                                                         store64(l11 + 56u, 0ull);
                                                                         store64(l11 + 48u, 0ull);
                                                                         store64(l11 + 40u, 0ull);
@@ -21553,31 +21501,31 @@ static void engine_turn(u64 stack, u64 l0, u64 l1, u64 l2, u64 l3, u64 l4, u64 l
                                                                         store8(l11 + 17ull, (u8)112u);
                                                                         store8(l11 + 9ull, (u8)40u);
                                                                         store8(l11 + 1ull, (u8)35u);
-                                                                        store32(l9 + 24ull, l31);
+                                                                        store32(l9 + 24ull, l32);
                                                                         const u32 t57 = load32(l1);
                                                                         const u32 t58 = load32(l13);
-                                                                        v28 = t57 + (t58 + l31); goto L28;
+                                                                        v28 = t57 + (t58 + l32); goto L28;
                                                                     }
                                                                     L29:;
                                                                     const u64 t59 = load64(l9);
                                                                     l11 = t59;
                                                                     const u32 t60 = load32(l9 + 16ull);
-                                                                    l31 = t60;
-                                                                    l40 = l36 - 1u;
-                                                                    const u32 t61 = load8((l11 + ((u64)(l31 + l40) << 3)) + 1ull);
+                                                                    l32 = t60;
+                                                                    l39 = l31 - 1u;
+                                                                    const u32 t61 = load8((l11 + ((u64)(l32 + l39) << 3)) + 1ull);
                                                                     l41 = t61;
                                                                     const u32 t62 = load32(l9 + 20ull);
                                                                     l43 = t62;
                                                                     const u32 t63 = load32(l10 + 60u);
-                                                                    l39 = t63;
+                                                                    l44 = t63;
                                                                     l30 = 0u;
                                                                     store8(l10 + 98u, (u8)0u);
                                                                     store16(l10 + 96u, (u16)0u);
                                                                     u32 v64;
                                                                     {
                                                                         {
-                                                                            l38 = l31 + l43;
-                                                                            l1 = (u64)(l31 + l36);
+                                                                            l38 = l32 + l43;
+                                                                            l1 = (u64)(l31 + l32);
                                                                             l13 = (u64)l38 - l1;
                                                                             if (l13 >= 2ull) {
                                                                                 l1 = l11 + (l1 << 3);
@@ -21585,29 +21533,29 @@ static void engine_turn(u64 stack, u64 l0, u64 l1, u64 l2, u64 l3, u64 l4, u64 l
                                                                                 const u32 t67 = load8(l1 + 16ull);
                                                                                 if (t67 == 2u) goto L65;
                                                                             }
-                                                                            l34 = 1u;
-                                                                            l32 = 0u;
+                                                                            l33 = l31;
+                                                                            l34 = 0u;
                                                                             l42 = 0u;
-                                                                            v64 = l36; goto L64;
+                                                                            v64 = 1u; goto L64;
                                                                         }
                                                                         L65:;
                                                                         functions_function_function_of(stack, l10 + 96ull, l1, l1 + 8ull);
-                                                                        l34 = 1u;
-                                                                        l32 = 0u;
+                                                                        l33 = l31;
+                                                                        l34 = 0u;
                                                                         l42 = 0u;
                                                                         const u32 t68 = load8(l10 + 96u);
-                                                                        if (t68 != 1u) { v64 = l36; goto L64; }
+                                                                        if (t68 != 1u) { v64 = 1u; goto L64; }
                                                                         const u32 t69 = load8(l10 + 98u);
                                                                         l42 = t69;
                                                                         const u32 t70 = load8(l10 + 97u);
-                                                                        l32 = t70;
-                                                                        l34 = 0u;
+                                                                        l34 = t70;
+                                                                        l33 = l31 + 3u;
                                                                         l30 = 1u;
-                                                                        v64 = l36 + 3u;
+                                                                        v64 = 0u;
                                                                     }
                                                                     L64:;
-                                                                    l37 = v64;
-                                                                    l44 = l41 == 0;
+                                                                    l36 = v64;
+                                                                    l40 = l41 == 0;
                                                                     {
                                                                         {
                                                                             {
@@ -21619,27 +21567,27 @@ static void engine_turn(u64 stack, u64 l0, u64 l1, u64 l2, u64 l3, u64 l4, u64 l
                                                                                                     {
                                                                                                         {
                                                                                                             if (l30 == 0) goto L80;
-                                                                                                            l30 = l32 & 255u;
+                                                                                                            l30 = l34 & 255u;
                                                                                                             if ((1u << (l30 & 31)) & 33553396u) goto L80;
                                                                                                             if (l30 != 3u) goto L79;
                                                                                                             store16(l22, (u16)0u);
                                                                                                             store8(l22 + 2u, (u8)0u);
-                                                                                                            store8(l10 + 108u, (u8)l44);
-                                                                                                            store32(l10 + 104u, l39);
+                                                                                                            store8(l10 + 108u, (u8)l40);
+                                                                                                            store32(l10 + 104u, l44);
                                                                                                             store32(l10 + 100u, l43);
-                                                                                                            store32(l10 + 96u, l37);
+                                                                                                            store32(l10 + 96u, l33);
                                                                                                             functions_arguments_Arguments_next(stack, l10 + 48ull, l10 + 96ull, l9);
                                                                                                             const u32 t81 = load32(l10 + 48u);
                                                                                                             const u32 t82 = load32(l10 + 52u);
                                                                                                             if (t81 < t82) goto L79;
                                                                                                         }
                                                                                                         L80:;
-                                                                                                        l33 = l33 - 1u;
-                                                                                                        store32(l9 + 24ull, l33);
-                                                                                                        l41 = l33 + l38;
+                                                                                                        l35 = l35 - 1u;
+                                                                                                        store32(l9 + 24ull, l35);
+                                                                                                        l41 = l35 + l38;
                                                                                                         l30 = 0u;
-                                                                                                        l38 = l32 & 255u;
-                                                                                                        if (l34 | (l38 == 3u)) goto L71;
+                                                                                                        l38 = l34 & 255u;
+                                                                                                        if (l36 | (l38 == 3u)) goto L71;
                                                                                                         {
                                                                                                             if ((l38 - 5u) < 20u) goto L83;
                                                                                                             {
@@ -21653,16 +21601,16 @@ static void engine_turn(u64 stack, u64 l0, u64 l1, u64 l2, u64 l3, u64 l4, u64 l
                                                                                                             L84:;
                                                                                                             store16(l22, (u16)0u);
                                                                                                             store8(l22 + 2u, (u8)0u);
-                                                                                                            store8(l10 + 108u, (u8)l44);
-                                                                                                            store32(l10 + 104u, l39);
+                                                                                                            store8(l10 + 108u, (u8)l40);
+                                                                                                            store32(l10 + 104u, l44);
                                                                                                             store32(l10 + 100u, l43);
-                                                                                                            store32(l10 + 96u, l37);
+                                                                                                            store32(l10 + 96u, l33);
                                                                                                             functions_arguments_Arguments_next(stack, l10, l10 + 96ull, l9);
                                                                                                             const u32 t85 = load32(l10);
-                                                                                                            l32 = t85;
+                                                                                                            l34 = t85;
                                                                                                             const u32 t86 = load32(l10 + 4u);
-                                                                                                            if (l32 != t86) {
-                                                                                                                l11 = l11 + ((u64)(l31 + l32) << 3);
+                                                                                                            if (l34 != t86) {
+                                                                                                                l11 = l11 + ((u64)(l32 + l34) << 3);
                                                                                                                 const u32 t88 = load8(l11);
                                                                                                                 const u64 t89 = l23;
                                                                                                                 u32 v90;
@@ -21679,10 +21627,10 @@ static void engine_turn(u64 stack, u64 l0, u64 l1, u64 l2, u64 l3, u64 l4, u64 l
                                                                                                         L83:;
                                                                                                         store16(l28, (u16)0u);
                                                                                                         store8(l28 + 2u, (u8)0u);
-                                                                                                        store8(l10 + 92u, (u8)l44);
-                                                                                                        store32(l10 + 88u, l39);
+                                                                                                        store8(l10 + 92u, (u8)l40);
+                                                                                                        store32(l10 + 88u, l44);
                                                                                                         store32(l10 + 84u, l43);
-                                                                                                        store32(l10 + 80u, l37);
+                                                                                                        store32(l10 + 80u, l33);
                                                                                                         store64(l10 + 72u, 0ull);
                                                                                                         {
                                                                                                             {
@@ -21703,7 +21651,7 @@ static void engine_turn(u64 stack, u64 l0, u64 l1, u64 l2, u64 l3, u64 l4, u64 l
                                                                                                                                                                         {
                                                                                                                                                                             {
                                                                                                                                                                                 {
-                                                                                                                                                                                    switch ((u32)(((u64)l32 & 255ull)) - 5u) {
+                                                                                                                                                                                    switch ((u32)(((u64)l34 & 255ull)) - 5u) {
                                                                                                                                                                                     case 0: goto L98;
                                                                                                                                                                                     case 1: goto L97;
                                                                                                                                                                                     case 2: goto L95;
@@ -21753,20 +21701,20 @@ static void engine_turn(u64 stack, u64 l0, u64 l1, u64 l2, u64 l3, u64 l4, u64 l
                                                                                                                                                                 const u32 t113 = load32(l10 + 8u);
                                                                                                                                                                 l38 = t113;
                                                                                                                                                                 const u32 t114 = load32(l10 + 12u);
-                                                                                                                                                                l34 = t114;
-                                                                                                                                                                l13 = (u64)(l34 + l31);
-                                                                                                                                                                l1 = (u64)(l38 + l31) - l13;
+                                                                                                                                                                l36 = t114;
+                                                                                                                                                                l13 = (u64)(l36 + l32);
+                                                                                                                                                                l1 = (u64)(l38 + l32) - l13;
                                                                                                                                                                 l11 = (l11 + (l13 << 3)) - 8ull;
-                                                                                                                                                                l30 = l34;
+                                                                                                                                                                l30 = l36;
                                                                                                                                                                 L115:;
                                                                                                                                                                 {
                                                                                                                                                                     {
-                                                                                                                                                                        l32 = l30;
+                                                                                                                                                                        l34 = l30;
                                                                                                                                                                         if (l1 == 0) goto L116;
                                                                                                                                                                         const u32 t117 = load8(l11);
                                                                                                                                                                         if (t117) goto L116;
                                                                                                                                                                         l1 = l1 + 1ull;
-                                                                                                                                                                        l30 = l32 - 1u;
+                                                                                                                                                                        l30 = l34 - 1u;
                                                                                                                                                                         l13 = l11 + 1ull;
                                                                                                                                                                         l11 = l11 - 8ull;
                                                                                                                                                                         const u32 t118 = load8(l13);
@@ -21774,10 +21722,10 @@ static void engine_turn(u64 stack, u64 l0, u64 l1, u64 l2, u64 l3, u64 l4, u64 l
                                                                                                                                                                     }
                                                                                                                                                                     L116:;
                                                                                                                                                                 }
-                                                                                                                                                                store32(l10 + 104u, l34);
-                                                                                                                                                                store32(l10 + 100u, l32);
+                                                                                                                                                                store32(l10 + 104u, l36);
+                                                                                                                                                                store32(l10 + 100u, l34);
                                                                                                                                                                 store32(l10 + 96u, 2u);
-                                                                                                                                                                functions_bit_strings_give_bits(stack, l10 + 136ull, l9, l38, l32, l10 + 96ull);
+                                                                                                                                                                functions_bit_strings_give_bits(stack, l10 + 136ull, l9, l38, l34, l10 + 96ull);
                                                                                                                                                                 const u32 t119 = load16(l10 + 136u);
                                                                                                                                                                 store16(l10 + 72u, (u16)t119);
                                                                                                                                                                 const u32 t120 = load32(l10 + 140u);
@@ -21822,14 +21770,14 @@ static void engine_turn(u64 stack, u64 l0, u64 l1, u64 l2, u64 l3, u64 l4, u64 l
                                                                                                                         }
                                                                                                                         L96:;
                                                                                                                         const u64 t121 = load64(l10 + 88u);
-                                                                                                                        store64(l10 + 104u, t121);
+                                                                                                                        store64(l10 + 128u, t121);
                                                                                                                         const u64 t122 = load64(l10 + 80u);
-                                                                                                                        store64(l10 + 96u, t122);
-                                                                                                                        const u32 t123 = load8(l10 + 108u);
-                                                                                                                        l34 = t123;
-                                                                                                                        functions_arguments_Arguments_next(stack, l10 + 40ull, l10 + 96ull, l9);
+                                                                                                                        store64(l10 + 120u, t122);
+                                                                                                                        const u32 t123 = load8(l10 + 132u);
+                                                                                                                        l36 = t123;
+                                                                                                                        functions_arguments_Arguments_next(stack, l10 + 40ull, l10 + 120ull, l9);
                                                                                                                         const u32 t124 = load32(l10 + 44u);
-                                                                                                                        l32 = t124;
+                                                                                                                        l34 = t124;
                                                                                                                         const u32 t125 = load32(l10 + 40u);
                                                                                                                         l30 = t125;
                                                                                                                         u32 v126;
@@ -21837,17 +21785,17 @@ static void engine_turn(u64 stack, u64 l0, u64 l1, u64 l2, u64 l3, u64 l4, u64 l
                                                                                                                             const u32 t127 = load32(l9 + 40ull);
                                                                                                                             l38 = t127;
                                                                                                                             if (l38 >= 8u) {
-                                                                                                                                forms_work_Work_find_among_more(stack, l10 + 24ull, l9, l30, l32);
+                                                                                                                                forms_work_Work_find_among_more(stack, l10 + 24ull, l9, l30, l34);
                                                                                                                                 const u32 t129 = load8(l10 + 24u);
-                                                                                                                                l32 = t129;
+                                                                                                                                l34 = t129;
                                                                                                                                 const u32 t130 = load32(l10 + 28u);
                                                                                                                                 v126 = t130; goto L126;
                                                                                                                             }
                                                                                                                             {
                                                                                                                                 if (l38 == 0) goto L131;
                                                                                                                                 const u64 t132 = load32(l11 + 4ull);
-                                                                                                                                l13 = (u64)(l31 + l32);
-                                                                                                                                l1 = (u64)(l30 + l31);
+                                                                                                                                l13 = (u64)(l32 + l34);
+                                                                                                                                l1 = (u64)(l30 + l32);
                                                                                                                                 if (t132 != (l13 - l1)) goto L131;
                                                                                                                                 l18 = 17ull - (l1 << 3);
                                                                                                                                 l1 = (l13 ^ 18446744073709551615ull) + l1;
@@ -21865,15 +21813,15 @@ static void engine_turn(u64 stack, u64 l0, u64 l1, u64 l2, u64 l3, u64 l4, u64 l
                                                                                                                                 }
                                                                                                                             }
                                                                                                                             L131:;
-                                                                                                                            forms_work_Work_find_among_few(stack, l10 + 32ull, l9, l30, l32);
+                                                                                                                            forms_work_Work_find_among_few(stack, l10 + 32ull, l9, l30, l34);
                                                                                                                             const u32 t136 = load8(l10 + 32u);
-                                                                                                                            l32 = t136;
+                                                                                                                            l34 = t136;
                                                                                                                             const u32 t137 = load32(l10 + 36u);
                                                                                                                             v126 = t137;
                                                                                                                         }
                                                                                                                         L126:;
                                                                                                                         l30 = v126;
-                                                                                                                        if ((l32 & 255u) != 1u) goto L76;
+                                                                                                                        if ((l34 & 255u) != 1u) goto L76;
                                                                                                                         goto L75;
                                                                                                                     }
                                                                                                                     L95:;
@@ -21895,11 +21843,11 @@ static void engine_turn(u64 stack, u64 l0, u64 l1, u64 l2, u64 l3, u64 l4, u64 l
                                                                                                     L79:;
                                                                                                     store32(l15 + 11u, 0u);
                                                                                                     store8(l15 + 10u, (u8)l42);
-                                                                                                    store8(l15 + 9u, (u8)l32);
+                                                                                                    store8(l15 + 9u, (u8)l34);
                                                                                                     store8(l15 + 8u, (u8)1u);
                                                                                                     store8(l15 + 15u, (u8)0u);
                                                                                                     store32(l15 + 36u, 0u);
-                                                                                                    store32(l15 + 32u, l35);
+                                                                                                    store32(l15 + 32u, l37);
                                                                                                     store32(l15 + 20u, 0u);
                                                                                                     const u32 t138 = load32(l10 + 60u);
                                                                                                     store32(l15 + 16u, t138);
@@ -21911,7 +21859,7 @@ static void engine_turn(u64 stack, u64 l0, u64 l1, u64 l2, u64 l3, u64 l4, u64 l
                                                                                                 L78:;
                                                                                                 l1 = l17 - l12;
                                                                                                 l11 = l1 + l21;
-                                                                                                l31 = 0u;
+                                                                                                l32 = 0u;
                                                                                                 goto L73;
                                                                                             }
                                                                                             L77:;
@@ -21925,94 +21873,97 @@ static void engine_turn(u64 stack, u64 l0, u64 l1, u64 l2, u64 l3, u64 l4, u64 l
                                                                                         goto L74;
                                                                                     }
                                                                                     L75:;
-                                                                                    const u32 t139 = load32(l10 + 100u);
-                                                                                    l32 = t139;
-                                                                                    const u32 t140 = load32(l10 + 96u);
+                                                                                    const u32 t139 = load32(l10 + 124u);
+                                                                                    l34 = t139;
+                                                                                    const u32 t140 = load32(l10 + 120u);
                                                                                     l38 = t140;
+                                                                                    const u64 t141 = l10;
+                                                                                    u32 v142;
                                                                                     {
                                                                                         {
                                                                                             {
                                                                                                 {
                                                                                                     {
-                                                                                                        if ((l34 & 1u) == 0) goto L145;
-                                                                                                        if (l32 >= l38) goto L145;
-                                                                                                        const u32 t146 = load32(l9 + 44ull);
+                                                                                                        if ((l36 & 1u) == 0) goto L146;
+                                                                                                        if (l34 >= l38) goto L146;
+                                                                                                        store32(l10 + 116u, 0u);
+                                                                                                        store64(l10 + 96u, l9);
                                                                                                         const u32 t147 = load32(l9 + 48ull);
-                                                                                                        const u32 t148 = store_form_cells_place_of(stack, l9, t146, t147, l30);
-                                                                                                        l37 = t148;
-                                                                                                        const u64 t149 = load64(l9);
-                                                                                                        l13 = t149;
-                                                                                                        l11 = l13 + ((u64)l37 << 3);
-                                                                                                        const u32 t150 = load32(l11 + 12ull);
-                                                                                                        l44 = t150;
-                                                                                                        const u32 t151 = load32(l11 + 20ull);
-                                                                                                        l39 = t151;
-                                                                                                        l34 = l44 - l39;
-                                                                                                        if (l34 == 0) {
-                                                                                                            l34 = 0u;
-                                                                                                            goto L141;
-                                                                                                        }
+                                                                                                        store32(l10 + 112u, t147);
+                                                                                                        const u64 t148 = load64(l9 + 40ull);
+                                                                                                        store64(l10 + 104u, t148);
+                                                                                                        const u32 t149 = store_form_finder_FormFinder_place_of(stack, l10 + 96ull, l30);
+                                                                                                        l33 = t149;
+                                                                                                        const u64 t150 = load64(l9);
+                                                                                                        l13 = t150;
+                                                                                                        l11 = l13 + ((u64)l33 << 3);
+                                                                                                        const u32 t151 = load32(l11 + 12ull);
+                                                                                                        l42 = t151;
+                                                                                                        const u32 t152 = load32(l11 + 20ull);
+                                                                                                        l40 = t152;
+                                                                                                        l36 = l42 - l40;
+                                                                                                        if (l36 == 0) { v142 = 0u; goto L142; }
                                                                                                         const u32 t153 = load32(l11 + 4ull);
-                                                                                                        l42 = (l37 + t153) + 3u;
-                                                                                                        l37 = l39 + l42;
+                                                                                                        l44 = (l33 + t153) + 3u;
+                                                                                                        l33 = l40 + l44;
                                                                                                         {
                                                                                                             const u32 t155 = load32(l9 + 28ull);
-                                                                                                            l39 = t155;
+                                                                                                            l40 = t155;
                                                                                                             const u32 t156 = load32(l9 + 20ull);
                                                                                                             const u32 t157 = load32(l9 + 24ull);
                                                                                                             l45 = t157;
                                                                                                             const u32 t158 = load32(l9 + 16ull);
-                                                                                                            if (l34 <= (l39 - (t156 + (l45 + t158)))) {
-                                                                                                                l16 = (u64)l34;
-                                                                                                                l18 = (u64)l37;
+                                                                                                            if (l36 <= (l40 - (t156 + (l45 + t158)))) {
+                                                                                                                l16 = (u64)l36;
+                                                                                                                l18 = (u64)l33;
                                                                                                                 {
                                                                                                                     {
-                                                                                                                        if (l34 >= 8u) {
-                                                                                                                            if (l34 == 8u) goto L160;
+                                                                                                                        if (l36 >= 8u) {
+                                                                                                                            if (l36 == 8u) goto L160;
                                                                                                                             l11 = l13 + (l18 << 3);
                                                                                                                             l1 = l16;
                                                                                                                             goto L161;
                                                                                                                         }
-                                                                                                                        if (l34 >= 4u) {
+                                                                                                                        if (l36 >= 4u) {
                                                                                                                             l11 = l13 + (l18 << 3);
                                                                                                                             const u32 t164 = load8(l11 + 24ull);
                                                                                                                             const u32 t165 = load8(l11 + 16ull);
                                                                                                                             const u32 t166 = load8(l11 + 8ull);
                                                                                                                             const u32 t167 = load8(l11);
-                                                                                                                            if (((t164 + t165) | (t166 + t167)) & 255u) goto L145;
+                                                                                                                            if (((t164 + t165) | (t166 + t167)) & 255u) goto L146;
                                                                                                                             l1 = l16 + l18;
                                                                                                                             l11 = l13 + (l1 << 3);
                                                                                                                             const u32 t168 = load8(l11 - 8ull);
                                                                                                                             const u32 t169 = load8(l11 - 16ull);
                                                                                                                             const u32 t170 = load8(l11 - 24ull);
                                                                                                                             const u32 t171 = load8(l11 - 32ull);
-                                                                                                                            if (((t168 + t169) | (t170 + t171)) & 255u) goto L145;
-                                                                                                                            l32 = l34 + l45;
-                                                                                                                            l11 = (u64)(l39 - l32);
+                                                                                                                            if (((t168 + t169) | (t170 + t171)) & 255u) goto L146;
+                                                                                                                            l34 = l36 + l45;
+                                                                                                                            l11 = (u64)(l40 - l34);
                                                                                                                             core_slice_edits_slice_T_copy_from_slice(stack, l13 + (l11 << 3), l13 + (l18 << 3), 4ull);
                                                                                                                             const u64 t172 = l11 - l18;
                                                                                                                             l11 = l1 - 4ull;
                                                                                                                             core_slice_edits_slice_T_copy_from_slice(stack, l13 + ((t172 + l11) << 3), l13 + (l11 << 3), 4ull);
-                                                                                                                            goto L142;
+                                                                                                                            goto L143;
                                                                                                                         }
                                                                                                                         l11 = l13 + (l18 << 3);
                                                                                                                         const u32 t173 = load8(l11);
-                                                                                                                        l37 = t173;
-                                                                                                                        if (l34 == 1u) goto L154;
+                                                                                                                        l33 = t173;
+                                                                                                                        if (l36 == 1u) goto L154;
                                                                                                                         const u32 t174 = load8(l11 + 8ull);
-                                                                                                                        if (t174 | (l37 & 255u)) goto L145;
+                                                                                                                        if (t174 | (l33 & 255u)) goto L146;
                                                                                                                         l1 = l16 + l18;
                                                                                                                         l11 = l13 + (l1 << 3);
                                                                                                                         const u32 t175 = load8(l11 - 8ull);
                                                                                                                         const u32 t176 = load8(l11 - 16ull);
-                                                                                                                        if (t175 | t176) goto L145;
-                                                                                                                        l32 = l34 + l45;
-                                                                                                                        l11 = (u64)(l39 - l32);
+                                                                                                                        if (t175 | t176) goto L146;
+                                                                                                                        l34 = l36 + l45;
+                                                                                                                        l11 = (u64)(l40 - l34);
                                                                                                                         core_slice_edits_slice_T_copy_from_slice(stack, l13 + (l11 << 3), l13 + (l18 << 3), 2ull);
                                                                                                                         const u64 t177 = l11 - l18;
                                                                                                                         l11 = l1 - 2ull;
                                                                                                                         core_slice_edits_slice_T_copy_from_slice(stack, l13 + ((t177 + l11) << 3), l13 + (l11 << 3), 2ull);
-                                                                                                                        goto L142;
+                                                                                                                        goto L143;
                                                                                                                     }
                                                                                                                     L161:;
                                                                                                                     L178:;
@@ -22025,7 +21976,7 @@ static void engine_turn(u64 stack, u64 l0, u64 l1, u64 l2, u64 l3, u64 l4, u64 l
                                                                                                                         const u32 t184 = load8(l11 + 16ull);
                                                                                                                         const u32 t185 = load8(l11 + 8ull);
                                                                                                                         const u32 t186 = load8(l11);
-                                                                                                                        if (t179 | ((t180 + (t181 + (t182 + (t183 + (t184 + (t185 + t186)))))) & 255u)) goto L145;
+                                                                                                                        if (t179 | ((t180 + (t181 + (t182 + (t183 + (t184 + (t185 + t186)))))) & 255u)) goto L146;
                                                                                                                         l11 = l11 + 64ull;
                                                                                                                         l1 = l1 - 8ull;
                                                                                                                         if (l1 >= 9ull) goto L178;
@@ -22042,11 +21993,11 @@ static void engine_turn(u64 stack, u64 l0, u64 l1, u64 l2, u64 l3, u64 l4, u64 l
                                                                                                                 const u32 t192 = load8(l11 - 24ull);
                                                                                                                 const u32 t193 = load8(l11 - 16ull);
                                                                                                                 const u32 t194 = load8(l11 - 8ull);
-                                                                                                                if ((((((((t187 + t188) + t189) + t190) + t191) + t192) + t193) & 255u) | t194) goto L145;
-                                                                                                                l32 = l34 + l45;
-                                                                                                                l24 = (u64)(l39 - l32);
-                                                                                                                if (l34 > 24u) goto L144;
-                                                                                                                if (l34 != 8u) {
+                                                                                                                if ((((((((t187 + t188) + t189) + t190) + t191) + t192) + t193) & 255u) | t194) goto L146;
+                                                                                                                l34 = l36 + l45;
+                                                                                                                l24 = (u64)(l40 - l34);
+                                                                                                                if (l36 > 24u) goto L145;
+                                                                                                                if (l36 != 8u) {
                                                                                                                     l29 = l13 - 64ull;
                                                                                                                     l11 = l29 + (l1 << 3);
                                                                                                                     l1 = l29 + ((l16 + l24) << 3);
@@ -22060,45 +22011,45 @@ static void engine_turn(u64 stack, u64 l0, u64 l1, u64 l2, u64 l3, u64 l4, u64 l
                                                                                                                     }
                                                                                                                 }
                                                                                                                 core_slice_edits_slice_T_copy_from_slice(stack, l13 + (l24 << 3), l13 + (l18 << 3), 8ull);
-                                                                                                                store32(l9 + 24ull, l32);
-                                                                                                                goto L141;
+                                                                                                                store32(l9 + 24ull, l34);
+                                                                                                                v142 = l36; goto L142;
                                                                                                             }
-                                                                                                            store_item_copies_load_items_over_spare(stack, l10 + 16ull, l9, l37, l42 + l44);
+                                                                                                            store_item_copies_load_items_over_spare(stack, l10 + 16ull, l9, l33, l42 + l44);
                                                                                                             const u32 t197 = load8(l10 + 16u);
-                                                                                                            if (t197 != 1u) goto L145;
+                                                                                                            if (t197 != 1u) goto L146;
                                                                                                             const u32 t198 = load32(l10 + 20u);
-                                                                                                            l34 = t198;
-                                                                                                            goto L141;
+                                                                                                            v142 = t198; goto L142;
                                                                                                         }
                                                                                                         L154:;
-                                                                                                        if ((l37 & 255u) == 0) goto L143;
+                                                                                                        if ((l33 & 255u) == 0) goto L144;
                                                                                                     }
-                                                                                                    L145:;
-                                                                                                    const u32 t199 = forms_work_Work_fill_body(stack, l9, l30, l38, l32);
-                                                                                                    l32 = t199;
+                                                                                                    L146:;
+                                                                                                    const u32 t199 = forms_work_Work_fill_body(stack, l9, l30, l38, l34);
+                                                                                                    l34 = t199;
                                                                                                     store32(l10 + 76u, 0u);
                                                                                                     store8(l10 + 73u, (u8)0u);
-                                                                                                    store8(l10 + 72u, (u8)l32);
+                                                                                                    store8(l10 + 72u, (u8)l34);
                                                                                                     goto L74;
                                                                                                 }
-                                                                                                L144:;
+                                                                                                L145:;
                                                                                                 space_copies_copy_long(stack, l13, l18, l1, l24);
-                                                                                                goto L142;
+                                                                                                goto L143;
                                                                                             }
-                                                                                            L143:;
-                                                                                            l32 = l34 + l45;
-                                                                                            l11 = l13 + ((u64)(l39 - l32) << 3);
+                                                                                            L144:;
+                                                                                            l34 = l36 + l45;
+                                                                                            l11 = l13 + ((u64)(l40 - l34) << 3);
                                                                                             l1 = l13 + (l18 << 3);
                                                                                             const u32 t200 = load16(l1);
                                                                                             store16(l11, (u16)t200);
                                                                                             const u32 t201 = load32(l1 + 4ull);
                                                                                             store32(l11 + 4ull, t201);
                                                                                         }
-                                                                                        L142:;
-                                                                                        store32(l9 + 24ull, l32);
+                                                                                        L143:;
+                                                                                        store32(l9 + 24ull, l34);
+                                                                                        v142 = l36;
                                                                                     }
-                                                                                    L141:;
-                                                                                    store32(l10 + 76u, l34);
+                                                                                    L142:;
+                                                                                    store32(t141 + 76u, v142);
                                                                                     store16(l10 + 72u, (u16)2u);
                                                                                 }
                                                                                 L74:;
@@ -22122,23 +22073,23 @@ static void engine_turn(u64 stack, u64 l0, u64 l1, u64 l2, u64 l3, u64 l4, u64 l
                                                                                 l1 = l17 - l12;
                                                                                 l11 = l1 + l21;
                                                                                 const u32 t208 = load8(l10 + 73u);
-                                                                                l31 = t208;
-                                                                                l33 = 1u << (l31 & 31);
-                                                                                if (l33 & 3u) goto L73;
-                                                                                if (l33 & 12u) goto L26;
-                                                                                l35 = (l35 < l41) ? l41 : l35;
+                                                                                l32 = t208;
+                                                                                l35 = 1u << (l32 & 31);
+                                                                                if (l35 & 3u) goto L73;
+                                                                                if (l35 & 12u) goto L26;
+                                                                                l37 = (l37 < l41) ? l41 : l37;
                                                                                 goto L26;
                                                                             }
                                                                             L73:;
-                                                                            l35 = (l35 < l41) ? l41 : l35;
+                                                                            l37 = (l37 < l41) ? l41 : l37;
                                                                             l11 = l11 + 1ull;
                                                                             goto L26;
                                                                         }
                                                                         L72:;
                                                                         const u32 t209 = load32(l9 + 20ull);
-                                                                        l36 = t209;
-                                                                        core_delivery_deliver(stack, l9, l40, l43);
-                                                                        v28 = l36 + (l31 + l33); goto L28;
+                                                                        l31 = t209;
+                                                                        core_delivery_deliver(stack, l9, l39, l43);
+                                                                        v28 = l31 + (l32 + l35); goto L28;
                                                                     }
                                                                     L71:;
                                                                     const u64 t210 = load64(l9);
@@ -22147,54 +22098,54 @@ static void engine_turn(u64 stack, u64 l0, u64 l1, u64 l2, u64 l3, u64 l4, u64 l
                                                                     {
                                                                         {
                                                                             const u32 t214 = load32(l9 + 32ull);
-                                                                            l31 = t214;
-                                                                            l33 = l31 <= l40;
-                                                                            if (l33) goto L213;
-                                                                            if (l31 != l36) goto L213;
-                                                                            const u32 t215 = load32((l11 + ((u64)l40 << 3)) + 4ull);
-                                                                            l31 = t215;
-                                                                            l33 = l31 ? (l36 - l31) : 0u;
+                                                                            l32 = t214;
+                                                                            l35 = l32 <= l39;
+                                                                            if (l35) goto L213;
+                                                                            if (l31 != l32) goto L213;
+                                                                            const u32 t215 = load32((l11 + ((u64)l39 << 3)) + 4ull);
+                                                                            l32 = t215;
+                                                                            l35 = l32 ? (l31 - l32) : 0u;
                                                                             goto L212;
                                                                         }
                                                                         L213:;
-                                                                        if (l33) {
-                                                                            l33 = l31;
+                                                                        if (l35) {
+                                                                            l35 = l32;
                                                                             goto L212;
                                                                         }
                                                                         L217:;
                                                                         {
-                                                                            const u32 t218 = load32((l11 + ((u64)(l31 - 1u) << 3)) + 4ull);
-                                                                            l33 = t218;
-                                                                            l31 = l31 - l33;
-                                                                            l33 = l33 ? l31 : 0u;
-                                                                            if (l33 > l40) goto L217;
+                                                                            const u32 t218 = load32((l11 + ((u64)(l32 - 1u) << 3)) + 4ull);
+                                                                            l35 = t218;
+                                                                            l32 = l32 - l35;
+                                                                            l35 = l35 ? l32 : 0u;
+                                                                            if (l35 > l39) goto L217;
                                                                         }
                                                                     }
                                                                     L212:;
-                                                                    store32(l9 + 20ull, l40);
-                                                                    store32(l9 + 32ull, l33);
+                                                                    store32(l9 + 20ull, l39);
+                                                                    store32(l9 + 32ull, l35);
                                                                     v28 = l30 + l41;
                                                                 }
                                                                 L28:;
-                                                                l31 = v28;
+                                                                l32 = v28;
                                                                 store32(l10 + 56u, 0u);
                                                                 const u32 t219 = load32(l9 + 20ull);
-                                                                l33 = t219;
-                                                                store32(l10 + 60u, l33);
+                                                                l35 = t219;
+                                                                store32(l10 + 60u, l35);
                                                                 const u32 t220 = load32(l9 + 24ull);
                                                                 const u32 t221 = load32(l9 + 16ull);
-                                                                l40 = t220 + (l33 + t221);
-                                                                l35 = (l31 > l35) ? l31 : l35;
+                                                                l39 = t220 + (l35 + t221);
+                                                                l37 = (l32 > l37) ? l32 : l37;
                                                                 v22 = l12 - 1ull; goto L22;
                                                             }
                                                             L27:;
                                                             l1 = l17 - l12;
                                                             l11 = l1 + l21;
-                                                            l31 = 2u;
+                                                            l32 = 2u;
                                                         }
                                                         L26:;
                                                         const u32 t222 = load32(l9 + 20ull);
-                                                        l33 = t222;
+                                                        l35 = t222;
                                                         store8(l15 + 10u, (u8)0u);
                                                         store16(l15 + 8u, (u16)0u);
                                                         store64(l15, l1);
@@ -22203,24 +22154,24 @@ static void engine_turn(u64 stack, u64 l0, u64 l1, u64 l2, u64 l3, u64 l4, u64 l
                                                         const u32 t224 = load8(l10 + 68u);
                                                         store8(l15 + 15u, (u8)t224);
                                                         store16(l15 + 38u, (u16)0u);
-                                                        store8(l15 + 37u, (u8)l31);
+                                                        store8(l15 + 37u, (u8)l32);
                                                         store8(l15 + 36u, (u8)1u);
-                                                        store32(l15 + 32u, l35);
+                                                        store32(l15 + 32u, l37);
                                                         store64(l15 + 24u, l11);
                                                         store32(l15 + 20u, 0u);
-                                                        store32(l15 + 16u, l33);
+                                                        store32(l15 + 16u, l35);
                                                         goto L12;
                                                     }
                                                     L25:;
                                                     v24 = (u32)l1 + 1u;
                                                 }
                                                 L24:;
-                                                l36 = v24;
-                                                store32(l9 + 24ull, l33 - l36);
-                                                l11 = (u64)l36;
+                                                l31 = v24;
+                                                store32(l9 + 24ull, l35 - l31);
+                                                l11 = (u64)l31;
                                             }
                                             L23:;
-                                            l35 = (l35 < l40) ? l40 : l35;
+                                            l37 = (l37 < l39) ? l39 : l37;
                                             v22 = l12 - l11;
                                         }
                                         L22:;
@@ -22228,12 +22179,12 @@ static void engine_turn(u64 stack, u64 l0, u64 l1, u64 l2, u64 l3, u64 l4, u64 l
                                         if (l12 != 0ull) goto L21;
                                     }
                                     const u32 t225 = load32(l10 + 60u);
-                                    l31 = t225;
+                                    l32 = t225;
                                 }
                                 store32(l15 + 36u, 0u);
-                                store32(l15 + 32u, l35);
+                                store32(l15 + 32u, l37);
                                 store32(l15 + 20u, 0u);
-                                store32(l15 + 16u, l31);
+                                store32(l15 + 16u, l32);
                                 store64(l15 + 8u, 0ull);
                                 store64(l15, l17);
                                 store64(l15 + 24u, l17 + l21);
@@ -22364,10 +22315,10 @@ static void engine_turn(u64 stack, u64 l0, u64 l1, u64 l2, u64 l3, u64 l4, u64 l
                                 const u64 t270 = load64(l8 + 208u);
                                 store64(l19, t270);
                                 const u64 t271 = load64(l19);
-                                store64(l8 + 248u, t271);
+                                store64(l8 + 264u, t271);
                                 const u64 t272 = load64(l19 + 8u);
-                                store64(l8 + 256u, t272);
-                                functions_arguments_Arguments_next(stack, l8 + 48ull, l8 + 248ull, l9);
+                                store64(l8 + 272u, t272);
+                                functions_arguments_Arguments_next(stack, l8 + 48ull, l8 + 264ull, l9);
                                 if (l34 == 0) goto L265;
                                 const u32 t273 = load32(l8 + 52u);
                                 l34 = t273;
@@ -22391,9 +22342,9 @@ static void engine_turn(u64 stack, u64 l0, u64 l1, u64 l2, u64 l3, u64 l4, u64 l
                                             l30 = t279;
                                             if (l30 >= 8u) {
                                                 forms_work_Work_find_among_more(stack, l8 + 32ull, l9, l38, l34);
-                                                const u32 t281 = load8(l8 + 32u);
-                                                l31 = t281;
-                                                const u32 t282 = load32(l8 + 36u);
+                                                const u32 t281 = load32(l8 + 36u);
+                                                l30 = t281;
+                                                const u32 t282 = load8(l8 + 32u);
                                                 v278 = t282; goto L278;
                                             }
                                             {
@@ -22419,14 +22370,13 @@ static void engine_turn(u64 stack, u64 l0, u64 l1, u64 l2, u64 l3, u64 l4, u64 l
                                             }
                                             L283:;
                                             forms_work_Work_find_among_few(stack, l8 + 40ull, l9, l38, l34);
-                                            const u32 t288 = load8(l8 + 40u);
-                                            l31 = t288;
-                                            const u32 t289 = load32(l8 + 44u);
+                                            const u32 t288 = load32(l8 + 44u);
+                                            l30 = t288;
+                                            const u32 t289 = load8(l8 + 40u);
                                             v278 = t289;
                                         }
                                         L278:;
-                                        l30 = v278;
-                                        if ((l31 & 255u) == 1u) goto L276;
+                                        if ((v278 & 255u) == 1u) goto L276;
                                         l30 = 0u;
                                         goto L265;
                                     }
@@ -22492,10 +22442,10 @@ static void engine_turn(u64 stack, u64 l0, u64 l1, u64 l2, u64 l3, u64 l4, u64 l
                             const u64 t303 = load64(l8 + 208u);
                             store64(l19, t303);
                             const u64 t304 = load64(l19);
-                            store64(l8 + 248u, t304);
+                            store64(l8 + 264u, t304);
                             const u64 t305 = load64(l19 + 8u);
-                            store64(l8 + 256u, t305);
-                            functions_arguments_Arguments_next(stack, l8 + 56ull, l8 + 248ull, l9);
+                            store64(l8 + 272u, t305);
+                            functions_arguments_Arguments_next(stack, l8 + 56ull, l8 + 264ull, l9);
                         }
                         L265:;
                         l0 = (u64)l30;
@@ -22549,7 +22499,7 @@ static void engine_turn(u64 stack, u64 l0, u64 l1, u64 l2, u64 l3, u64 l4, u64 l
                                                                                         l40 = t332;
                                                                                         l38 = l40 + l35;
                                                                                         const u32 t333 = load32(l9 + 60ull);
-                                                                                        l33 = t333;
+                                                                                        l32 = t333;
                                                                                         const u64 t334 = load64(l9);
                                                                                         l0 = t334;
                                                                                         const u32 t335 = load32(l9 + 28ull);
@@ -22562,8 +22512,8 @@ static void engine_turn(u64 stack, u64 l0, u64 l1, u64 l2, u64 l3, u64 l4, u64 l
                                                                                             store32(l9 + 24ull, l31 - 1u);
                                                                                             goto L326;
                                                                                         }
-                                                                                        store32(l8 + 144u, 0u);
-                                                                                        store32(l8 + 208u, l33);
+                                                                                        store32(l8 + 168u, 0u);
+                                                                                        store32(l8 + 208u, l32);
                                                                                         {
                                                                                             {
                                                                                                 {
@@ -22586,7 +22536,7 @@ static void engine_turn(u64 stack, u64 l0, u64 l1, u64 l2, u64 l3, u64 l4, u64 l
                                                                                             }
                                                                                             L340:;
                                                                                             if (((l30 - 9u) & 255u) < 2u) goto L339;
-                                                                                            (void)core_scan_add_characters(stack, l9, 1ull, l8 + 208ull, l8 + 144ull);
+                                                                                            (void)core_scan_add_characters(stack, l9, 1ull, l8 + 208ull, l8 + 168ull);
                                                                                             goto L327;
                                                                                         }
                                                                                         L339:;
@@ -22639,9 +22589,9 @@ static void engine_turn(u64 stack, u64 l0, u64 l1, u64 l2, u64 l3, u64 l4, u64 l
                                                                                 L329:;
                                                                                 l31 = l31 - 1u;
                                                                                 store32(l9 + 24ull, l31);
+                                                                                store64(l8 + 280u, 0ull);
                                                                                 store64(l8 + 264u, 0ull);
-                                                                                store64(l8 + 144u, 0ull);
-                                                                                store64(l8 + 152u, 0ull);
+                                                                                store64(l8 + 272u, 0ull);
                                                                                 store64(l8 + 248u, 0ull);
                                                                                 store64(l8 + 256u, 0ull);
                                                                                 l34 = l41 - 1u;
@@ -22700,7 +22650,7 @@ static void engine_turn(u64 stack, u64 l0, u64 l1, u64 l2, u64 l3, u64 l4, u64 l
                                                                                                             }
                                                                                                         }
                                                                                                         L364:;
-                                                                                                        l10 = l8 + 264ull;
+                                                                                                        l10 = l8 + 280ull;
                                                                                                         l0 = l9;
                                                                                                         l1 = l8 + 112ull;
                                                                                                         l12 = stack - 16ull;
@@ -22732,20 +22682,20 @@ static void engine_turn(u64 stack, u64 l0, u64 l1, u64 l2, u64 l3, u64 l4, u64 l
                                                                                                                         const u32 t376 = load32(l0 + 28ull);
                                                                                                                         l1 = l0 + 20ull;
                                                                                                                         const u32 t377 = load32(l1);
-                                                                                                                        l32 = t377;
+                                                                                                                        l33 = t377;
                                                                                                                         const u32 t378 = load32(l0 + 16ull);
-                                                                                                                        l33 = l32 + t378;
+                                                                                                                        l32 = l33 + t378;
                                                                                                                         const u32 t379 = load32(l0 + 24ull);
-                                                                                                                        if (t376 != (l33 + t379)) {
+                                                                                                                        if (t376 != (l32 + t379)) {
                                                                                                                             l2 = l0 + 32ull;
                                                                                                                             const u32 t381 = load32(l2);
                                                                                                                             l36 = t381;
                                                                                                                             const u64 t382 = load64(l0);
-                                                                                                                            l0 = t382 + ((u64)l33 << 3);
+                                                                                                                            l0 = t382 + ((u64)l32 << 3);
                                                                                                                             store8(l0, (u8)0u);
                                                                                                                             store32(l0 + 4ull, 0u);
                                                                                                                             store8(l0 + 1ull, (u8)l30);
-                                                                                                                            store32(l1, l32 + 1u);
+                                                                                                                            store32(l1, l33 + 1u);
                                                                                                                             store32(l2, l36);
                                                                                                                             goto L367;
                                                                                                                         }
@@ -22767,23 +22717,23 @@ static void engine_turn(u64 stack, u64 l0, u64 l1, u64 l2, u64 l3, u64 l4, u64 l
                                                                                                             v366 = 0u;
                                                                                                         }
                                                                                                         L366:;
-                                                                                                        l32 = v366;
+                                                                                                        l33 = v366;
                                                                                                         store8(l10, (u8)l30);
                                                                                                         store32(l10 + 4ull, 0u);
-                                                                                                        store8(l10 + 1ull, (u8)l32);
+                                                                                                        store8(l10 + 1ull, (u8)l33);
                                                                                                         stack = l12 + 16ull;
                                                                                                         goto L359;
                                                                                                     }
                                                                                                     L363:;
                                                                                                     store16(l25, (u16)0u);
                                                                                                     store8(l25 + 2u, (u8)0u);
-                                                                                                    store8(l8 + 156u, (u8)l30);
-                                                                                                    store32(l8 + 152u, l33);
-                                                                                                    store32(l8 + 148u, l40);
-                                                                                                    store32(l8 + 144u, l36);
-                                                                                                    l17 = l8 + 264ull;
+                                                                                                    store8(l8 + 276u, (u8)l30);
+                                                                                                    store32(l8 + 272u, l32);
+                                                                                                    store32(l8 + 268u, l40);
+                                                                                                    store32(l8 + 264u, l36);
+                                                                                                    l17 = l8 + 280ull;
                                                                                                     l1 = l9;
-                                                                                                    l10 = l8 + 144ull;
+                                                                                                    l10 = l8 + 264ull;
                                                                                                     l12 = l8 + 72ull;
                                                                                                     l0 = stack - 32ull;
                                                                                                     stack = l0;
@@ -22795,22 +22745,22 @@ static void engine_turn(u64 stack, u64 l0, u64 l1, u64 l2, u64 l3, u64 l4, u64 l
                                                                                                             const u64 t388 = load64(l10);
                                                                                                             store64(l2 + 16u, t388);
                                                                                                             functions_arguments_Arguments_next(stack, l2 + 8ull, l2 + 16ull, l1);
-                                                                                                            l33 = 3u;
+                                                                                                            l32 = 3u;
                                                                                                             u32 v389;
                                                                                                             {
                                                                                                                 const u32 t390 = load32(l2 + 12u);
                                                                                                                 l30 = t390;
                                                                                                                 const u32 t391 = load32(l2 + 8u);
-                                                                                                                l32 = t391;
-                                                                                                                if (l30 == l32) { v389 = 0u; goto L389; }
+                                                                                                                l33 = t391;
+                                                                                                                if (l30 == l33) { v389 = 0u; goto L389; }
                                                                                                                 const u64 t392 = load64(l1);
                                                                                                                 const u32 t393 = load32(l1 + 16ull);
-                                                                                                                const u32 t394 = l32;
-                                                                                                                l32 = t393;
-                                                                                                                l13 = (u64)(t394 + l32);
+                                                                                                                const u32 t394 = l33;
+                                                                                                                l33 = t393;
+                                                                                                                l13 = (u64)(t394 + l33);
                                                                                                                 l10 = t392 + (l13 << 3);
                                                                                                                 {
-                                                                                                                    l11 = (u64)(l30 + l32);
+                                                                                                                    l11 = (u64)(l30 + l33);
                                                                                                                     l1 = l11 - l13;
                                                                                                                     if (l1 <= 15ull) {
                                                                                                                         {
@@ -22906,12 +22856,12 @@ static void engine_turn(u64 stack, u64 l0, u64 l1, u64 l2, u64 l3, u64 l4, u64 l
                                                                                                                     store64(l12, t428 + 1ull);
                                                                                                                 }
                                                                                                                 L395:;
-                                                                                                                l33 = 4u;
+                                                                                                                l32 = 4u;
                                                                                                                 v389 = 5u;
                                                                                                             }
                                                                                                             L389:;
                                                                                                             l30 = v389;
-                                                                                                            store8(l17, (u8)l33);
+                                                                                                            store8(l17, (u8)l32);
                                                                                                             store32(l17 + 4ull, 0u);
                                                                                                             store8(l17 + 1ull, (u8)l30);
                                                                                                             stack = l2 + 32ull;
@@ -22926,10 +22876,10 @@ static void engine_turn(u64 stack, u64 l0, u64 l1, u64 l2, u64 l3, u64 l4, u64 l
                                                                                                 store16(l26, (u16)0u);
                                                                                                 store8(l26 + 2u, (u8)0u);
                                                                                                 store8(l8 + 260u, (u8)l30);
-                                                                                                store32(l8 + 256u, l33);
+                                                                                                store32(l8 + 256u, l32);
                                                                                                 store32(l8 + 252u, l40);
                                                                                                 store32(l8 + 248u, l36);
-                                                                                                l16 = l8 + 264ull;
+                                                                                                l16 = l8 + 280ull;
                                                                                                 l0 = l9;
                                                                                                 l12 = l8 + 248ull;
                                                                                                 l10 = l8 + 72ull;
@@ -22949,7 +22899,7 @@ static void engine_turn(u64 stack, u64 l0, u64 l1, u64 l2, u64 l3, u64 l4, u64 l
                                                                                                                             store64(l1 + 24u, t437);
                                                                                                                             functions_arguments_Arguments_next(stack, l1 + 16ull, l1 + 24ull, l0);
                                                                                                                             const u32 t438 = load32(l1 + 20u);
-                                                                                                                            l32 = t438;
+                                                                                                                            l33 = t438;
                                                                                                                             const u32 t439 = load32(l1 + 16u);
                                                                                                                             l30 = t439;
                                                                                                                             store64(l1 + 72u, 0ull);
@@ -22960,23 +22910,23 @@ static void engine_turn(u64 stack, u64 l0, u64 l1, u64 l2, u64 l3, u64 l4, u64 l
                                                                                                                             u32 v440;
                                                                                                                             {
                                                                                                                                 const u32 t441 = load32(l0 + 40ull);
-                                                                                                                                l33 = t441;
-                                                                                                                                if (l33 >= 8u) {
-                                                                                                                                    forms_work_Work_find_among_more(stack, l1, l0, l30, l32);
+                                                                                                                                l32 = t441;
+                                                                                                                                if (l32 >= 8u) {
+                                                                                                                                    forms_work_Work_find_among_more(stack, l1, l0, l30, l33);
                                                                                                                                     const u32 t443 = load32(l1 + 4u);
                                                                                                                                     l30 = t443;
                                                                                                                                     const u32 t444 = load8(l1);
                                                                                                                                     v440 = t444; goto L440;
                                                                                                                                 }
                                                                                                                                 {
-                                                                                                                                    if (l33 == 0) goto L445;
+                                                                                                                                    if (l32 == 0) goto L445;
                                                                                                                                     const u64 t446 = load64(l0);
                                                                                                                                     l13 = t446;
                                                                                                                                     const u64 t447 = load32(l13 + 4ull);
                                                                                                                                     const u32 t448 = load32(l0 + 16ull);
-                                                                                                                                    l33 = t448;
-                                                                                                                                    l12 = (u64)(l33 + l32);
-                                                                                                                                    l2 = (u64)(l30 + l33);
+                                                                                                                                    l32 = t448;
+                                                                                                                                    l12 = (u64)(l32 + l33);
+                                                                                                                                    l2 = (u64)(l30 + l32);
                                                                                                                                     if (t447 != (l12 - l2)) goto L445;
                                                                                                                                     l17 = 17ull - (l2 << 3);
                                                                                                                                     l2 = (l12 ^ 18446744073709551615ull) + l2;
@@ -22994,7 +22944,7 @@ static void engine_turn(u64 stack, u64 l0, u64 l1, u64 l2, u64 l3, u64 l4, u64 l
                                                                                                                                     }
                                                                                                                                 }
                                                                                                                                 L445:;
-                                                                                                                                forms_work_Work_find_among_few(stack, l1 + 8ull, l0, l30, l32);
+                                                                                                                                forms_work_Work_find_among_few(stack, l1 + 8ull, l0, l30, l33);
                                                                                                                                 const u32 t452 = load32(l1 + 12u);
                                                                                                                                 l30 = t452;
                                                                                                                                 const u32 t453 = load8(l1 + 8u);
@@ -23015,8 +22965,8 @@ static void engine_turn(u64 stack, u64 l0, u64 l1, u64 l2, u64 l3, u64 l4, u64 l
                                                                                                                 const u64 t454 = load64(l1 + 64u);
                                                                                                                 l12 = t454;
                                                                                                                 const u32 t455 = load32(l1 + 72u);
-                                                                                                                l32 = t455;
-                                                                                                                const u32 t456 = core_display_show_items2(stack, l1 + 40ull, 0u, l32, l10);
+                                                                                                                l33 = t455;
+                                                                                                                const u32 t456 = core_display_show_items2(stack, l1 + 40ull, 0u, l33, l10);
                                                                                                                 if (t456 & 255u) goto L430;
                                                                                                                 l0 = l10 + 16ull;
                                                                                                                 const u64 t457 = load64(l0);
@@ -23071,7 +23021,7 @@ static void engine_turn(u64 stack, u64 l0, u64 l1, u64 l2, u64 l3, u64 l4, u64 l
                                                                                                                     store64(l2, t475 + 1ull);
                                                                                                                 }
                                                                                                                 L471:;
-                                                                                                                const u32 t476 = core_display_show_items2(stack, l1 + 40ull, l32, (u32)l12, l10);
+                                                                                                                const u32 t476 = core_display_show_items2(stack, l1 + 40ull, l33, (u32)l12, l10);
                                                                                                                 if (t476 & 255u) goto L430;
                                                                                                             }
                                                                                                             L432:;
@@ -23088,24 +23038,24 @@ static void engine_turn(u64 stack, u64 l0, u64 l1, u64 l2, u64 l3, u64 l4, u64 l
                                                                                                     v429 = 5u;
                                                                                                 }
                                                                                                 L429:;
-                                                                                                l32 = v429;
+                                                                                                l33 = v429;
                                                                                                 store8(l16, (u8)l30);
                                                                                                 store32(l16 + 4ull, 0u);
-                                                                                                store8(l16 + 1ull, (u8)l32);
+                                                                                                store8(l16 + 1ull, (u8)l33);
                                                                                                 stack = l1 + 80ull;
                                                                                                 goto L359;
                                                                                             }
                                                                                             L361:;
                                                                                             const u32 t478 = load8(l8 + 210u);
-                                                                                            l39 = t478;
-                                                                                            l32 = 0u;
+                                                                                            l43 = t478;
+                                                                                            l33 = 0u;
                                                                                             store16(l27, (u16)0u);
                                                                                             store8(l27 + 2u, (u8)0u);
-                                                                                            store8(l8 + 180u, (u8)l30);
-                                                                                            store32(l8 + 176u, l33);
-                                                                                            store32(l8 + 172u, l40);
-                                                                                            store32(l8 + 168u, l36);
-                                                                                            store64(l8 + 272u, 0ull);
+                                                                                            store8(l8 + 156u, (u8)l30);
+                                                                                            store32(l8 + 152u, l32);
+                                                                                            store32(l8 + 148u, l40);
+                                                                                            store32(l8 + 144u, l36);
+                                                                                            store64(l8 + 288u, 0ull);
                                                                                             {
                                                                                                 if ((l37 - 5u) < 20u) goto L479;
                                                                                                 l30 = 0u;
@@ -23117,8 +23067,8 @@ static void engine_turn(u64 stack, u64 l0, u64 l1, u64 l2, u64 l3, u64 l4, u64 l
                                                                                                     }
                                                                                                 }
                                                                                                 L480:;
-                                                                                                l2 = l8 + 272ull;
-                                                                                                l1 = l8 + 168ull;
+                                                                                                l2 = l8 + 288ull;
+                                                                                                l1 = l8 + 144ull;
                                                                                                 l0 = stack - 32ull;
                                                                                                 stack = l0;
                                                                                                 {
@@ -23154,16 +23104,16 @@ static void engine_turn(u64 stack, u64 l0, u64 l1, u64 l2, u64 l3, u64 l4, u64 l
                                                                                                     trap();
                                                                                                 }
                                                                                                 L481:;
-                                                                                                const u32 t494 = load32(l8 + 276u);
-                                                                                                l32 = t494;
-                                                                                                const u32 t495 = load8(l8 + 273u);
+                                                                                                const u32 t494 = load32(l8 + 292u);
+                                                                                                l33 = t494;
+                                                                                                const u32 t495 = load8(l8 + 289u);
                                                                                                 l30 = t495;
-                                                                                                const u32 t496 = load8(l8 + 272u);
+                                                                                                const u32 t496 = load8(l8 + 288u);
                                                                                                 l37 = t496;
                                                                                                 goto L321;
                                                                                             }
                                                                                             L479:;
-                                                                                            store64(l8 + 280u, 0ull);
+                                                                                            store64(l8 + 296u, 0ull);
                                                                                             {
                                                                                                 {
                                                                                                     {
@@ -23208,28 +23158,28 @@ static void engine_turn(u64 stack, u64 l0, u64 l1, u64 l2, u64 l3, u64 l4, u64 l
                                                                                                                                                                             }
                                                                                                                                                                         }
                                                                                                                                                                         L516:;
-                                                                                                                                                                        functions_comparing_equal(stack, l8 + 280ull, l9, l8 + 168ull);
+                                                                                                                                                                        functions_comparing_equal(stack, l8 + 296ull, l9, l8 + 144ull);
                                                                                                                                                                         goto L322;
                                                                                                                                                                     }
                                                                                                                                                                     L515:;
-                                                                                                                                                                    functions_comparing_greater(stack, l8 + 280ull, l9, l8 + 168ull);
+                                                                                                                                                                    functions_comparing_greater(stack, l8 + 296ull, l9, l8 + 144ull);
                                                                                                                                                                     goto L322;
                                                                                                                                                                 }
                                                                                                                                                                 L514:;
-                                                                                                                                                                functions_arithmetic_arithmetic(stack, l8 + 280ull, l9, l39, l8 + 168ull);
+                                                                                                                                                                functions_arithmetic_arithmetic(stack, l8 + 296ull, l9, l43, l8 + 144ull);
                                                                                                                                                                 goto L322;
                                                                                                                                                             }
                                                                                                                                                             L513:;
-                                                                                                                                                            functions_bit_strings_union(stack, l8 + 280ull, l9, l8 + 168ull);
+                                                                                                                                                            functions_bit_strings_union(stack, l8 + 296ull, l9, l8 + 144ull);
                                                                                                                                                             goto L322;
                                                                                                                                                         }
                                                                                                                                                         L512:;
-                                                                                                                                                        functions_bit_strings_intersection(stack, l8 + 280ull, l9, l8 + 168ull);
+                                                                                                                                                        functions_bit_strings_intersection(stack, l8 + 296ull, l9, l8 + 144ull);
                                                                                                                                                         goto L322;
                                                                                                                                                     }
                                                                                                                                                     L511:;
-                                                                                                                                                    l12 = l8 + 280ull;
-                                                                                                                                                    l2 = l8 + 168ull;
+                                                                                                                                                    l12 = l8 + 296ull;
+                                                                                                                                                    l2 = l8 + 144ull;
                                                                                                                                                     l1 = stack - 64ull;
                                                                                                                                                     stack = l1;
                                                                                                                                                     {
@@ -23243,25 +23193,25 @@ static void engine_turn(u64 stack, u64 l0, u64 l1, u64 l2, u64 l3, u64 l4, u64 l
                                                                                                                                                             store64(l0 + 48u, t520);
                                                                                                                                                             functions_arguments_Arguments_next(stack, l0 + 8ull, l0 + 40ull, l9);
                                                                                                                                                             const u32 t521 = load32(l9 + 16ull);
-                                                                                                                                                            l32 = t521;
+                                                                                                                                                            l33 = t521;
                                                                                                                                                             const u32 t522 = load32(l0 + 8u);
                                                                                                                                                             l36 = t522;
                                                                                                                                                             const u32 t523 = load32(l0 + 12u);
-                                                                                                                                                            l33 = t523;
-                                                                                                                                                            l2 = (u64)(l32 + l33);
-                                                                                                                                                            l1 = (u64)(l32 + l36) - l2;
+                                                                                                                                                            l32 = t523;
+                                                                                                                                                            l2 = (u64)(l33 + l32);
+                                                                                                                                                            l1 = (u64)(l33 + l36) - l2;
                                                                                                                                                             const u64 t524 = load64(l9);
                                                                                                                                                             l2 = (t524 + (l2 << 3)) - 8ull;
-                                                                                                                                                            l30 = l33;
+                                                                                                                                                            l30 = l32;
                                                                                                                                                             L525:;
                                                                                                                                                             {
                                                                                                                                                                 {
-                                                                                                                                                                    l32 = l30;
+                                                                                                                                                                    l33 = l30;
                                                                                                                                                                     if (l1 == 0) goto L526;
                                                                                                                                                                     const u32 t527 = load8(l2);
                                                                                                                                                                     if (t527) goto L526;
                                                                                                                                                                     l1 = l1 + 1ull;
-                                                                                                                                                                    l30 = l32 - 1u;
+                                                                                                                                                                    l30 = l33 - 1u;
                                                                                                                                                                     l10 = l2 + 1ull;
                                                                                                                                                                     l2 = l2 - 8ull;
                                                                                                                                                                     const u32 t528 = load8(l10);
@@ -23269,10 +23219,10 @@ static void engine_turn(u64 stack, u64 l0, u64 l1, u64 l2, u64 l3, u64 l4, u64 l
                                                                                                                                                                 }
                                                                                                                                                                 L526:;
                                                                                                                                                             }
-                                                                                                                                                            store32(l0 + 28u, l33);
-                                                                                                                                                            store32(l0 + 24u, l32);
+                                                                                                                                                            store32(l0 + 28u, l32);
+                                                                                                                                                            store32(l0 + 24u, l33);
                                                                                                                                                             store32(l0 + 20u, 2u);
-                                                                                                                                                            functions_bit_strings_give_bits(stack, l0 + 56ull, l9, l36, l32, l0 + 20ull);
+                                                                                                                                                            functions_bit_strings_give_bits(stack, l0 + 56ull, l9, l36, l33, l0 + 20ull);
                                                                                                                                                             const u32 t529 = load16(l0 + 56u);
                                                                                                                                                             store16(l12, (u16)t529);
                                                                                                                                                             const u32 t530 = load32(l0 + 60u);
@@ -23286,61 +23236,61 @@ static void engine_turn(u64 stack, u64 l0, u64 l1, u64 l2, u64 l3, u64 l4, u64 l
                                                                                                                                                     goto L322;
                                                                                                                                                 }
                                                                                                                                                 L510:;
-                                                                                                                                                functions_bit_strings_shift(stack, l8 + 280ull, l9, l8 + 168ull);
+                                                                                                                                                functions_bit_strings_shift(stack, l8 + 296ull, l9, l8 + 144ull);
                                                                                                                                                 goto L322;
                                                                                                                                             }
                                                                                                                                             L509:;
-                                                                                                                                            functions_bit_strings_rotate(stack, l8 + 280ull, l9, l8 + 168ull);
+                                                                                                                                            functions_bit_strings_rotate(stack, l8 + 296ull, l9, l8 + 144ull);
                                                                                                                                             goto L322;
                                                                                                                                         }
                                                                                                                                         L508:;
-                                                                                                                                        functions_form_parts_call_segment(stack, l8 + 280ull, l9, l8 + 168ull);
+                                                                                                                                        functions_form_parts_call_segment(stack, l8 + 296ull, l9, l8 + 144ull);
                                                                                                                                         goto L322;
                                                                                                                                     }
                                                                                                                                     L507:;
-                                                                                                                                    functions_form_parts_call_character(stack, l8 + 280ull, l9, l8 + 168ull);
+                                                                                                                                    functions_form_parts_call_character(stack, l8 + 296ull, l9, l8 + 144ull);
                                                                                                                                     goto L322;
                                                                                                                                 }
                                                                                                                                 L506:;
-                                                                                                                                functions_form_parts_call_number(stack, l8 + 280ull, l9, l8 + 168ull);
+                                                                                                                                functions_form_parts_call_number(stack, l8 + 296ull, l9, l8 + 144ull);
                                                                                                                                 goto L322;
                                                                                                                             }
                                                                                                                             L505:;
-                                                                                                                            functions_form_parts_initial_part(stack, l8 + 280ull, l9, l8 + 168ull);
+                                                                                                                            functions_form_parts_initial_part(stack, l8 + 296ull, l9, l8 + 144ull);
                                                                                                                             goto L322;
                                                                                                                         }
                                                                                                                         L504:;
-                                                                                                                        functions_form_parts_call_restore(stack, l8 + 280ull, l9, l8 + 168ull);
+                                                                                                                        functions_form_parts_call_restore(stack, l8 + 296ull, l9, l8 + 144ull);
                                                                                                                         goto L322;
                                                                                                                     }
                                                                                                                     L503:;
-                                                                                                                    functions_form_calls_define_string(stack, l8 + 280ull, l9, l8 + 168ull);
+                                                                                                                    functions_form_calls_define_string(stack, l8 + 296ull, l9, l8 + 144ull);
                                                                                                                     goto L322;
                                                                                                                 }
                                                                                                                 L502:;
-                                                                                                                functions_form_calls_segment_string(stack, l8 + 280ull, l9, l8 + 168ull);
+                                                                                                                functions_form_calls_segment_string(stack, l8 + 296ull, l9, l8 + 144ull);
                                                                                                                 goto L322;
                                                                                                             }
                                                                                                             L501:;
-                                                                                                            const u64 t531 = load64(l8 + 176u);
-                                                                                                            store64(l8 + 216u, t531);
-                                                                                                            const u64 t532 = load64(l8 + 168u);
-                                                                                                            store64(l8 + 208u, t532);
-                                                                                                            const u32 t533 = load8(l8 + 220u);
-                                                                                                            l32 = t533;
-                                                                                                            functions_arguments_Arguments_next(stack, l8 + 24ull, l8 + 208ull, l9);
+                                                                                                            const u64 t531 = load64(l8 + 152u);
+                                                                                                            store64(l8 + 176u, t531);
+                                                                                                            const u64 t532 = load64(l8 + 144u);
+                                                                                                            store64(l8 + 168u, t532);
+                                                                                                            const u32 t533 = load8(l8 + 180u);
+                                                                                                            l33 = t533;
+                                                                                                            functions_arguments_Arguments_next(stack, l8 + 24ull, l8 + 168ull, l9);
                                                                                                             const u32 t534 = load32(l8 + 28u);
                                                                                                             l30 = t534;
                                                                                                             const u32 t535 = load32(l8 + 24u);
-                                                                                                            l33 = t535;
+                                                                                                            l32 = t535;
                                                                                                             u32 v536;
                                                                                                             {
                                                                                                                 const u32 t537 = load32(l9 + 40ull);
                                                                                                                 l37 = t537;
                                                                                                                 if (l37 >= 8u) {
-                                                                                                                    forms_work_Work_find_among_more(stack, l8 + 8ull, l9, l33, l30);
+                                                                                                                    forms_work_Work_find_among_more(stack, l8 + 8ull, l9, l32, l30);
                                                                                                                     const u32 t539 = load32(l8 + 12u);
-                                                                                                                    l33 = t539;
+                                                                                                                    l32 = t539;
                                                                                                                     const u32 t540 = load8(l8 + 8u);
                                                                                                                     v536 = t540; goto L536;
                                                                                                                 }
@@ -23348,7 +23298,7 @@ static void engine_turn(u64 stack, u64 l0, u64 l1, u64 l2, u64 l3, u64 l4, u64 l
                                                                                                                     if (l37 == 0) goto L541;
                                                                                                                     const u64 t542 = load32(l0 + 4ull);
                                                                                                                     l2 = (u64)(l30 + l35);
-                                                                                                                    l14 = (u64)(l33 + l35);
+                                                                                                                    l14 = (u64)(l32 + l35);
                                                                                                                     if (t542 != (l2 - l14)) goto L541;
                                                                                                                     l12 = 17ull - (l14 << 3);
                                                                                                                     l14 = (l2 ^ 18446744073709551615ull) + l14;
@@ -23366,9 +23316,9 @@ static void engine_turn(u64 stack, u64 l0, u64 l1, u64 l2, u64 l3, u64 l4, u64 l
                                                                                                                     }
                                                                                                                 }
                                                                                                                 L541:;
-                                                                                                                forms_work_Work_find_among_few(stack, l8 + 16ull, l9, l33, l30);
+                                                                                                                forms_work_Work_find_among_few(stack, l8 + 16ull, l9, l32, l30);
                                                                                                                 const u32 t546 = load32(l8 + 20u);
-                                                                                                                l33 = t546;
+                                                                                                                l32 = t546;
                                                                                                                 const u32 t547 = load8(l8 + 16u);
                                                                                                                 v536 = t547;
                                                                                                             }
@@ -23377,26 +23327,26 @@ static void engine_turn(u64 stack, u64 l0, u64 l1, u64 l2, u64 l3, u64 l4, u64 l
                                                                                                             goto L323;
                                                                                                         }
                                                                                                         L500:;
-                                                                                                        functions_form_calls_delete_definition(stack, l8 + 280ull, l9, l8 + 168ull);
+                                                                                                        functions_form_calls_delete_definition(stack, l8 + 296ull, l9, l8 + 144ull);
                                                                                                         goto L322;
                                                                                                     }
                                                                                                     L499:;
-                                                                                                    functions_form_calls_delete_all(stack, l8 + 280ull, l9);
+                                                                                                    functions_form_calls_delete_all(stack, l8 + 296ull, l9);
                                                                                                     goto L322;
                                                                                                 }
                                                                                                 L498:;
-                                                                                                functions_form_calls_list_names(stack, l8 + 280ull, l9, l8 + 168ull);
+                                                                                                functions_form_calls_list_names(stack, l8 + 296ull, l9, l8 + 144ull);
                                                                                                 goto L322;
                                                                                             }
                                                                                             L497:;
-                                                                                            store8(l8 + 280u, (u8)1u);
+                                                                                            store8(l8 + 296u, (u8)1u);
                                                                                             goto L322;
                                                                                         }
                                                                                         L360:;
-                                                                                        l10 = l8 + 264ull;
+                                                                                        l10 = l8 + 280ull;
                                                                                         l0 = l9;
                                                                                         const u32 t548 = load8(l9 + 56ull);
-                                                                                        l32 = t548;
+                                                                                        l33 = t548;
                                                                                         l1 = l8 + 112ull;
                                                                                         l12 = stack - 16ull;
                                                                                         stack = l12;
@@ -23404,8 +23354,8 @@ static void engine_turn(u64 stack, u64 l0, u64 l1, u64 l2, u64 l3, u64 l4, u64 l
                                                                                             {
                                                                                                 l16 = l0 + 20ull;
                                                                                                 const u32 t551 = load32(l16);
-                                                                                                l33 = t551;
-                                                                                                devices_slice_source_SliceSourceSource_take_held(stack, l1, l32, l0);
+                                                                                                l32 = t551;
+                                                                                                devices_slice_source_SliceSourceSource_take_held(stack, l1, l33, l0);
                                                                                                 const u64 t552 = l10;
                                                                                                 u32 v553;
                                                                                                 {
@@ -23429,7 +23379,7 @@ static void engine_turn(u64 stack, u64 l0, u64 l1, u64 l2, u64 l3, u64 l4, u64 l
                                                                                                                 store64(l1, l2 + 1ull);
                                                                                                                 const u32 t562 = load8(l2);
                                                                                                                 l30 = t562;
-                                                                                                                if (l30 == l32) {
+                                                                                                                if (l30 == l33) {
                                                                                                                     l30 = 0u;
                                                                                                                     v553 = 1u; goto L553;
                                                                                                                 }
@@ -23461,14 +23411,14 @@ static void engine_turn(u64 stack, u64 l0, u64 l1, u64 l2, u64 l3, u64 l4, u64 l
                                                                                                                     store32(l17, l39);
                                                                                                                 }
                                                                                                                 L564:;
-                                                                                                                devices_slice_source_SliceSourceSource_take_held(stack, l1, l32, l0);
+                                                                                                                devices_slice_source_SliceSourceSource_take_held(stack, l1, l33, l0);
                                                                                                                 const u32 t573 = load8(l1 + 17ull);
                                                                                                                 if (t573 == 0) goto L557;
                                                                                                             }
                                                                                                         }
                                                                                                         L555:;
                                                                                                         const u32 t574 = load32(l16);
-                                                                                                        l30 = t574 == l33;
+                                                                                                        l30 = t574 == l32;
                                                                                                         v553 = l30 ? 4u : 1u; goto L553;
                                                                                                     }
                                                                                                     L554:;
@@ -23490,16 +23440,16 @@ static void engine_turn(u64 stack, u64 l0, u64 l1, u64 l2, u64 l3, u64 l4, u64 l
                                                                                         L549:;
                                                                                     }
                                                                                     L359:;
-                                                                                    const u32 t576 = load32(l8 + 268u);
-                                                                                    l32 = t576;
-                                                                                    const u32 t577 = load8(l8 + 265u);
+                                                                                    const u32 t576 = load32(l8 + 284u);
+                                                                                    l33 = t576;
+                                                                                    const u32 t577 = load8(l8 + 281u);
                                                                                     l30 = t577;
-                                                                                    const u32 t578 = load8(l8 + 264u);
+                                                                                    const u32 t578 = load8(l8 + 280u);
                                                                                     l37 = t578;
                                                                                     goto L321;
                                                                                 }
                                                                                 L355:;
-                                                                                l32 = 0u;
+                                                                                l33 = 0u;
                                                                                 goto L320;
                                                                             }
                                                                             L328:;
@@ -23525,45 +23475,48 @@ static void engine_turn(u64 stack, u64 l0, u64 l1, u64 l2, u64 l3, u64 l4, u64 l
                                                                 }
                                                                 L325:;
                                                                 store64(l9 + 44ull, 0ull);
-                                                                l33 = 0u;
+                                                                l32 = 0u;
                                                                 goto L323;
                                                             }
                                                             L324:;
-                                                            store32(l8 + 284u, 0u);
-                                                            store16(l8 + 280u, (u16)1u);
+                                                            store32(l8 + 300u, 0u);
+                                                            store16(l8 + 296u, (u16)1u);
                                                             goto L322;
                                                         }
                                                         L323:;
-                                                        const u32 t582 = load32(l8 + 212u);
+                                                        const u32 t582 = load32(l8 + 172u);
                                                         l30 = t582;
-                                                        const u32 t583 = load32(l8 + 208u);
+                                                        const u32 t583 = load32(l8 + 168u);
                                                         l37 = t583;
+                                                        const u64 t584 = l8;
+                                                        u32 v585;
                                                         {
                                                             {
                                                                 {
                                                                     {
                                                                         {
-                                                                            if ((l32 & 1u) == 0) goto L588;
-                                                                            if (l30 >= l37) goto L588;
-                                                                            const u32 t589 = load32(l9 + 44ull);
+                                                                            if ((l33 & 1u) == 0) goto L589;
+                                                                            if (l30 >= l37) goto L589;
+                                                                            store32(l8 + 228u, 0u);
+                                                                            store64(l8 + 208u, l9);
                                                                             const u32 t590 = load32(l9 + 48ull);
-                                                                            const u32 t591 = store_form_cells_place_of(stack, l9, t589, t590, l33);
-                                                                            l36 = t591;
-                                                                            const u64 t592 = load64(l9);
-                                                                            l14 = t592;
+                                                                            store32(l8 + 224u, t590);
+                                                                            const u64 t591 = load64(l9 + 40ull);
+                                                                            store64(l8 + 216u, t591);
+                                                                            const u32 t592 = store_form_finder_FormFinder_place_of(stack, l8 + 208ull, l32);
+                                                                            l36 = t592;
+                                                                            const u64 t593 = load64(l9);
+                                                                            l14 = t593;
                                                                             l2 = l14 + ((u64)l36 << 3);
-                                                                            const u32 t593 = load32(l2 + 12ull);
-                                                                            l43 = t593;
-                                                                            const u32 t594 = load32(l2 + 20ull);
-                                                                            l39 = t594;
-                                                                            l32 = l43 - l39;
-                                                                            if (l32 == 0) {
-                                                                                l32 = 0u;
-                                                                                goto L584;
-                                                                            }
+                                                                            const u32 t594 = load32(l2 + 12ull);
+                                                                            l44 = t594;
+                                                                            const u32 t595 = load32(l2 + 20ull);
+                                                                            l39 = t595;
+                                                                            l33 = l44 - l39;
+                                                                            if (l33 == 0) { v585 = 0u; goto L585; }
                                                                             const u32 t596 = load32(l2 + 4ull);
-                                                                            l44 = (l36 + t596) + 3u;
-                                                                            l36 = l39 + l44;
+                                                                            l43 = (l36 + t596) + 3u;
+                                                                            l36 = l39 + l43;
                                                                             {
                                                                                 const u32 t598 = load32(l9 + 28ull);
                                                                                 l39 = t598;
@@ -23571,53 +23524,53 @@ static void engine_turn(u64 stack, u64 l0, u64 l1, u64 l2, u64 l3, u64 l4, u64 l
                                                                                 const u32 t600 = load32(l9 + 24ull);
                                                                                 l42 = t600;
                                                                                 const u32 t601 = load32(l9 + 16ull);
-                                                                                if (l32 <= (l39 - (t599 + (l42 + t601)))) {
-                                                                                    l1 = (u64)l32;
+                                                                                if (l33 <= (l39 - (t599 + (l42 + t601)))) {
+                                                                                    l1 = (u64)l33;
                                                                                     l12 = (u64)l36;
                                                                                     {
                                                                                         {
-                                                                                            if (l32 >= 8u) {
-                                                                                                if (l32 == 8u) goto L603;
+                                                                                            if (l33 >= 8u) {
+                                                                                                if (l33 == 8u) goto L603;
                                                                                                 l2 = l14 + (l12 << 3);
                                                                                                 l0 = l1;
                                                                                                 goto L604;
                                                                                             }
-                                                                                            if (l32 >= 4u) {
+                                                                                            if (l33 >= 4u) {
                                                                                                 l2 = l14 + (l12 << 3);
                                                                                                 const u32 t607 = load8(l2 + 24ull);
                                                                                                 const u32 t608 = load8(l2 + 16ull);
                                                                                                 const u32 t609 = load8(l2 + 8ull);
                                                                                                 const u32 t610 = load8(l2);
-                                                                                                if (((t607 + t608) | (t609 + t610)) & 255u) goto L588;
+                                                                                                if (((t607 + t608) | (t609 + t610)) & 255u) goto L589;
                                                                                                 l0 = l14 + ((l1 + l12) << 3);
                                                                                                 const u32 t611 = load8(l0 - 8ull);
                                                                                                 const u32 t612 = load8(l0 - 16ull);
                                                                                                 const u32 t613 = load8(l0 - 24ull);
                                                                                                 l0 = l0 - 32ull;
                                                                                                 const u32 t614 = load8(l0);
-                                                                                                if (((t611 + t612) | (t613 + t614)) & 255u) goto L588;
-                                                                                                l30 = l32 + l42;
+                                                                                                if (((t611 + t612) | (t613 + t614)) & 255u) goto L589;
+                                                                                                l30 = l33 + l42;
                                                                                                 l12 = (u64)(l39 - l30);
                                                                                                 core_slice_edits_slice_T_copy_from_slice(stack, l14 + (l12 << 3), l2, 4ull);
                                                                                                 core_slice_edits_slice_T_copy_from_slice(stack, (((l1 + l12) << 3) + l14) - 32ull, l0, 4ull);
-                                                                                                goto L585;
+                                                                                                goto L586;
                                                                                             }
                                                                                             l2 = l14 + (l12 << 3);
                                                                                             const u32 t615 = load8(l2);
                                                                                             l36 = t615;
-                                                                                            if (l32 == 1u) goto L597;
+                                                                                            if (l33 == 1u) goto L597;
                                                                                             const u32 t616 = load8(l2 + 8ull);
-                                                                                            if (t616 | (l36 & 255u)) goto L588;
+                                                                                            if (t616 | (l36 & 255u)) goto L589;
                                                                                             l0 = l14 + ((l1 + l12) << 3);
                                                                                             const u32 t617 = load8(l0 - 8ull);
                                                                                             l0 = l0 - 16ull;
                                                                                             const u32 t618 = load8(l0);
-                                                                                            if (t617 | t618) goto L588;
-                                                                                            l30 = l32 + l42;
+                                                                                            if (t617 | t618) goto L589;
+                                                                                            l30 = l33 + l42;
                                                                                             l12 = (u64)(l39 - l30);
                                                                                             core_slice_edits_slice_T_copy_from_slice(stack, l14 + (l12 << 3), l2, 2ull);
                                                                                             core_slice_edits_slice_T_copy_from_slice(stack, (((l1 + l12) << 3) + l14) - 16ull, l0, 2ull);
-                                                                                            goto L585;
+                                                                                            goto L586;
                                                                                         }
                                                                                         L604:;
                                                                                         L619:;
@@ -23630,7 +23583,7 @@ static void engine_turn(u64 stack, u64 l0, u64 l1, u64 l2, u64 l3, u64 l4, u64 l
                                                                                             const u32 t625 = load8(l2 + 16ull);
                                                                                             const u32 t626 = load8(l2 + 8ull);
                                                                                             const u32 t627 = load8(l2);
-                                                                                            if (t620 | ((t621 + (t622 + (t623 + (t624 + (t625 + (t626 + t627)))))) & 255u)) goto L588;
+                                                                                            if (t620 | ((t621 + (t622 + (t623 + (t624 + (t625 + (t626 + t627)))))) & 255u)) goto L589;
                                                                                             l2 = l2 + 64ull;
                                                                                             l0 = l0 - 8ull;
                                                                                             if (l0 >= 9ull) goto L619;
@@ -23647,11 +23600,11 @@ static void engine_turn(u64 stack, u64 l0, u64 l1, u64 l2, u64 l3, u64 l4, u64 l
                                                                                     const u32 t633 = load8(l2 - 24ull);
                                                                                     const u32 t634 = load8(l2 - 16ull);
                                                                                     const u32 t635 = load8(l2 - 8ull);
-                                                                                    if ((((((((t628 + t629) + t630) + t631) + t632) + t633) + t634) & 255u) | t635) goto L588;
-                                                                                    l30 = l32 + l42;
+                                                                                    if ((((((((t628 + t629) + t630) + t631) + t632) + t633) + t634) & 255u) | t635) goto L589;
+                                                                                    l30 = l33 + l42;
                                                                                     l10 = (u64)(l39 - l30);
-                                                                                    if (l32 > 24u) goto L587;
-                                                                                    if (l32 != 8u) {
+                                                                                    if (l33 > 24u) goto L588;
+                                                                                    if (l33 != 8u) {
                                                                                         l13 = l14 - 64ull;
                                                                                         l2 = l13 + (l0 << 3);
                                                                                         l0 = l13 + ((l1 + l10) << 3);
@@ -23666,31 +23619,30 @@ static void engine_turn(u64 stack, u64 l0, u64 l1, u64 l2, u64 l3, u64 l4, u64 l
                                                                                     }
                                                                                     core_slice_edits_slice_T_copy_from_slice(stack, l14 + (l10 << 3), l14 + (l12 << 3), 8ull);
                                                                                     store32(l9 + 24ull, l30);
-                                                                                    goto L584;
+                                                                                    v585 = l33; goto L585;
                                                                                 }
                                                                                 store_item_copies_load_items_over_spare(stack, l8, l9, l36, l43 + l44);
                                                                                 const u32 t638 = load8(l8);
-                                                                                if (t638 != 1u) goto L588;
+                                                                                if (t638 != 1u) goto L589;
                                                                                 const u32 t639 = load32(l8 + 4u);
-                                                                                l32 = t639;
-                                                                                goto L584;
+                                                                                v585 = t639; goto L585;
                                                                             }
                                                                             L597:;
-                                                                            if ((l36 & 255u) == 0) goto L586;
+                                                                            if ((l36 & 255u) == 0) goto L587;
                                                                         }
-                                                                        L588:;
-                                                                        const u32 t640 = forms_work_Work_fill_body(stack, l9, l33, l37, l30);
+                                                                        L589:;
+                                                                        const u32 t640 = forms_work_Work_fill_body(stack, l9, l32, l37, l30);
                                                                         l30 = t640;
-                                                                        store32(l8 + 284u, 0u);
-                                                                        store8(l8 + 281u, (u8)0u);
-                                                                        store8(l8 + 280u, (u8)l30);
+                                                                        store32(l8 + 300u, 0u);
+                                                                        store8(l8 + 297u, (u8)0u);
+                                                                        store8(l8 + 296u, (u8)l30);
                                                                         goto L322;
                                                                     }
-                                                                    L587:;
+                                                                    L588:;
                                                                     space_copies_copy_long(stack, l14, l12, l0, l10);
-                                                                    goto L585;
+                                                                    goto L586;
                                                                 }
-                                                                L586:;
+                                                                L587:;
                                                                 l30 = l42 + 1u;
                                                                 l0 = l14 + ((u64)(l39 - l30) << 3);
                                                                 store8(l0, (u8)0u);
@@ -23699,19 +23651,20 @@ static void engine_turn(u64 stack, u64 l0, u64 l1, u64 l2, u64 l3, u64 l4, u64 l
                                                                 const u32 t642 = load8(l2 + 1ull);
                                                                 store8(l0 + 1ull, (u8)t642);
                                                             }
-                                                            L585:;
+                                                            L586:;
                                                             store32(l9 + 24ull, l30);
+                                                            v585 = l33;
                                                         }
-                                                        L584:;
-                                                        store32(l8 + 284u, l32);
-                                                        store16(l8 + 280u, (u16)2u);
+                                                        L585:;
+                                                        store32(t584 + 300u, v585);
+                                                        store16(l8 + 296u, (u16)2u);
                                                     }
                                                     L322:;
-                                                    const u32 t643 = load32(l8 + 284u);
-                                                    l32 = t643;
-                                                    const u32 t644 = load8(l8 + 281u);
+                                                    const u32 t643 = load32(l8 + 300u);
+                                                    l33 = t643;
+                                                    const u32 t644 = load8(l8 + 297u);
                                                     l30 = t644;
-                                                    const u32 t645 = load8(l8 + 280u);
+                                                    const u32 t645 = load8(l8 + 296u);
                                                     l37 = t645;
                                                 }
                                                 L321:;
@@ -23763,7 +23716,7 @@ static void engine_turn(u64 stack, u64 l0, u64 l1, u64 l2, u64 l3, u64 l4, u64 l
                                             L651:;
                                             store32(l9 + 20ull, l34);
                                             store32(l9 + 32ull, l30);
-                                            v319 = l32 + l35;
+                                            v319 = l33 + l35;
                                         }
                                         L319:;
                                         l31 = v319;
@@ -23836,7 +23789,7 @@ static void engine_turn(u64 stack, u64 l0, u64 l1, u64 l2, u64 l3, u64 l4, u64 l
             store64(l20 + 8u, l9);
             store32(l20 + 4u, l31);
             store32(l20, l46);
-            stack = l8 + 288ull;
+            stack = l8 + 304ull;
             goto L1;
         }
         trap();
