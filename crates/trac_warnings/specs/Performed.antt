@@ -1,7 +1,8 @@
 -- What is suspicious in a call that is about to be performed.
 use Rattle.std.specs.Prelude.{◌≡◌, ℕ, ◌+◌, ◌-◌, ◌^◌, ◌==◌, ◌&&◌, ◌||◌, Bool, true, false, not, min}
 use Rattle.std.specs.Prelude.{nat_le, nat_lt}
-use Rattle.std.specs.Prelude.{List, [], ◌∷◌, ◌++◌, length, map, slice_get, Option, None, Some, option_map, if◌then◌else◌}
+use Rattle.std.specs.Prelude.{List, [], ◌∷◌, ◌++◌, length, map, slice_get, Option, None, Some}
+use Rattle.std.specs.Prelude.{option_map, if◌then◌else◌}
 use Rattle.std.specs.Bool.{nat_eq}
 use Rattle.std.specs.Option.{option_eq}
 use Rattle.trac_language.specs.Form.{Form}
