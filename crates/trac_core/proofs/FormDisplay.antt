@@ -32,10 +32,6 @@ pub prints-nothing : {A E : Type 0} (r : Result A E) (old new a : Text) → new 
 prints-nothing (Ok x) old new a first = first
 prints-nothing (Err e) old new a first = (a, ([], (sym (append-nil a), first)))
 
--- bytes of which the first were written
-pub breaks-bytes : (old mid new bytes : Text) (k : ℕ) → mid ≡ old ++ take k bytes → new ≡ mid → Breaks old bytes new
-breaks-bytes old mid new bytes k first same = (take k bytes, (drop k bytes, (sym (take-append-drop k bytes), same ∙ first)))
-
 -- ---- the items of a form
 
 show-one : (body : List Item) (k : ℕ) → k < length body → show (slice_range body k (k + 1)) ≡ shown (slice_get body k)

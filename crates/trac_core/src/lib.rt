@@ -15,7 +15,7 @@ pub use display::{display_len, show_form};
 pub use machine::{Awaits, Machine, OpenCall, Progress, ScanningRule};
 pub use runs::is_layout;
 pub use trac_devices::{
-    BufferedReader, BufferedWriter, Input, Next, Output, ReadSource, RetryingReader,
+    BufferedReader, BufferedWriter, Characters, Input, Next, Output, ReadSource, RetryingReader,
     RetryingWriter, Sink, SinkFailed, SliceSink, SliceSource, Source, TRIES, WriteSink,
     write_characters,
 };
