@@ -4,4 +4,4 @@ use Rattle.trac_tests.proofs.buffers.writes_in_runs.Given as goal
 
 -- the cells so far are characters
 abbrev pub invariant-loop-byte : goal.invariant-loop-byte
-invariant-loop-byte l = All IsByte l.cells.items
+invariant-loop-byte g l = All IsByte l.cells.items
