@@ -1,7 +1,4 @@
-use Rattle.trac_c.proofs.Words.{◌∙◌, length}
 use Rattle.trac_devices.proofs.PutTexts.{prints-err, breaks-text}
-use Rattle.trac_c.specs.Turned.{written_to}
-use Rattle.trac_c.proofs.Printing.{put-before}
 use Rattle.trac_c.proofs.devices.RoomySinkSink.put_all.Goals as goal
 
 pub returns-in_err-put-clause-prints : goal.returns-in_err-put-clause-prints
