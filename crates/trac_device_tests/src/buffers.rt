@@ -2,7 +2,7 @@
 ghost use Rattle.std.specs.Prelude.{◌≡◌, ◌≤◌, length};
 
 use crate::fakes::{FakeReader, FakeWriter};
-use crate::space::are_bytes;
+use crate::taking::takes;
 use std::alloc::Global;
 use std::io::{Read, Write};
 use std::process::Abort;
@@ -136,19 +136,6 @@ fn put_held(bytes: &mut Vec<u8>, cells: &[Cell]) -> Result<(), Fail> {
         }
     }
     Ok(())
-}
-
-// Takes what a source holds, up to an apostrophe, into the cells of a block.
-fn takes<I: Source>(rt: &impl Abort, source: &mut I, block: &mut [Cell], want: &str)
-    requires { length block.old ≤ 16777216 }
-    ensures { I.failure_count source.new ≡ I.failure_count source.old }
-{
-    let mut work = Work::over(block);
-    source.take_held(b'\'', &mut work);
-    assert!(rt;
-        are_bytes(work.neutral_part(0, work.neutral_len()), want.as_bytes()),
-        "{want}"
-    );
 }
 
 #[test]

@@ -1,9 +1,8 @@
-//! Runs over devices that fail, and over sources, sinks, readers and writers of the tests' own.
+//! Runs over sources, sinks, readers and writers of the tests' own, of which some fail.
 ghost use Rattle.std.specs.Prelude.{◌≡◌, ◌+◌, ◌-◌, ◌<◌, [], false, ⊤};
 
-use super::{AMPLE, Faults, HELLO, MANY, NO_FAULTS, SHOWN, came_to, faulty};
 use crate::fakes::{FakeReader, FakeWriter};
-use crate::space::are_bytes;
+use crate::taking::takes;
 use std::io;
 use std::io::{ErrorKind, Read, Write};
 use std::process::Abort;
@@ -12,6 +11,14 @@ use trac_core::{
     Cell, Fate, Machine, Next, ReadSource, Report, RetryingReader, RetryingWriter, Sink,
     SinkFailed, SliceSource, Source, TRIES, Work, WriteSink, write_characters,
 };
+
+const AMPLE: usize = 1000;
+
+const MANY: u64 = 1_000_000;
+
+const HELLO: &str = "#(ps,hello)'";
+
+const SHOWN: &str = "#(ds,F,a-b)#(ss,F,-)#(pf,F)'";
 
 const LETTERS: &str = "#(ps,abcdefghijklmnopqrst)'";
 
@@ -213,57 +220,36 @@ impl Write for InterruptedWriter<'_> {
     }
 }
 
-/// Takes what a source over memory holds, up to an apostrophe, into so many free cells.
-fn takes(rt: &impl Abort, source: &mut SliceSource, cells: usize, want: &str)
-    ensures { source.new.failures ≡ source.old.failures }
-{
-    let mut block = [Cell::Comma; 8];
-    let mut work = Work::over(&mut block[..cells.min(8)]);
-    source.take_held(b'\'', &mut work);
-    assert!(rt;
-        are_bytes(work.neutral_part(0, work.neutral_len()), want.as_bytes()),
-        "{want}"
-    );
-}
-
-/// A source that holds nothing puts nothing.
-fn takes_nothing<I: Source>(rt: &impl Abort, source: &mut I)
-    ensures { I.failure_count source.new ≡ I.failure_count source.old }
-{
-    let mut block = [Cell::Comma; 8];
-    let mut work = Work::over(&mut block);
-    source.take_held(b'\'', &mut work);
-    assert_eq!(rt; work.neutral_len(), 0);
-}
-
 #[test]
 fn bytes_that_are_held(rt: HostRuntime) {
+    let mut block = [Cell::Comma; 8];
     let mut source = SliceSource::new(b"abcde'fg", None);
-    takes(&rt, &mut source, 0, "");
-    takes(&rt, &mut source, 3, "abc");
-    takes(&rt, &mut source, 8, "de");
-    takes(&rt, &mut source, 8, "");
+    takes(&rt, &mut source, &mut block[..0], "");
+    takes(&rt, &mut source, &mut block[..3], "abc");
+    takes(&rt, &mut source, &mut block, "de");
+    takes(&rt, &mut source, &mut block, "");
     assert_eq!(rt; source.next(), Next::Byte(b'\''));
-    takes(&rt, &mut source, 8, "fg");
-    takes(&rt, &mut source, 8, "");
+    takes(&rt, &mut source, &mut block, "fg");
+    takes(&rt, &mut source, &mut block, "");
     assert_eq!(rt; source.next(), Next::End);
-    takes(&rt, &mut source, 8, "");
+    takes(&rt, &mut source, &mut block, "");
     assert_eq!(rt; source.next(), Next::End);
     let mut failing = SliceSource::new(b"abcde'fg", Some(4));
-    takes(&rt, &mut failing, 8, "abcd");
+    takes(&rt, &mut failing, &mut block, "abcd");
     assert_eq!(rt; failing.next(), Next::Failed);
-    takes(&rt, &mut failing, 8, "");
+    takes(&rt, &mut failing, &mut block, "");
     assert_eq!(rt; failing.failures(), 1);
 }
 
 #[test]
 fn bytes_that_are_not_held(rt: HostRuntime) {
+    let mut block = [Cell::Comma; 8];
     let mut source = FakeSource::new(b"abc", 0, false);
-    takes_nothing(&rt, &mut source);
+    takes(&rt, &mut source, &mut block, "");
     assert_eq!(rt; source.calls, 0);
     assert_eq!(rt; source.next(), Next::Byte(b'a'));
     let mut reader = ReadSource::new(FakeReader::new(b"abc", usize::MAX, 0));
-    takes_nothing(&rt, &mut reader);
+    takes(&rt, &mut reader, &mut block, "");
     assert_eq!(rt; reader.next(), Next::Byte(b'a'));
 }
 
@@ -272,102 +258,6 @@ fn characters_of_cells(rt: HostRuntime) {
     let mut bytes = [b'x'; 3];
     write_characters(&[Cell::Byte(b'a'), Cell::Comma], &mut bytes[..2]);
     assert!(rt; &bytes[..] == b"a\0x".as_slice());
-}
-
-#[test]
-fn sources_that_fail(rt: HostRuntime) {
-    for place in 0..12u32 {
-        let fails = Faults {
-            source: Some(u64::from(place)),
-            ..NO_FAULTS
-        };
-        let got = faulty(HELLO.as_bytes(), fails, AMPLE);
-        came_to(&rt, &got, "", Fate::InputFailed, 8, (8 + place).max(11));
-    }
-    let rows = &[
-        (HELLO, 12, AMPLE, "hello", Fate::InputFailed, 28, 19),
-        (HELLO, 13, AMPLE, "hello", Fate::InputEnded, 29, 19),
-        ("#(p", 3, AMPLE, "", Fate::InputFailed, 8, 11),
-        ("#(p", 3, 11, "", Fate::InputFailed, 8, 11),
-        ("#(ps", 4, 11, "", Fate::Workspace, 8, 11),
-        ("#(ps", 4, 12, "", Fate::InputFailed, 8, 12),
-    ];
-    for (script, place, cells, output, fate, steps, peak) in rows {
-        let fails = Faults {
-            source: Some(*place),
-            ..NO_FAULTS
-        };
-        let got = faulty(script.as_bytes(), fails, *cells);
-        came_to(&rt, &got, output, *fate, *steps, *peak);
-    }
-}
-
-#[test]
-fn sinks_that_fail(rt: HostRuntime) {
-    for (taken, output) in ["", "h", "he", "hel", "hell"].iter().enumerate() {
-        let full = Faults { taken, ..NO_FAULTS };
-        let got = faulty(HELLO.as_bytes(), full, AMPLE);
-        came_to(&rt, &got, output, Fate::OutputFailed, 18, 19);
-    }
-}
-
-#[test]
-fn sinks_that_are_never_asked_to_fail(rt: HostRuntime) {
-    let faults = [
-        Faults {
-            taken: 5,
-            ..NO_FAULTS
-        },
-        Faults {
-            flush: Some(2),
-            ..NO_FAULTS
-        },
-    ];
-    for faults in faults {
-        let got = faulty(HELLO.as_bytes(), faults, AMPLE);
-        came_to(&rt, &got, "hello", Fate::InputEnded, 29, 19);
-    }
-}
-
-#[test]
-fn flushes_that_fail(rt: HostRuntime) {
-    let rows = &[
-        (HELLO, 5, None, "hello", Fate::InputEnded),
-        (HELLO, 5, Some(0), "hello", Fate::InputEnded),
-        (HELLO, 5, Some(1), "hello", Fate::OutputFailed),
-        (HELLO, 5, Some(2), "hello", Fate::InputEnded),
-        (
-            "#(ps,a)#(ps,b)#(ps,c)'",
-            5,
-            Some(2),
-            "ab",
-            Fate::OutputFailed,
-        ),
-        (LETTERS, 17, None, "abcdefghijklmnopq", Fate::OutputFailed),
-        (LETTERS, 20, None, "abcdefghijklmnopqrst", Fate::InputEnded),
-    ];
-    for (script, taken, flush, output, fate) in rows {
-        let faults = Faults {
-            source: None,
-            taken: *taken,
-            flush: *flush,
-        };
-        let got = faulty(script.as_bytes(), faults, AMPLE);
-        assert!(rt; got.output() == output.as_bytes(), "{script}");
-        assert_eq!(rt; got.report.fate, *fate, "{script}");
-    }
-    let flush = Faults {
-        flush: Some(1),
-        ..NO_FAULTS
-    };
-    came_to(
-        &rt,
-        &faulty(HELLO.as_bytes(), flush, AMPLE),
-        "hello",
-        Fate::OutputFailed,
-        18,
-        19,
-    );
 }
 
 /// Runs over devices that count, and compares the puts, the

@@ -10,7 +10,7 @@ fn is_byte(cell: Option<Cell>, byte: u8) -> bool {
     }
 }
 
-pub(crate) fn are_bytes(cells: &[Cell], text: &[u8]) -> bool {
+fn are_bytes(cells: &[Cell], text: &[u8]) -> bool {
     if cells.len() != text.len() {
         return false;
     }
