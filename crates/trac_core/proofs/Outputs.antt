@@ -43,7 +43,7 @@ module _ (before : Text) where
   need_by-later (EndCall rest) s = end_need-later s.memory.calls s
   need_by-later _ s = refl
 
-  pub need-later : (s : State) → need (record s { output = before ++ s.output }) ≡ need s
+  need-later : (s : State) → need (record s { output = before ++ s.output }) ≡ need s
   unfolding need
   need-later s = need_by-later (rule s.memory.active) s
 

@@ -12,7 +12,7 @@ mod scan;
 mod text_io;
 
 pub use display::{display_len, show_form};
-pub use machine::{Awaits, Machine, OpenCall, Progress, ScanningRule};
+pub use machine::{Awaits, CallMark, Machine, OpenCall, Progress, ScanningRule};
 pub use runs::is_layout;
 pub use trac_devices::{
     BufferedReader, BufferedWriter, Input, Next, Output, ReadSource, RetryingReader,

@@ -30,7 +30,7 @@ pub(crate) mod session;
 pub(crate) mod view;
 
 pub use advancing::Progress;
-pub use open_calls::OpenCall;
+pub use open_calls::{CallMark, OpenCall};
 pub use session::Awaits;
 pub use view::ScanningRule;
 

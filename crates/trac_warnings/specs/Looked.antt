@@ -9,6 +9,7 @@ use Rattle.trac_functions.specs.Flat.{neutral_of}
 use Rattle.trac_core.specs.Machine.{MachineState}
 use Rattle.trac_core.specs.OpenCalls.{mark_of}
 use Rattle.trac_core.specs.View.{neutral_in, row_of}
+use Rattle.trac_core.specs.declared.machine.open_calls.CallMark.{CallMark}
 use Rattle.trac_core.specs.declared.machine.view.ScanningRule.{ScanningRule}
 use Rattle.trac_core.specs.declared.machine.view.ScanningRule.TheVariants as row
 use Rattle.trac_events.specs.Calls.{behind_mark}
@@ -68,14 +69,14 @@ abbrev pub places_of : List Origin → List Cell → List Origin
 places_of commas arguments = drop (length commas - commas_of arguments) commas
 
 -- the arguments so far of the call around the innermost one, by the places of their marks
-abbrev pub around_of : Option ℕ → List Cell → ℕ → List Cell
+abbrev pub around_of : Option CallMark → List Cell → ℕ → List Cell
 around_of None neutral mark = []
-around_of (Some outer) neutral mark = behind_mark (take mark neutral) outer
+around_of (Some outer) neutral mark = behind_mark (take mark neutral) outer.place
 
 -- a call before it is performed, whose mark stands at a place of a neutral string, and the call around it has
 -- its mark at another one
 pub record IsEnding
-    (watch : Watch) (neutral : List Cell) (outer : Option ℕ) (mark : ℕ) (known : List ℕ) (ending : Ending)
+    (watch : Watch) (neutral : List Cell) (outer : Option CallMark) (mark : ℕ) (known : List ℕ) (ending : Ending)
     : Type 0 where
   pub arguments_are : ending.arguments.now ≡ behind_mark neutral mark
   pub begin_is : ending.begin ≡ begin_of watch
@@ -92,9 +93,9 @@ LooksAtMark mark watch m input old new =
     × Warns old new (call_warnings m.memory.forms ending))))
 
 -- the same, where such a mark stands
-abbrev pub LooksAtCall : Option ℕ → Watch → MachineState → List ℕ → (old new : List Warning) → Type 0
+abbrev pub LooksAtCall : Option CallMark → Watch → MachineState → List ℕ → (old new : List Warning) → Type 0
 LooksAtCall None watch m input old new = new ≡ old
-LooksAtCall (Some mark) watch m input old new = LooksAtMark mark watch m input old new
+LooksAtCall (Some mark) watch m input old new = LooksAtMark mark.place watch m input old new
 
 -- the warning is added of a right parenthesis, and then those of the call that it ends
 abbrev pub LooksAtEnd : Watch → MachineState → List ℕ → (old new : List Warning) → Type 0

@@ -25,7 +25,7 @@ use crate::trail::{Run, first_origin, push_run, take_run};
 use crate::warning::{Suspicion, Warning};
 use std::alloc::{AllocError, Global};
 use std::collections::BTreeMap;
-use trac_core::{Awaits, Machine, ScanningRule};
+use trac_core::{Awaits, CallMark, Machine, ScanningRule};
 use trac_events::{Before, argument, arguments_of, is_same, pointer_of};
 use trac_functions::function::function_named;
 use trac_language::Function;
@@ -162,7 +162,7 @@ impl Watch {
         self.tell_stray(before.active)?;
         match machine.call_mark(0) {
             None => Ok(()),
-            Some(mark) => self.look_at_call(machine, mark, input),
+            Some(mark) => self.look_at_call(machine, mark.place, input),
         }
     }
 
@@ -827,11 +827,11 @@ fn behind_text(end: usize, meta: u8, input: &[u8]) -> usize
 
 // The arguments so far of the call around the innermost one, by the places of their marks in the neutral
 // string; null if no call is open around it.
-fn arguments_around(neutral: &[Cell], outer: Option<usize>, mark: usize) -> &[Cell]
+fn arguments_around(neutral: &[Cell], outer: Option<CallMark>, mark: usize) -> &[Cell]
     ensures { result.now ≡ around_of outer neutral.now mark }
 {
     match outer {
-        Some(outer) => arguments_of(&neutral[..mark.min(neutral.len())], outer),
+        Some(outer) => arguments_of(&neutral[..mark.min(neutral.len())], outer.place),
         None => &[],
     }
 }
