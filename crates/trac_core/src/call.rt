@@ -27,6 +27,7 @@ use trac_forms::Work;
 use trac_functions::arguments::{Arguments, CallResult};
 use trac_functions::function::value_of;
 use trac_language::{Fate, Function};
+use trac_space::Part;
 
 /// The step that the beginning of the active string asks for, where no rule fits that only scans:
 /// the idling procedure is loaded, or the right parenthesis is deleted and the innermost call
@@ -131,7 +132,11 @@ fn perform<I: Source, O: Sink>(
     let before = work.used();
     let end = work.neutral_len();
     let made = answer(work, call, meta, source, sink);
-    finish_call(work, (call.place, end), before, made)
+    let part = Part {
+        from: call.place,
+        to: end,
+    };
+    finish_call(work, part, before, made)
 }
 
 /// Performs the innermost call, whose right parenthesis was deleted and which needs no device.
@@ -151,7 +156,11 @@ fn perform_alone(work: &mut Work, call: NamedCall, meta: &mut u8) -> Attempt
     let before = work.used();
     let end = work.neutral_len();
     let made = answer_alone(work, call, meta);
-    finish_call(work, (call.place, end), before, made)
+    let part = Part {
+        from: call.place,
+        to: end,
+    };
+    finish_call(work, part, before, made)
 }
 
 /// The innermost call by its parts.
@@ -208,7 +217,7 @@ fn has_text(work: &Work, mut arguments: Arguments) -> bool
     ensures { result ≡ nat_lt 0 (length (argument (texts work.now arguments) 0)) }
 {
     let part = arguments.next(work);
-    part.0 < part.1
+    part.from < part.to
 }
 
 /// What the function of the innermost call answers. A call of a name that is no function has a null
