@@ -13,7 +13,7 @@ mod scan;
 mod text_io;
 
 pub use display::{display_len, show_form};
-pub use machine::{Awaits, Machine, OpenCall, Progress};
+pub use machine::{Awaits, CallMark, Machine, OpenCall, Progress};
 pub use rules::ScanningRule;
 pub use runs::is_layout;
 pub use trac_devices::{

@@ -152,7 +152,7 @@ impl Watch {
         let Some(mark) = machine.call_mark(0) else {
             return Ok(());
         };
-        let arguments = arguments_of(machine.neutral(), mark);
+        let arguments = arguments_of(machine.neutral(), mark.place);
         let begin = self.calls.last().copied().unwrap_or(here);
         self.arguments.extend_from_slice(arguments)?;
         self.value = self.origin_of_form(machine, begin)?;
@@ -161,7 +161,7 @@ impl Watch {
             arguments,
             begin,
             places: places_of(&self.commas, arguments),
-            around: arguments_around(machine, mark),
+            around: arguments_around(machine, mark.place),
             is_inside,
             input,
         };
@@ -570,7 +570,7 @@ impl Watch {
 fn arguments_around<'m>(machine: &'m Machine, mark: usize) -> &'m [Cell] {
     let neutral = machine.neutral();
     match machine.call_mark(1) {
-        Some(outer) => arguments_of(&neutral[..mark.min(neutral.len())], outer),
+        Some(outer) => arguments_of(&neutral[..mark.min(neutral.len())], outer.place),
         None => &[],
     }
 }
