@@ -5,8 +5,7 @@ ghost use Rattle.trac_devices.specs.Slices.{slice_input, stream_in};
 ghost use Rattle.trac_c.specs.Held.{listed, buffer_code};
 
 use crate::filling::put_characters;
-use trac_core::{Cell, Neutral, Next, Sink, SinkFailed, SliceSource, Source};
-use trac_space::character_of;
+use trac_core::{Characters, Neutral, Next, Sink, SinkFailed, SliceSource, Source};
 
 /// A source over the bytes that a turn was given. It never fails.
 #[derive(Drop)]
@@ -125,11 +124,11 @@ impl Sink for RoomySink<'_> {
         Ok(())
     }
 
-    fn put_all(&mut self, text: &[Cell]) -> Result<(), SinkFailed> {
+    fn put_all(&mut self, text: &Characters<'_>) -> Result<(), SinkFailed> {
         let count = put_characters(text, self.len, self.room);
         self.len += count;
-        for cell in &text[count..] {
-            self.put(character_of(cell))?;
+        for i in count..text.len() {
+            self.put(text.at(i))?;
         }
         Ok(())
     }

@@ -1,10 +1,9 @@
 //! Buffers of a caller's, filled from the front as far as they reach.
 ghost use Rattle.std.specs.Prelude.{◌≡◌, ◌+◌, ◌<◌, ◌≤◌, [], ◌∷◌, length, take};
 ghost use Rattle.std.specs.Prelude.{◌++◌};
-ghost use Rattle.trac_space.specs.Texts.{text_of_cells};
 ghost use Rattle.trac_c.specs.Laid.{laid_from};
 
-use trac_core::{Cell, Sink, SinkFailed, write_characters};
+use trac_core::{Characters, Sink, SinkFailed};
 
 /// Puts an item to a place of a buffer. Behind the end of the buffer nothing is done.
 pub(crate) fn put<T: Copy>(item: T, place: usize, room: &mut [T])
@@ -15,19 +14,19 @@ pub(crate) fn put<T: Copy>(item: T, place: usize, room: &mut [T])
     }
 }
 
-/// Puts the characters of cells to a place of a buffer, as far as that reaches, and gives how many
+/// Puts the characters of a text to a place of a buffer, as far as that reaches, and gives how many
 /// these are.
-pub(crate) fn put_characters(text: &[Cell], place: usize, room: &mut [u8]) -> usize
+pub(crate) fn put_characters(text: &Characters<'_>, place: usize, room: &mut [u8]) -> usize
     requires { place ≤ length room.old }
     ensures put { take (place + result) room.new ≡
-        take place room.old ++ text_of_cells (take result text.now) }
+        take place room.old ++ take result text.now }
     ensures few { result ≤ length text.now }
     ensures fits { place + result ≤ length room.old }
     ensures full { result < length text.now → place + result ≡ length room.old }
     ensures same { length room.new ≡ length room.old }
 {
     let count = text.len().min(room.len() - place);
-    write_characters(&text[..count], &mut room[place..place + count]);
+    text.part(0, count).write(&mut room[place..place + count]);
     count
 }
 
@@ -94,7 +93,7 @@ impl Sink for FillingSink<'_> {
         }
     }
 
-    fn put_all(&mut self, text: &[Cell]) -> Result<(), SinkFailed> {
+    fn put_all(&mut self, text: &Characters<'_>) -> Result<(), SinkFailed> {
         let count = put_characters(text, self.len, self.room);
         self.len += count;
         if count < text.len() {

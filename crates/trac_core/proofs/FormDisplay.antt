@@ -1,5 +1,5 @@
 -- The display of a form.
-use Rattle.trac_core.proofs.Words.{◌≡◌, ◌≢◌, ℕ, ◌+◌, ◌-◌, ◌<◌, ◌≤◌, List, [], ◌∷◌, ◌++◌, length, take, drop, slice_get, slice_range, Option, Some, None, refl, sym, ap, ◌∙◌, subst, arith, append_assoc, append-nil, Result, Ok, Err, OnErr, codes, decimal, drop-cons, take-append-drop, take_rest, slice_get-get_or, Item, PrintForm, OutputFailed, Text, Form, before_pointer, after_pointer, form_named, argument, World, on_form, printing, show, show_form, meaning_of, value_length, Contents, used, Stream, Breaks, Prints, arguments_at, world, ending, Null, Over, scene, IsCall, AnswersCall, display, shown}
+use Rattle.trac_core.proofs.Words.{◌≡◌, ◌≢◌, ℕ, ◌+◌, ◌-◌, ◌<◌, ◌≤◌, List, [], ◌∷◌, ◌++◌, length, take, drop, slice_get, slice_range, Option, Some, None, refl, sym, ap, ◌∙◌, subst, arith, append_assoc, append-nil, Result, Ok, Err, OnErr, codes, decimal, drop-cons, take_rest, slice_get-get_or, Item, PrintForm, OutputFailed, Text, Form, before_pointer, after_pointer, form_named, argument, World, on_form, printing, show, show_form, meaning_of, value_length, Contents, used, Stream, Breaks, Prints, arguments_at, world, ending, Null, Over, scene, IsCall, AnswersCall, display, shown}
 use Rattle.std.proofs.lemmas.List.{length-append}
 use Rattle.trac_language.specs.declared.item.Item.TheVariants.{Byte, Gap}
 use Rattle.trac_core.proofs.Performing.{tried-null, tried-broken}
@@ -31,10 +31,6 @@ breaks-off old new a b p = (p.0, (p.1.0 ++ b, (ap (λ t. t ++ b) p.1.1.0 ∙ app
 pub prints-nothing : {A E : Type 0} (r : Result A E) (old new a : Text) → new ≡ old ++ a → Prints r old a new
 prints-nothing (Ok x) old new a first = first
 prints-nothing (Err e) old new a first = (a, ([], (sym (append-nil a), first)))
-
--- bytes of which the first were written
-pub breaks-bytes : (old mid new bytes : Text) (k : ℕ) → mid ≡ old ++ take k bytes → new ≡ mid → Breaks old bytes new
-breaks-bytes old mid new bytes k first same = (take k bytes, (drop k bytes, (sym (take-append-drop k bytes), same ∙ first)))
 
 -- ---- the items of a form
 

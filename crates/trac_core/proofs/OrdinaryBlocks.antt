@@ -37,3 +37,8 @@ ordinary-more cells i n first more =
 pub ordinary-eight : (cells : List Cell) (i kinds : ℕ) → kinds ≡ sum_by kind_in (take 8 (drop i cells)) → kinds ≤ 0 → All IsOrdinary (take i (text_of_cells cells)) → All IsOrdinary (take (i + 8) (text_of_cells cells))
 ordinary-eight cells i kinds is none first =
     ordinary-more cells i 8 first (subst (All IsOrdinary) (take-text 8 (drop i cells)) (ordinary-block (take 8 (drop i cells)) (omega (arith, is, none))))
+
+pub ordinary-sixteen : (cells : List Cell) (i first second : ℕ) → first ≡ sum_by kind_in (take 8 (drop i cells)) → second ≡ sum_by kind_in (take 8 (drop (i + 8) cells)) → first + second ≤ 0 → All IsOrdinary (take i (text_of_cells cells)) → All IsOrdinary (take (i + 16) (text_of_cells cells))
+ordinary-sixteen cells i first second first_is second_is none ordinary =
+    let both : i + 8 + 8 ≡ i + 16 = omega arith in
+    rw both at (ordinary-eight cells (i + 8) second second_is (omega (arith, none)) (ordinary-eight cells i first first_is (omega (arith, none)) ordinary))

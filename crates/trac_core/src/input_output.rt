@@ -11,7 +11,7 @@ ghost use Rattle.trac_core.specs.Attempts.{TakesFrom, fate_after, LeavesSource, 
 ghost use Rattle.trac_functions.specs.Calls.{KeepsRoom};
 
 use crate::text_io::{ReadEnd, print_text, read_text};
-use trac_devices::{Next, Sink, Source};
+use trac_devices::{Characters, Next, Sink, Source};
 use trac_forms::Work;
 use trac_functions::arguments::{Arguments, CallResult, text};
 use trac_language::{Fate, Function};
@@ -96,7 +96,8 @@ pub(crate) fn print_string<O: Sink>(
         (fate_after result) (Some Function.PrintString) sink.old sink.new }
 {
     let part = arguments.next(work);
-    match print_text(text(work, part), sink) {
+    let printed = Characters::new(text(work, part));
+    match print_text(&printed, sink) {
         Ok(()) => CallResult::Null(0),
         Err(_) => CallResult::Over(Fate::OutputFailed),
     }

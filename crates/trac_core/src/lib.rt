@@ -17,7 +17,7 @@ pub use machine::{Awaits, CallMark, Machine, OpenCall, Progress};
 pub use rules::ScanningRule;
 pub use runs::is_layout;
 pub use trac_devices::{
-    BufferedReader, BufferedWriter, Input, Next, Output, ReadSource, RetryingReader,
+    BufferedReader, BufferedWriter, Characters, Input, Next, Output, ReadSource, RetryingReader,
     RetryingWriter, Sink, SinkFailed, SliceSink, SliceSource, Source, TRIES, WriteSink,
     write_characters,
 };

@@ -124,16 +124,37 @@ fn ordinary_run(cells: &[Cell], known: usize) -> u32
     ensures within { result ≤ length cells.now }
     ensures ordinary { All IsOrdinary (take result (text_of_cells cells.now)) }
 {
-    let mut i = known;
-    while cells.len() - i >= BLOCK {
-        if kinds(cells, i) > 0 {
-            break;
-        }
-        i += BLOCK;
-    }
+    let i = ordinary_blocks(cells, known);
     match special_before(cells, i, cells.len()) {
         Some(i) => i as u32,
         None => cells.len() as u32,
+    }
+}
+
+/// How many ordinary characters begin the cells, of which these are some, counted by whole blocks. Two
+/// blocks are looked at in a turn.
+#[inline]
+fn ordinary_blocks(cells: &[Cell], known: usize) -> usize
+    requires few { length cells.now ≤ 16777216 }
+    requires bytes { All IsByte cells.now }
+    requires within { known ≤ length cells.now }
+    requires before { All IsOrdinary (take known (text_of_cells cells.now)) }
+    ensures within { result ≤ length cells.now }
+    ensures ordinary { All IsOrdinary (take result (text_of_cells cells.now)) }
+{
+    let mut i = known;
+    while cells.len() - i >= 2 * BLOCK {
+        let first = kinds(cells, i);
+        let second = kinds(cells, i + BLOCK);
+        if first + second > 0 {
+            return if first > 0 { i } else { i + BLOCK };
+        }
+        i += 2 * BLOCK;
+    }
+    if cells.len() - i >= BLOCK && kinds(cells, i) == 0 {
+        i + BLOCK
+    } else {
+        i
     }
 }
 
@@ -142,7 +163,8 @@ fn ordinary_run(cells: &[Cell], known: usize) -> u32
 fn kinds(cells: &[Cell], i: usize) -> u8
     requires within { i + 8 ≤ length cells.now }
     requires bytes { All IsByte cells.now }
-    ensures { result ≡ sum_by kind_in (take 8 (drop i cells.now)) }
+    ensures kinds { result ≡ sum_by kind_in (take 8 (drop i cells.now)) }
+    ensures small { result ≤ 16 }
 {
     kind(&cells[i])
         + kind(&cells[i + 1])

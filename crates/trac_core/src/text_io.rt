@@ -2,14 +2,13 @@
 ghost use Rattle.std.specs.Prelude.{◌≡◌, ◌≢◌, ◌+◌, ◌-◌, ◌<◌, ◌≤◌, ◌^◌, [], ◌++◌};
 ghost use Rattle.std.specs.Prelude.{MatchResult, OnErr, OnOk};
 ghost use Rattle.trac_language.specs.Text.{Text};
-ghost use Rattle.trac_space.specs.Texts.{character_of, text_of_cells};
 ghost use Rattle.trac_forms.specs.Contents.{used, IsSound};
 ghost use Rattle.trac_devices.specs.Devices.{failures_of, Prints, Breaks};
 ghost use Rattle.trac_core.specs.ReadTexts.{Reads, StreamsTo, failures_of_read};
 
-use trac_devices::{Next, Sink, SinkFailed, Source};
+use trac_devices::{Characters, Next, Sink, SinkFailed, Source};
 use trac_forms::Work;
-use trac_space::{Cell, character_of};
+use trac_space::Cell;
 
 // How many characters are put one by one.
 const FEW: usize = 16;
@@ -55,20 +54,20 @@ pub(crate) fn read_text<I: Source>(work: &mut Work, meta: u8, source: &mut I) ->
     }
 }
 
-/// Puts the characters of cells into a sink, and then flushes it where there was one.
-pub(crate) fn print_text<O: Sink>(text: &[Cell], sink: &mut O) -> Result<(), SinkFailed>
+/// Puts the characters of a text into a sink, and then flushes it where there was one.
+pub(crate) fn print_text<O: Sink>(text: &Characters<'_>, sink: &mut O) -> Result<(), SinkFailed>
     requires { O.failure_count sink.old < 2 ^ 64 - 1 }
     ensures writes { O.tells sink.old → MatchResult result
-        (λ _. O.written sink.new ≡ O.written sink.old ++ text_of_cells text.now)
-        (λ _. Breaks (O.written sink.old) (text_of_cells text.now) (O.written sink.new)) }
-    ensures some { OnErr result (text_of_cells text.now ≢ []) }
-    ensures untouched { text_of_cells text.now ≡ [] → sink.new ≡ sink.old }
-    ensures flushed { OnOk result (text_of_cells text.now ≢ [] → O.flushed sink.new) }
+        (λ _. O.written sink.new ≡ O.written sink.old ++ text.now)
+        (λ _. Breaks (O.written sink.old) text.now (O.written sink.new)) }
+    ensures some { OnErr result (text.now ≢ []) }
+    ensures untouched { text.now ≡ [] → sink.new ≡ sink.old }
+    ensures flushed { OnOk result (text.now ≢ [] → O.flushed sink.new) }
     ensures told { O.tells sink.old → O.tells sink.new }
     ensures kept { O.lent sink.new ≡ O.lent sink.old }
     ensures counts { O.failure_count sink.new ≡ O.failure_count sink.old + failures_of result }
 {
-    if text.is_empty() {
+    if text.len() == 0 {
         return Ok(());
     }
     if let Err(failed) = put_characters(text, sink) {
@@ -77,11 +76,11 @@ pub(crate) fn print_text<O: Sink>(text: &[Cell], sink: &mut O) -> Result<(), Sin
     sink.flush()
 }
 
-// Puts the characters of cells into a sink, those of a longer text at once.
-fn put_characters<O: Sink>(text: &[Cell], sink: &mut O) -> Result<(), SinkFailed>
+// Puts the characters of a text into a sink, those of a longer one at once.
+fn put_characters<O: Sink>(text: &Characters<'_>, sink: &mut O) -> Result<(), SinkFailed>
     requires { O.failure_count sink.old < 2 ^ 64 - 1 }
     ensures prints { O.tells sink.old →
-        Prints result (O.written sink.old) (text_of_cells text.now) (O.written sink.new) }
+        Prints result (O.written sink.old) text.now (O.written sink.new) }
     ensures told { O.tells sink.old → O.tells sink.new }
     ensures kept { O.lent sink.new ≡ O.lent sink.old }
     ensures counts { O.failure_count sink.new ≡ O.failure_count sink.old + failures_of result }
@@ -93,17 +92,17 @@ fn put_characters<O: Sink>(text: &[Cell], sink: &mut O) -> Result<(), SinkFailed
     }
 }
 
-// Puts the characters of cells into a sink, one by one.
-fn put_each<O: Sink>(text: &[Cell], sink: &mut O) -> Result<(), SinkFailed>
+// Puts the characters of a text into a sink, one by one.
+fn put_each<O: Sink>(text: &Characters<'_>, sink: &mut O) -> Result<(), SinkFailed>
     requires { O.failure_count sink.old < 2 ^ 64 - 1 }
     ensures prints { O.tells sink.old →
-        Prints result (O.written sink.old) (text_of_cells text.now) (O.written sink.new) }
+        Prints result (O.written sink.old) text.now (O.written sink.new) }
     ensures told { O.tells sink.old → O.tells sink.new }
     ensures kept { O.lent sink.new ≡ O.lent sink.old }
     ensures counts { O.failure_count sink.new ≡ O.failure_count sink.old + failures_of result }
 {
-    for cell in text {
-        sink.put(character_of(cell))?;
+    for i in 0..text.len() {
+        sink.put(text.at(i))?;
     }
     Ok(())
 }

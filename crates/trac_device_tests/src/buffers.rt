@@ -7,7 +7,9 @@ use std::alloc::Global;
 use std::io::{Read, Write};
 use std::process::Abort;
 use std::test::Fail;
-use trac_core::{BufferedReader, BufferedWriter, Cell, Input, Next, Output, Sink, Source, Work};
+use trac_core::{
+    BufferedReader, BufferedWriter, Cell, Characters, Input, Next, Output, Sink, Source, Work,
+};
 
 // The bytes 0, 1, .., 250, 0, 1, ..
 fn pattern(alloc: Global, len: usize) -> Result<Vec<u8>, Fail> {
@@ -197,7 +199,10 @@ fn writes_in_runs(rt: HostRuntime) -> Result<(), Fail> {
     for (most, fails_at, kept) in [(5_000, 0, 20_000), (5_000, 2, 8_192)] {
         let mut taken = Vec::new(rt.alloc());
         let mut sink = Output::new(FakeWriter::new(&mut taken, most, fails_at));
-        assert_eq!(rt; sink.put_all(&cells).is_ok(), fails_at == 0);
+        assert_eq!(rt;
+            sink.put_all(&Characters::new(&cells)).is_ok(),
+            fails_at == 0
+        );
         assert_eq!(rt; sink.failures(), u64::from(fails_at > 0));
         assert!(rt; sink.flush().is_ok());
         assert!(rt; taken.as_slice() == &text[..kept.min(text.len())]);

@@ -8,8 +8,8 @@ use std::io::{ErrorKind, Read, Write};
 use std::process::Abort;
 use std::test::Fail;
 use trac_core::{
-    Cell, Fate, Machine, Next, ReadSource, Report, RetryingReader, RetryingWriter, Sink,
-    SinkFailed, SliceSource, Source, TRIES, Work, WriteSink, write_characters,
+    Cell, Characters, Fate, Machine, Next, ReadSource, Report, RetryingReader, RetryingWriter,
+    Sink, SinkFailed, SliceSource, Source, TRIES, Work, WriteSink, write_characters,
 };
 
 const AMPLE: usize = 1000;
@@ -258,6 +258,19 @@ fn characters_of_cells(rt: HostRuntime) {
     let mut bytes = [b'x'; 3];
     write_characters(&[Cell::Byte(b'a'), Cell::Comma], &mut bytes[..2]);
     assert!(rt; &bytes[..] == b"a\0x".as_slice());
+}
+
+#[test]
+fn characters_of_a_text(rt: HostRuntime) {
+    let cells = [Cell::Byte(b'a'), Cell::Byte(b'\xff'), Cell::Byte(b'\0')];
+    let text = Characters::new(&cells);
+    assert_eq!(rt; text.len(), 3);
+    assert_eq!(rt; text.at(1), b'\xff');
+    let mut bytes = [b'x'; 3];
+    text.write(&mut bytes);
+    assert!(rt; &bytes[..] == b"a\xff\0".as_slice());
+    text.part(1, 2).write(&mut bytes[..1]);
+    assert!(rt; &bytes[..] == b"\xff\xff\0".as_slice());
 }
 
 /// Runs over devices that count, and compares the puts, the

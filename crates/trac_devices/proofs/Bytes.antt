@@ -1,6 +1,6 @@
 -- Known bytes in front of a reader and behind a writer.
 use Rattle.trac_devices.proofs.Words.{Bool, IsSome, unwrap_or, ◌≡◌, ◌∙◌, ◌+◌, ◌-◌, ◌≤◌, ◌<◌, ◌++◌, ◌∷◌, ap, ap₂, refl, ℕ, List, [], get_or, length, take, drop, Option, Some, None, sym, arith, append_assoc, length-take, slice_range, Result, Ok, Err, OnErr, take-add, drop-append-le, drop-drop}
-use Rattle.trac_devices.proofs.Words.{drop-take, take-append-drop, set, drop-cons, between_is, take-put_mid, put_mid, Appends, Consumes, IsAtEnd, Keeps, append_known, prepend_known, BufferedInput, CountedReader, IfTells}
+use Rattle.trac_devices.proofs.Words.{drop-take, take-append-drop, take_all, length-drop, Text, set, drop-cons, between_is, take-put_mid, put_mid, Appends, Consumes, IsAtEnd, Keeps, append_known, prepend_known, BufferedInput, CountedReader, IfTells}
 
 -- a part is its front and the rest
 pub part_split : (xs : List ℕ) (a n b : ℕ) → a + n ≤ b → slice_range xs a b ≡ slice_range xs a (a + n) ++ slice_range xs (a + n) b
@@ -100,3 +100,7 @@ taken_known held count (Some more) has_ended tells =
 pub input_skipped : {R : Type 0} (device : CountedReader R) (xs : List ℕ) (a n b : ℕ) → a + n ≤ b
     → ◌≡◌ {A = BufferedInput R} (record { device = device; held = slice_range xs (a + n) b }) (record { device = device; held = drop n (slice_range xs a b) })
 input_skipped {R} device xs a n b low = ap {B = BufferedInput R} (λ (held : List ℕ). record { device = device; held = held }) (part_dropped xs a n b low)
+
+-- the part up to the end is all that is behind its first place
+pub rest_is : (text rest : Text) (from end : ℕ) → rest ≡ slice_range text from end → end ≡ length text → rest ≡ drop from text
+rest_is text rest from end is whole = is ∙ take_all (end - from) (drop from text) (omega (arith, whole, length-drop from text))

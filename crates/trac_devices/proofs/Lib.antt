@@ -1,3 +1,3 @@
 pub mod Bytes
-pub mod PutCells
+pub mod PutTexts
 mod Words

@@ -3,7 +3,7 @@ pub use Rattle.std.proofs.Common.{All, Bool, List, None, Option, Some, [], ap, a
 pub use Rattle.std.proofs.KnownBytes.{Appends-trans}
 pub use Rattle.std.proofs.Math.ListN.{set}
 pub use Rattle.std.proofs.Math.Seq.{drop-cons}
-pub use Rattle.std.proofs.lemmas.List.{drop-append-le, drop-drop, drop-map, drop-take, get_or-drop, get_or-take, length-drop, length-map, length-take-le, take-append-drop}
+pub use Rattle.std.proofs.lemmas.List.{drop-append-le, drop-drop, drop-map, drop-take, get_or-drop, get_or-take, length-drop, length-map, length-take-le, take-append-drop, take_all}
 pub use Rattle.std.proofs.lemmas.List.Edits.{length-between}
 pub use Rattle.std.proofs.lemmas.Slice.{between_is, take-put_mid}
 pub use Rattle.std.specs.Io.KnownBytes.{Appends, Consumes, IsAtEnd, Keeps, append_known, prepend_known}

@@ -3,15 +3,13 @@ ghost use Rattle.std.specs.Prelude.{◌≡◌, ◌+◌, ◌≤◌, ◌<◌, leng
 ghost use Rattle.std.specs.Prelude.{IfOk, OnErr, OnOk};
 ghost use Rattle.std.specs.Io.{ReadsAtMost, WritesAtMost};
 ghost use Rattle.std.specs.Io.KnownBytes.{Appends, IsAtEnd, Keeps, ReadConsumes, WriteAppends};
-ghost use Rattle.trac_space.specs.Texts.{text_of_cells};
 ghost use Rattle.trac_devices.specs.Counted.{Counts};
 
-use crate::characters::write_characters;
+use crate::characters::Characters;
 use crate::counted::{InputDevice, OutputDevice};
 use std::io;
 use std::io::{Read, Write};
 use std::marker::Model;
-use trac_space::Cell;
 
 const CAPACITY: usize = 8192;
 
@@ -237,12 +235,12 @@ impl<W: Write> BufferedWriter<W> {
         Ok(n)
     }
 
-    /// Takes the characters of some of the cells, at least one if there is one, and gives how many. Makes room
-    /// for them first; if that fails, it takes none.
-    pub fn write_cells(&mut self, text: &[Cell]) -> io::Result<usize>
-        ensures bound { WritesAtMost result (text_of_cells text.now) }
+    /// Takes some of the characters, at least one if there is one, and gives how many. Makes room for them
+    /// first; if that fails, it takes none.
+    pub fn write_text(&mut self, text: &Characters<'_>) -> io::Result<usize>
+        ensures bound { WritesAtMost result text.now }
         ensures bytes { WriteAppends (accepted W.contents self.old) (accepted W.contents self.new)
-            result (text_of_cells text.now) }
+            result text.now }
         ensures failures { Counts self.old.device.failures self.new.device.failures result }
         ensures some { IfOk result (λ n. 0 < length text.now → 0 < n) }
         ensures room { 0 < self.old.space → self.new.device ≡ self.old.device }
@@ -250,7 +248,8 @@ impl<W: Write> BufferedWriter<W> {
     {
         self.make_room()?;
         let n = (CAPACITY - self.end).min(text.len());
-        write_characters(&text[..n], &mut self.bytes[self.end..self.end + n]);
+        text.part(0, n)
+            .write(&mut self.bytes[self.end..self.end + n]);
         self.end += n;
         Ok(n)
     }

@@ -2,12 +2,12 @@
 ghost use Rattle.std.specs.Prelude.{◌≡◌, ℕ, ◌+◌, ◌-◌, ◌^◌, ◌<◌, List, OnOk};
 ghost use Rattle.std.specs.Borrow.{GName};
 ghost use Rattle.trac_language.specs.Text.{Text};
-ghost use Rattle.trac_space.specs.Texts.{text_of_cells};
 ghost use Rattle.trac_devices.specs.Devices.{Stream, Gives, Streams, failures_of_next, failures_of};
 ghost use Rattle.trac_devices.specs.Devices.{after_put, Prints};
 ghost use Rattle.trac_devices.specs.HeldBytes.{ReadsInto};
 
-use trac_space::{Cell, Neutral, character_of};
+use crate::characters::Characters;
+use trac_space::Neutral;
 
 /// What a source answers when it is asked for its next byte.
 #[derive(Clone, Copy, Debug, PartialEq, Eq)]
@@ -90,17 +90,17 @@ pub trait Sink {
         ensures counts { failure_count self.new ≡ failure_count self.old + failures_of result }
         ensures kept { lent self.new ≡ lent self.old };
 
-    /// Takes the characters of cells in their order. On an error it has taken a first part of them.
-    fn put_all(&mut self, text: &[Cell]) -> Result<(), SinkFailed>
+    /// Takes the characters of a text in their order. On an error it has taken a first part of them.
+    fn put_all(&mut self, text: &Characters<'_>) -> Result<(), SinkFailed>
         requires { failure_count self.old < 2 ^ 64 - 1 }
         ensures prints { tells self.old →
-            Prints result (written self.old) (text_of_cells text.now) (written self.new) }
+            Prints result (written self.old) text.now (written self.new) }
         ensures told { tells self.old → tells self.new }
         ensures counts { failure_count self.new ≡ failure_count self.old + failures_of result }
         ensures kept { lent self.new ≡ lent self.old }
     {
-        for cell in text {
-            self.put(character_of(cell))?;
+        for i in 0..text.len() {
+            self.put(text.at(i))?;
         }
         Ok(())
     }

@@ -16,7 +16,7 @@ mod slice_source;
 mod write_sink;
 
 pub use buffered::{BufferedReader, BufferedWriter};
-pub use characters::write_characters;
+pub use characters::{Characters, write_characters};
 pub use device::{Next, Sink, SinkFailed, Source};
 pub use input::Input;
 pub use output::Output;

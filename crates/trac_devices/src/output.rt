@@ -3,11 +3,11 @@ ghost use Rattle.std.specs.Prelude.{◌≡◌, ◌+◌, ◌-◌, ◌<◌, [], tr
 ghost use Rattle.trac_devices.specs.Buffered.{accepted};
 
 use crate::buffered::BufferedWriter;
+use crate::characters::Characters;
 use crate::device::{Sink, SinkFailed};
 use crate::retrying::RetryingWriter;
 use std::io::Write;
 use std::marker::Model;
-use trac_space::Cell;
 
 /// A sink over a writer with a buffer of 8192 bytes. It is flushed if no bytes wait in the buffer and the
 /// writer was flushed after its last write. It makes an interrupted call again; any other error, or a write
@@ -57,10 +57,11 @@ impl<W: Write> Sink for Output<W> {
         }
     }
 
-    fn put_all(&mut self, text: &[Cell]) -> Result<(), SinkFailed> {
+    fn put_all(&mut self, text: &Characters<'_>) -> Result<(), SinkFailed> {
         let mut taken = 0;
         while taken < text.len() {
-            match self.writer.write_cells(&text[taken..]) {
+            let rest = text.part(taken, text.len());
+            match self.writer.write_text(&rest) {
                 Ok(count) => taken += count,
                 Err(_) => return Err(SinkFailed),
             }

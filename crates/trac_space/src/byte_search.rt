@@ -1,4 +1,4 @@
-//! Looks for a byte in a text, sixteen bytes at once.
+//! Looks for a byte in a text, up to thirty-two bytes at once.
 ghost use Rattle.std.specs.Prelude.{◌≡◌, ◌≤◌, ◌<◌, ◌==◌, length, not, take, false, slice_get, slice_index, Some};
 ghost use Rattle.std.specs.List.{list_any};
 ghost use Rattle.std.specs.Slice.Scan.{digits_from, flag_word};
@@ -9,11 +9,30 @@ pub(crate) fn count_before(stop: u8, text: &[u8]) -> usize
     ensures before { list_any (λ byte. byte == stop) (take result text.now) ≡ false }
     ensures stops { result < length text.now → slice_get text.now result ≡ Some stop }
 {
-    let mut done = 0;
-    while text.len() - done >= 16 && !has_byte(stop, &text[done..done + 16]) {
-        done += 16;
-    }
+    let done = count_blocks(stop, text);
     done + count_each(stop, &text[done..])
+}
+
+// How many bytes stand in the first blocks of sixteen without a `stop`. Two blocks are looked at in a turn.
+#[inline]
+fn count_blocks(stop: u8, text: &[u8]) -> usize
+    ensures within { result ≤ length text.now }
+    ensures before { list_any (λ byte. byte == stop) (take result text.now) ≡ false }
+{
+    let mut done = 0;
+    while text.len() - done >= 32 {
+        let first = has_byte(stop, &text[done..done + 16]);
+        let second = has_byte(stop, &text[done + 16..done + 32]);
+        if first | second {
+            return if first { done } else { done + 16 };
+        }
+        done += 32;
+    }
+    if text.len() - done >= 16 && !has_byte(stop, &text[done..done + 16]) {
+        done + 16
+    } else {
+        done
+    }
 }
 
 // How many bytes stand before the first `stop`, looked at one by one; all of them if there is none.

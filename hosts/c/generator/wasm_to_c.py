@@ -18,9 +18,9 @@ LONGEST = 90
 NEVER, ALWAYS = '0u', '1u'
 DEFINED = re.compile(r' *const u\d\d (t\d+) = (.*)')
 STACK = '$__stack_pointer'
+# So many lines in C are short, and so many short enough for a function that is called at so few places.
+SHORT, MIDDLE, FEW = 80, 200, 3
 # What each export does around its work, which keeps a caller of its own from calling it from within: none here can.
-# So many lines in C are short.
-SHORT = 80
 GUARD = '$__rattle_enter'
 GUARDS = [[['call', GUARD], ['if'], ['unreachable'], ['end']], [['i32.const', '0'], ['global.set', '$in_call']]]
 ESCAPES = {'t': 9, 'n': 10, 'r': 13, '"': 34, "'": 39, '\\': 92}
@@ -537,15 +537,15 @@ def print_table(module):
 
 
 def print_functions(module):
-    heads, bodies = {}, {}
-    del module.heads[GUARD]
-    for name, kinds, body in module.functions:
-        if name == GUARD:
-            continue
+    heads, bodies, _ = {}, {}, module.heads.pop(GUARD)
+    functions = [function for function in module.functions if function[0] in module.heads]
+    calls = Counter(words[1] for _, _, body in functions for words in body if words[0] == 'call')
+    for name, kinds, body in functions:
         head, body = module.heads[name], without_guards(body)
         bodies[name] = Function(module, head, kinds, body).translate()
-        # A short function that calls no other is a part of those that call it.
-        small = len(bodies[name]) <= SHORT and not any(words[0] == 'call' for words in body)
+        # A function that calls no other is a part of those that call it, unless it is too long for that.
+        most = MIDDLE if calls[name] <= FEW else SHORT
+        small = len(bodies[name]) <= most and not any(words[0] == 'call' for words in body)
         params = ''.join(f', {TYPES[kind]} l{i}' for i, kind in enumerate(head.params))
         result = TYPES[head.results[0]] if head.results else 'void'
         heads[name] = f'static {"INLINE " if small else ""}{result} {module.names[name]}(u64 stack{params})'

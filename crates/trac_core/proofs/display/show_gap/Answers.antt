@@ -1,5 +1,5 @@
 use Rattle.trac_core.proofs.Words.{◌++◌, ap, ◌∙◌, codes, decimal}
-use Rattle.trac_devices.proofs.PutCells.{prints-err}
+use Rattle.trac_devices.proofs.PutTexts.{prints-err}
 use Rattle.trac_core.proofs.FormDisplay.{breaks-off, prints-then}
 use Rattle.trac_core.proofs.display.show_gap.Goals as goal
 

@@ -6,7 +6,7 @@ use Rattle.trac_core.proofs.input_output.print_string.Goals as goal
 
 pub returns-in-Ok-clause-answers : goal.returns-in-Ok-clause-answers
 returns-in-Ok-clause-answers g c = λ told place meta source has.
-    let text = c.text.ensures.text ∙ c.next-part.ensures.text ∙ argument-one (arguments_at c.args.work.now.neutral place) (texts c.args.work.now c.args.arguments) has.rest in
+    let text = c.new-printed.ensures ∙ c.text.ensures.text ∙ c.next-part.ensures.text ∙ argument-one (arguments_at c.args.work.now.neutral place) (texts c.args.work.now c.args.arguments) has.rest in
     rw (c.in-Ok.ensures.writes told, text) (answers-print c.args.work.now place has.call meta source (g.O.Sink.written c.args.sink.now))
 
 pub returns-in-Ok-clause-stands : goal.returns-in-Ok-clause-stands
@@ -14,7 +14,7 @@ returns-in-Ok-clause-stands g c = stands-null c.args.work.now c.requires.argumen
 
 pub returns-in-Err-clause-answers : goal.returns-in-Err-clause-answers
 returns-in-Err-clause-answers g c = λ told place meta source has.
-    let text = c.text.ensures.text ∙ c.next-part.ensures.text ∙ argument-one (arguments_at c.args.work.now.neutral place) (texts c.args.work.now c.args.arguments) has.rest in
+    let text = c.new-printed.ensures ∙ c.text.ensures.text ∙ c.next-part.ensures.text ∙ argument-one (arguments_at c.args.work.now.neutral place) (texts c.args.work.now c.args.arguments) has.rest in
     let broke = c.in-Err.ensures.writes told in
     rw broke.1.1.1
     (answers-print-broken c.args.work.now place has.call meta source (g.O.Sink.written c.args.sink.now) broke.0 broke.1.0

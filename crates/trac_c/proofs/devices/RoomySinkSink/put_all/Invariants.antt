@@ -1,13 +1,13 @@
-use Rattle.trac_c.proofs.Words.{◌≡◌, ◌++◌, length, take, text_of_cells}
+use Rattle.trac_c.proofs.Words.{◌≡◌, ◌++◌, ◌≤◌, length, take}
 use Rattle.trac_c.specs.Turned.{written_to}
 use Rattle.trac_c.proofs.devices.RoomySinkSink.put_all.Given as goal
 
--- the characters of the rest so far were written
-abbrev pub invariant-loop-cell : goal.invariant-loop-cell
-invariant-loop-cell l =
+-- the characters so far were written
+abbrev pub invariant-loop-i : goal.invariant-loop-i
+invariant-loop-i l =
     record {
-      same_room : l.self.room.ghost_name ≡ l.initial.self.room.ghost_name;
-      same_size : length l.self.room.now ≡ length l.initial.self.room.now;
-      counts : l.self.failures ≡ l.initial.self.failures;
-      writes : written_to l.self ≡ written_to l.initial.self ++ text_of_cells (take l.cell-index l.cell-items);
+      same_room : l.self.room.ghost_name ≡ l.fn.self.room.ghost_name;
+      same_size : length l.self.room.now ≡ length l.fn.self.room.now;
+      counts : l.self.failures ≡ l.fn.self.failures;
+      writes : written_to l.self ≡ written_to l.fn.self ++ take l.i l.text;
     }

@@ -1,12 +1,12 @@
-use Rattle.trac_devices.proofs.Words.{◌≡◌, ◌++◌, take, text_of_cells}
+use Rattle.trac_devices.proofs.Words.{◌≡◌, ◌++◌, take}
 use Rattle.trac_devices.proofs.device.Sink.put_all.Given as goal
 
 -- the characters so far were written
-abbrev pub invariant-loop-cell : goal.invariant-loop-cell
-invariant-loop-cell g l =
+abbrev pub invariant-loop-i : goal.invariant-loop-i
+invariant-loop-i g l =
     record {
       kept : g.Self.Sink.lent l.self ≡ g.Self.Sink.lent l.initial.self;
       counts : g.Self.Sink.failure_count l.self ≡ g.Self.Sink.failure_count l.initial.self;
       told : g.Self.Sink.tells l.initial.self → g.Self.Sink.tells l.self;
-      writes : g.Self.Sink.tells l.initial.self → g.Self.Sink.written l.self ≡ g.Self.Sink.written l.initial.self ++ text_of_cells (take l.cell-index l.text);
+      writes : g.Self.Sink.tells l.initial.self → g.Self.Sink.written l.self ≡ g.Self.Sink.written l.initial.self ++ take l.i l.text;
     }

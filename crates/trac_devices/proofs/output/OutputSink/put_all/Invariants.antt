@@ -1,4 +1,4 @@
-use Rattle.trac_devices.proofs.Words.{◌≡◌, ◌≤◌, ◌-◌, take, length, Appends, text_of_cells, accepted}
+use Rattle.trac_devices.proofs.Words.{◌≡◌, ◌≤◌, ◌-◌, take, length, Appends, accepted}
 use Rattle.trac_devices.proofs.output.OutputSink.put_all.Given as goal
 
 -- the characters so far were taken
@@ -9,9 +9,9 @@ invariant-loop-taken g l =
     record {
       within : l.taken ≤ length l.text;
       counts : now.device.failures ≡ first.device.failures;
-      appends : Appends (accepted g.W.Write.contents first) (accepted g.W.Write.contents now) (take l.taken (text_of_cells l.text));
+      appends : Appends (accepted g.W.Write.contents first) (accepted g.W.Write.contents now) (take l.taken l.text);
     }
 
--- the cells that are left
+-- the characters that are left
 abbrev pub decreases-loop-taken : goal.decreases-loop-taken
 decreases-loop-taken g l = length l.text - l.taken

@@ -1,5 +1,5 @@
 use Rattle.trac_space.proofs.Words.{◌≡◌, ◌≤◌, ◌-◌, take, false, length, ◌==◌, list_any}
-use Rattle.trac_space.proofs.byte_search.count_before.Given as goal
+use Rattle.trac_space.proofs.byte_search.count_blocks.Given as goal
 
 -- the byte doesn't stand among those so far
 abbrev pub invariant-loop-done : goal.invariant-loop-done

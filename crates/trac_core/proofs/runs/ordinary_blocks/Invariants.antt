@@ -1,5 +1,5 @@
 use Rattle.trac_core.proofs.Words.{◌+◌, ◌-◌, ◌≤◌, length, take, All, text_of_cells, IsOrdinary}
-use Rattle.trac_core.proofs.runs.ordinary_run.Given as goal
+use Rattle.trac_core.proofs.runs.ordinary_blocks.Given as goal
 
 -- the characters so far have no rule of their own
 abbrev pub invariant-loop-i : goal.invariant-loop-i

@@ -1,0 +1,13 @@
+use Rattle.trac_devices.proofs.Words.{◌≤◌, ◌-◌, ◌+◌, length, AreWritten}
+use Rattle.trac_devices.proofs.characters.write_two_blocks.Given as goal
+
+-- the characters so far are written
+abbrev pub invariant-loop-i : goal.invariant-loop-i
+invariant-loop-i l =
+    record {
+      within : l.i ≤ length l.text;
+      written : AreWritten l.i l.text l.bytes;
+    }
+
+abbrev pub decreases-loop-i : goal.decreases-loop-i
+decreases-loop-i l = length l.text + 1 - l.i
