@@ -52,19 +52,19 @@ check-machines: check-tools
 	@checks/tools machines
 	$(PYTEST) checks/machines
 
-## make check-all  all of these checks
-check-all: check check-machines
-
 ## make test       the gate: make check, all proofs, tests and edits, and the checks of what is proved
 test:
-	@checks/gate check check-machines proofs check-proved
+	@checks/gate check check-machines proofs check-proved check-timed
 
 proofs:
 	@$(RT) . rt ci
 
 check-proved: check-tools programs dist
-	$(PYTEST) checks/proved
+	$(PYTEST) -m 'not timed' checks/proved
 	$(PYTHON) bench/bench.py --smoke
+
+check-timed: check-tools dist
+	$(PYTEST) -n 0 -m timed checks/proved
 
 ## make edits      the edits that the gate leaves out; CRATES='trac_space ..' names some
 edits:
@@ -170,5 +170,5 @@ clean:
 check-tools:
 	@checks/tools
 
-.PHONY: all help prove programs check check-machines check-all test proofs check-proved edits generate types dist install uninstall package \
-    clean check-tools
+.PHONY: all help prove programs check check-machines test proofs check-proved check-timed edits generate types dist \
+    install uninstall package clean check-tools

@@ -7,6 +7,7 @@ import re
 import unittest
 
 import page
+import pytest
 from page import LOOP, PLACE, By, Page, example
 from test_trace import rows as traced
 from trac import TOP, report, whole_trace
@@ -370,6 +371,7 @@ class Hands(Page):
                          f'step 0 of {self.steps()[1]}')
 
 
+@pytest.mark.timed
 class Speed(Page):
     CLICKS = """
         const button = document.getElementById(arguments[0]);

@@ -8,6 +8,7 @@ import tempfile
 import unittest
 
 import page
+import pytest
 from page import LOOP, PLACE, By, Page, example
 from selenium.webdriver.common.keys import Keys
 from test_trace import rows as traced
@@ -223,6 +224,7 @@ TIMES = """
 """
 
 
+@pytest.mark.timed
 class Long(Lecture):
     def quick(self, name, most, longest=None, count=9, place=None, rounds=6):
         """The middle one of some clicks takes less, and the page is never held for long, in a round of several: one

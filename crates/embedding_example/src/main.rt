@@ -2,7 +2,7 @@
 //! steps. The workspaces are arrays, and the engine takes no memory.
 #![tactic(auto)]
 
-ghost use Rattle.std.specs.Prelude.{◌≡◌, None};
+ghost use Rattle.std.specs.Prelude.{◌≡◌, ◌+◌, None};
 
 use std::io;
 use std::io::Write;
@@ -64,6 +64,7 @@ fn take_turn(machine: &mut Machine, source: &mut SliceSource, sink: &mut SliceSi
     requires running { machine.old.fate ≡ None }
     requires no_failure { (source.old.failures ≡ 0) × (sink.old.failures ≡ 0) }
     ensures fate { machine.new.fate ≡ result }
+    ensures steps { result ≡ None → machine.new.steps ≡ machine.old.steps + 150 }
     ensures no_failure { result ≡ None → (source.new.failures ≡ 0) × (sink.new.failures ≡ 0) }
 {
     for _taken in 0..BUDGET {

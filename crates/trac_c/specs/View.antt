@@ -9,12 +9,12 @@ use Rattle.trac_language.specs.State.{OpenCall, size}
 use Rattle.trac_space.specs.declared.cell.Cell.{Cell}
 use Rattle.trac_space.specs.declared.cell.Cell.TheVariants.{Byte, Call, Comma, Gap, Head}
 use Rattle.trac_functions.specs.Flat.{Neutral}
-use Rattle.trac_core.specs.declared.machine.view.ScanningRule.{ScanningRule}
-use Rattle.trac_core.specs.declared.machine.view.ScanningRule.TheVariants.{Idling, Layout}
-use Rattle.trac_core.specs.declared.machine.view.ScanningRule.TheVariants.{Protection, Argument}
-use Rattle.trac_core.specs.declared.machine.view.ScanningRule.TheVariants.{ActiveCall, NeutralCall}
-use Rattle.trac_core.specs.declared.machine.view.ScanningRule.TheVariants.{NumberSign, EndOfCall}
-use Rattle.trac_core.specs.declared.machine.view.ScanningRule.TheVariants.{Character}
+use Rattle.trac_core.specs.declared.rules.ScanningRule.{ScanningRule}
+use Rattle.trac_core.specs.declared.rules.ScanningRule.TheVariants.{Idling, Layout}
+use Rattle.trac_core.specs.declared.rules.ScanningRule.TheVariants.{Protection, Argument}
+use Rattle.trac_core.specs.declared.rules.ScanningRule.TheVariants.{ActiveCall, NeutralCall}
+use Rattle.trac_core.specs.declared.rules.ScanningRule.TheVariants.{NumberSign, EndOfCall}
+use Rattle.trac_core.specs.declared.rules.ScanningRule.TheVariants.{Character}
 use Rattle.trac_core.specs.declared.machine.session.Awaits.{Awaits}
 use Rattle.trac_core.specs.declared.machine.session.Awaits.TheVariants.{Nothing}
 use Rattle.trac_core.specs.declared.machine.session.Awaits.TheVariants.{Text as TextAwaited}

@@ -5,6 +5,7 @@ use Rattle.trac_functions.proofs.FlatLemmas.{neutral_of-innermost, grown-mode, c
 use Rattle.std.proofs.lemmas.List.{get_or-take}
 use Rattle.trac_space.specs.Cells.{IsCallAt}
 use Rattle.trac_core.specs.OpenCalls.{innermost_of, mark_of}
+use Rattle.trac_core.specs.declared.machine.open_calls.CallMark.{CallMark}
 
 -- each cell of a neutral string counts once
 cells-neutral : (cells : List Cell) → length (neutral_of cells).base + sum_by call_cells (neutral_of cells).calls ≡ length cells
@@ -22,14 +23,14 @@ innermost-is cells place last =
     rw (neutral_of-innermost cells place last, cells-before cells place (omega (arith, last.mark.0)), grown-mode) refl
 
 -- the mark of the call with this number around one, the call itself being 0, whose mark stands at a place
-abbrev pub mark_from : ℕ → List Cell → ℕ → Option ℕ
-mark_from zero cells place = Some place
+abbrev pub mark_from : ℕ → List Cell → ℕ → Option CallMark
+mark_from zero cells place = Some (record { mode = mode_at cells place; place = place })
 mark_from (suc number) cells place = mark_of number (neutral_of (take place cells))
 
 -- the calls are counted from the innermost one
 pub mark-last : (number : ℕ) (cells : List Cell) (place : ℕ) → IsLastCall cells place → mark_of number (neutral_of cells) ≡ mark_from number cells place
 mark-last zero cells place last =
-    rw (neutral_of-innermost cells place last, cells-before cells place (omega (arith, last.mark.0))) refl
+    rw (neutral_of-innermost cells place last, cells-before cells place (omega (arith, last.mark.0)), grown-mode) refl
 mark-last (suc number) cells place last = rw (neutral_of-innermost cells place last) refl
 
 pub mark-none : (number : ℕ) (cells : List Cell) → NoCall cells → mark_of number (neutral_of cells) ≡ None
@@ -40,12 +41,12 @@ pub mark-around : (number : ℕ) (cells : List Cell) (place around : ℕ) → pl
 mark-around number cells place around within last =
     mark-last number (take place cells) around last ∙ same number
   where
-    below : around ≤ place
+    below : around < place
     below = omega (arith, last.mark.0, length-take-le place cells within)
 
     same : (number : ℕ) → mark_from number (take place cells) around ≡ mark_from number cells around
-    same zero = refl
-    same (suc number) = ap (λ cells. mark_of number (neutral_of cells)) (take-take around place cells below)
+    same zero = ap (λ cell. Some (record { mode = mode_of cell; place = around })) (get_or-take place cells around (Byte 0) below)
+    same (suc number) = ap (λ cells. mark_of number (neutral_of cells)) (take-take around place cells (omega (arith, below)))
 
 -- a mark among the first cells
 pub call-in_front : (cells : List Cell) (bound place : ℕ) → bound ≤ length cells → IsCallAt (take bound cells) place → (place < bound) × IsCallAt cells place

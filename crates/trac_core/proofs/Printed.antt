@@ -2,13 +2,13 @@
 use Rattle.trac_functions.specs.Flat.{in_first}
 use Rattle.trac_space.specs.declared.cell.Cell.{Cell}
 use Rattle.trac_space.specs.declared.cell.Cell.TheVariants.{Byte as ByteCell, Call, Comma, Gap, Head}
-use Rattle.trac_core.proofs.Words.{◌≡◌, ◌≢◌, ℕ, ◌+◌, ◌<◌, Bool, true, false, List, [], ◌∷◌, ◌++◌, length, take, drop, slice_get, get_or, Option, Some, None, refl, sym, ap, ◌∙◌, arith, codes, ℤ, take-append-drop, take_more, slice_get-get_or, Mode, Item, Function, ReadString, ReadCharacter, ChangeMeta, PrintString, PrintForm, SegmentString, CallForm, CallSegment, CallCharacter, CallNumber, InitialPart, CallRestore, Arithmetic, Text, Form, before_pointer, after_pointer, OpenCall, Memory, Input, arguments, argument, World, Meaning, Gives, Ends, on_form, take_part, result_or, read_all, read_string, read_character, change_meta, show, show_form, meaning, meaning_of, before_meta, from_meta, form_of_call, Rule, EndCall, rule, function_of, world_of, perform, end_call, follow, step, with_active, IsLastCall, text_of_cells, Contents, IsSound, memory_of, mode_at, arguments_at, world, state_with, performed_by, performs, prints_output, function_at, display, shown, printed_in, zero, suc, ◌≤◌, ◌⊎◌, inl, inr, length-drop, texts_of}
+use Rattle.trac_core.proofs.Words.{◌≡◌, ◌≢◌, ℕ, ◌+◌, ◌<◌, Bool, true, false, List, [], ◌∷◌, ◌++◌, length, take, drop, slice_get, get_or, Option, Some, None, refl, sym, ap, ◌∙◌, subst, arith, codes, take-append-drop, take_more, slice_get-get_or, Mode, Item, Function, PrintString, PrintForm, Text, Form, before_pointer, after_pointer, OpenCall, Memory, Input, arguments, argument, World, Meaning, Gives, Ends, on_form, show, show_form, meaning, meaning_of, form_of_call, Rule, EndCall, rule, function_of, world_of, perform, end_call, follow, step, with_active, IsLastCall, text_of_cells, Contents, IsSound, memory_of, mode_at, arguments_at, world, state_with, performed_by, performs, prints_output, function_at, display, shown, printed_in, zero, suc, ◌≤◌, ◌⊎◌, inl, inr, length-drop, texts_of}
 use Rattle.std.proofs.lemmas.List.{length-append}
 use Rattle.trac_language.specs.declared.item.Item.TheVariants.{Byte}
-use Rattle.trac_language.specs.Part.{Part}
 use Rattle.std.specs.Prelude.{◌&&◌, if◌then◌else◌, is_none, nat_lt}
 use Rattle.trac_core.specs.Machine.{MachineState}
 use Rattle.trac_core.specs.Session.{next_function, next_printed, output_after, step_prints}
+use Rattle.trac_laws.proofs.Shape.{Reading, Stopped, Given, Shape, Reads, Ended, Does, shape}
 use Rattle.trac_core.proofs.FormDisplay.{show-append}
 use Rattle.trac_core.proofs.Performing.{closed, performs-closed, step-performs}
 
@@ -30,62 +30,22 @@ length-display form =
 
 -- ---- what a function prints
 
-on_form-prints : (o : Option Form) (m : Form → Meaning) (w : World) → ((form : Form) → printed_in (m form) ≡ []) → printed_in (on_form o m w) ≡ []
-on_form-prints None m w h = refl
-on_form-prints (Some form) m w h = h form
+prints-shape : (f : Function) (forms : List Form) (meta : ℕ) (m : Input → Meaning) → Shape f forms meta m → (i : Input) → f ≢ PrintString → f ≢ PrintForm → printed_in (m i) ≡ []
+prints-shape f forms meta m (Reads r each) i string form = go (each i)
+  where
+    go : Reading forms meta i (m i) → printed_in (m i) ≡ []
+    go (Stopped fate e) = ap printed_in e
+    go (Given value left of e) = ap printed_in e
+prints-shape f forms meta m (Ended fate e) i string form = ap printed_in (e i)
+prints-shape f forms meta m (Does value forced forms' meta' printed keeps quiet e) i string form = ap printed_in (e i) ∙ quiet string form
 
-take_part-prints : (name z : Text) (o : Option Part) (w : World) → printed_in (take_part name o z w) ≡ []
-take_part-prints name z None w = refl
-take_part-prints name z (Some part) w = refl
-
-result_or-prints : (o : Option ℤ) (before z : Text) (w : World) → printed_in (result_or o before z w) ≡ []
-result_or-prints None before z w = refl
-result_or-prints (Some n) before z w = refl
-
-read_all-prints : (fails : Bool) (text : Text) (w : World) → printed_in (read_all fails text w) ≡ []
-read_all-prints true text w = refl
-read_all-prints false [] w = refl
-read_all-prints false (c ∷ text) w = refl
-
-read_string-prints : (text rest : Text) (w : World) → printed_in (read_string text rest w) ≡ []
-read_string-prints text [] w = read_all-prints w.input.fails text w
-read_string-prints text (c ∷ rest) w = refl
-
-read_character-prints : (text : Text) (fails : Bool) (w : World) → printed_in (read_character text fails w) ≡ []
-read_character-prints (c ∷ rest) fails w = refl
-read_character-prints [] true w = refl
-read_character-prints [] false w = refl
-
-change_meta-prints : (text : Text) (w : World) → printed_in (change_meta text w) ≡ []
-change_meta-prints [] w = refl
-change_meta-prints (c ∷ text) w = refl
-
-plain-prints : (f : Function) (args : List Text) (w : World) → prints_output (Some f) ≡ false → printed_in (meaning_of f args w) ≡ []
-unfolding meaning_of
-plain-prints ReadString args w e = read_string-prints (before_meta w) (from_meta w) w
-plain-prints ReadCharacter args w e = read_character-prints w.input.text w.input.fails w
-plain-prints ChangeMeta args w e = change_meta-prints (argument args 1) w
-plain-prints PrintString args w e = absurd cc
-plain-prints SegmentString args w e = on_form-prints (form_of_call args w) _ w (λ form. refl)
-plain-prints PrintForm args w e = absurd cc
-plain-prints CallForm args w e = on_form-prints (form_of_call args w) _ w (λ form. refl)
-plain-prints CallSegment args w e = on_form-prints (form_of_call args w) _ w (λ form. take_part-prints (argument args 1) (argument args 2) _ w)
-plain-prints CallCharacter args w e = on_form-prints (form_of_call args w) _ w (λ form. take_part-prints (argument args 1) (argument args 2) _ w)
-plain-prints CallNumber args w e = on_form-prints (form_of_call args w) _ w (λ form. take_part-prints (argument args 1) (argument args 3) _ w)
-plain-prints InitialPart args w e = on_form-prints (form_of_call args w) _ w (λ form. take_part-prints (argument args 1) (argument args 3) _ w)
-plain-prints CallRestore args w e = on_form-prints (form_of_call args w) _ w (λ form. refl)
-plain-prints (Arithmetic operation) args w e = result_or-prints _ _ (argument args 3) w
-plain-prints _ args w e = refl
+plain-prints : (f : Function) (args : List Text) (w : World) → f ≢ PrintString → f ≢ PrintForm → printed_in (meaning_of f args w) ≡ []
+plain-prints f args w = prints-shape f w.forms w.meta _ (shape f args w.forms w.meta) w.input
 
 -- a function that doesn't print, or none
 pub other-prints : (f : Option Function) {g : Option Function} (args : List Text) (w : World) → f ≡ g → g ≢ Some PrintString → g ≢ Some PrintForm → [] ≡ printed_in (meaning f args w)
 other-prints None args w is string form = refl
-other-prints (Some f) args w is string form = sym (plain-prints f args w (go f (λ e. string (sym is ∙ e)) (λ e. form (sym is ∙ e))))
-  where
-    go : (f : Function) → Some f ≢ Some PrintString → Some f ≢ Some PrintForm → prints_output (Some f) ≡ false
-    go PrintString string form = absurd (string refl)
-    go PrintForm string form = absurd (form refl)
-    go _ string form = refl
+other-prints (Some f) args w is string form = sym (plain-prints f args w (λ e. string (sym is ∙ ap Some e)) (λ e. form (sym is ∙ ap Some e)))
 
 pub string-prints : (f : Option Function) (args : List Text) (w : World) → f ≡ Some PrintString → argument args 1 ≡ printed_in (meaning f args w)
 unfolding meaning_of
@@ -107,7 +67,9 @@ perform-prints mode (Ends fate) memory input = refl
 
 quiet-prints : (f : Option Function) (args : List Text) (w : World) → prints_output f ≡ false → printed_in (meaning f args w) ≡ []
 quiet-prints None args w quiet = refl
-quiet-prints (Some f) args w quiet = plain-prints f args w quiet
+quiet-prints (Some f) args w quiet =
+    let not = λ (g : Function) (e : f ≡ g). subst (λ f. prints_output (Some f) ≡ false) e quiet in
+    plain-prints f args w (λ e. (let no = not PrintString e in cc)) (λ e. (let no = not PrintForm e in cc))
 
 -- one that performs no call of a function that prints, prints nothing
 rule-prints : (r : Rule) (memory : Memory) (input : Input) → prints_output (performed_by r memory.calls) ≡ false → output_after (follow r (state_with memory input [])) ≡ []

@@ -1,66 +1,97 @@
 -- The row of the table of scanning rules, by the first characters, as a scanner tells them.
-use Rattle.trac_core.proofs.Words.{if◌then◌else◌, Bool, true, false, codes, bytes_eq, is_layout, number_sign_rule, BeginArgument, BeginCall, DeleteLayout, EndCall, Active, ◌==◌, ◌≡◌, ◌≢◌, ℕ, zero, suc, ◌+◌, ◌-◌, ◌<◌, ◌≤◌, ⊎_elim, List, [], ◌∷◌, length, take, drop, map, Option, Some, None, refl, sym, ap, ◌∙◌, arith, slice_get, slice_range, cases_eq, ne_eqb, take-length, Text, protected, AddCharacter, parenthesis_rule, rule, Cell, Call, seen, Neutral, no_neutral, with_cell, with_cells, neutral_of, text_of_cells}
+use Rattle.trac_core.proofs.Words.{if◌then◌else◌, IsOrdinary, is_special, Bool, true, false, codes, bytes_eq, is_layout, number_sign_rule, BeginArgument, BeginCall, DeleteLayout, EndCall, Active, ◌==◌, ◌≡◌, ◌≢◌, ℕ, zero, suc, ◌+◌, ◌-◌, ◌<◌, ◌≤◌, List, [], ◌∷◌, length, take, drop, map, Option, Some, None, refl, sym, ap, ◌∙◌, arith, slice_get, slice_range, ne_eqb, take-length, Text, protected, AddCharacter, parenthesis_rule, rule, Cell, Call, seen, Neutral, no_neutral, with_cell, with_cells, neutral_of, text_of_cells}
 use Rattle.trac_language.specs.declared.mode.Mode.TheVariants.{Neutral as NeutralMode}
-use Rattle.trac_laws.proofs.Rules.{rule_tab, rule_line_feed, rule_return, rule_comma, rule_end, rule_active, rule_neutral, rule_other}
-use Rattle.trac_core.specs.declared.machine.view.ScanningRule.TheVariants as row
+use Rattle.trac_laws.proofs.Rules.{rule_comma, rule_end, rule_active, rule_neutral, rule_other}
+use Rattle.trac_core.specs.declared.rules.ScanningRule.{ScanningRule}
+use Rattle.trac_core.specs.declared.rules.ScanningRule.TheVariants as row
+use Rattle.trac_core.specs.Rules.{Begins, IsFirstOf, Opens}
 use Rattle.trac_core.specs.View.{dropped, row_of, stops_before, steps_before_call, taken, taken_in_row}
 use Rattle.std.proofs.lemmas.List.{drop-drop, length-take}
 use Rattle.std.proofs.lemmas.Slice.Eq.{bytes_eq-Decides}
-use Rattle.trac_core.proofs.Scanning.{first-rest, second-rest, third-rest, sign-rule, rule-parenthesis, rule-nothing}
-
-pub row-nothing : (text : Text) → slice_get text 0 ≡ None → row.Idling ≡ row_of (rule text)
-row-nothing [] e = ap row_of (sym rule-nothing)
-row-nothing (c ∷ text) e = absurd cc
-
-pub row-none : (cells : List Cell) → slice_get cells 0 ≡ None → row.Idling ≡ row_of (rule (text_of_cells cells))
-row-none [] e = row-nothing [] refl
-row-none (cell ∷ cells) e = absurd cc
+use Rattle.trac_core.proofs.Scanning.{first-rest, second-rest, third-rest, not-layout, rule-layout, rule-parenthesis, rule-nothing}
+use Rattle.trac_core.proofs.StepsInRow.{ordinary-layout, ordinary-not}
 
 -- where the rule is this one for each text that begins with c
 row-first : (text : Text) (c : ℕ) → slice_get text 0 ≡ Some c → rule text ≡ rule (c ∷ drop 1 text)
 row-first text c first = ap rule (first-rest text c first)
 
-pub row-return : (text : Text) → slice_get text 0 ≡ Some 13 → row.Layout ≡ row_of (rule text)
-row-return text first = ap row_of (sym (row-first text 13 first ∙ rule_return (drop 1 text)))
-
--- a tab or a line feed
-pub row-layout : (text : Text) (c : ℕ) → slice_get text 0 ≡ Some c → 9 ≤ c → c < 11 → row.Layout ≡ row_of (rule text)
-row-layout text c first low high =
-    ⊎_elim
-    (λ tab. ap row_of (sym (row-first text 9 (first ∙ ap Some tab) ∙ rule_tab (drop 1 text))))
-    (λ other.
-    let feed : c ≡ 10 = omega arith in
-    ap row_of (sym (row-first text 10 (first ∙ ap Some feed) ∙ rule_line_feed (drop 1 text))))
-    (cases_eq c 9)
-
 parenthesis-row : (o : Option (Text × Text)) → row.Protection ≡ row_of (parenthesis_rule o)
 parenthesis-row None = refl
 parenthesis-row (Some parts) = refl
 
-pub row-protection : (text : Text) → slice_get text 0 ≡ Some 40 → row.Protection ≡ row_of (rule text)
-row-protection text first =
+character-row : (c : ℕ) (rest : Text) → IsOrdinary c → row.Character ≡ row_of (AddCharacter c rest)
+character-row c rest ordinary = simp (ne_eqb c 35 (ordinary-not c 35 ordinary refl))
+
+-- the row of the rule that fits, by what the text begins with
+pub row-begins : (r : ScanningRule) (text : Text) → Begins r text → r ≡ row_of (rule text)
+row-begins row.Idling text none = ap row_of (sym (ap rule none ∙ rule-nothing))
+row-begins row.Layout text first = ap row_of (sym (row-first text first.0 first.1.0 ∙ rule-layout first.0 (drop 1 text) first.1.1))
+row-begins row.Protection text first =
     let o = protected (drop 1 text) in
     parenthesis-row o ∙ ap row_of (sym (row-first text 40 first ∙ rule-parenthesis (drop 1 text) o refl))
+row-begins row.Argument text first = ap row_of (sym (row-first text 44 first ∙ rule_comma (drop 1 text)))
+row-begins row.ActiveCall text opens = ap row_of (sym opens.0)
+row-begins row.NeutralCall text opens = ap row_of (sym opens.0)
+row-begins row.NumberSign text sign = ap row_of (sym sign.1)
+row-begins row.EndOfCall text first = ap row_of (sym (row-first text 41 first ∙ rule_end (drop 1 text)))
+row-begins row.Character text first =
+    let c = first.0 in
+    let ordinary = first.1.1 in
+    let layout = not-layout c (ordinary-layout c ordinary) in
+    let not = λ (b : ℕ) (special : is_special b ≡ true). ordinary-not c b ordinary special in
+    character-row c (drop 1 text) ordinary
+    ∙ ap row_of (sym (row-first text c first.1.0 ∙ rule_other c (drop 1 text) layout.0 layout.1 layout.2 (not 40 refl) (not 44 refl) (not 35 refl) (not 41 refl)))
 
-pub row-end : (text : Text) → slice_get text 0 ≡ Some 41 → row.EndOfCall ≡ row_of (rule text)
-row-end text first = ap row_of (sym (row-first text 41 first ∙ rule_end (drop 1 text)))
+pub begins-nothing : (cells : List Cell) → slice_get cells 0 ≡ None → Begins row.Idling (text_of_cells cells)
+begins-nothing [] e = refl
+begins-nothing (cell ∷ cells) e = absurd cc
 
-pub row-comma : (text : Text) → slice_get text 0 ≡ Some 44 → row.Argument ≡ row_of (rule text)
-row-comma text first = ap row_of (sym (row-first text 44 first ∙ rule_comma (drop 1 text)))
+-- a character whose rule is this one whatever follows it
+pub begins-first : (r : ScanningRule) (text : Text) (c : ℕ) → slice_get text 0 ≡ Some c → IsFirstOf r c → r ≢ row.NumberSign → Begins r text
+begins-first row.Idling text c first is sign = absurd is
+begins-first row.Layout text c first is sign = (c, (first, is))
+begins-first row.Protection text c first is sign = first ∙ ap Some is
+begins-first row.Argument text c first is sign = first ∙ ap Some is
+begins-first row.ActiveCall text c first is sign = absurd is
+begins-first row.NeutralCall text c first is sign = absurd is
+begins-first row.NumberSign text c first is sign = absurd (sign refl)
+begins-first row.EndOfCall text c first is sign = first ∙ ap Some is
+begins-first row.Character text c first is sign = (c, (first, is))
 
-pub row-other : (text : Text) (c : ℕ) → slice_get text 0 ≡ Some c → c ≢ 9 → c ≢ 10 → c ≢ 13 → c ≢ 40 → c ≢ 44 → c ≢ 35 → c ≢ 41 → row.Character ≡ row_of (rule text)
-row-other text c first tab feed back opens comma sign close =
-    let row : row.Character ≡ row_of (AddCharacter c (drop 1 text)) = simp (ne_eqb c 35 sign) in
-    row ∙ ap row_of (sym (row-first text c first ∙ rule_other c (drop 1 text) tab feed back opens comma sign close))
+-- a character that has a rule of its own
+pub special-first : (r : ScanningRule) (c : ℕ) → IsFirstOf r c → r ≢ row.Character → true ≡ is_special c
+special-first row.Idling c is other = absurd is
+special-first row.Layout c is other = rw is refl
+special-first row.Protection c is other = rw is refl
+special-first row.Argument c is other = rw is refl
+special-first row.ActiveCall c is other = absurd is
+special-first row.NeutralCall c is other = absurd is
+special-first row.NumberSign c is other = rw is refl
+special-first row.EndOfCall c is other = rw is refl
+special-first row.Character c is other = absurd (other refl)
 
-pub row-active : (text : Text) → slice_get text 0 ≡ Some 35 → slice_get text 1 ≡ Some 40 → row.ActiveCall ≡ row_of (rule text)
-row-active text first second = ap row_of (sym (ap rule (second-rest text 35 40 first second) ∙ rule_active (drop 2 text)))
+-- one that is no layout
+pub layout-first : (r : ScanningRule) (c : ℕ) → IsFirstOf r c → r ≢ row.Layout → false ≡ is_layout c
+layout-first row.Idling c is other = absurd is
+layout-first row.Layout c is other = absurd (other refl)
+layout-first row.Protection c is other = rw is refl
+layout-first row.Argument c is other = rw is refl
+layout-first row.ActiveCall c is other = absurd is
+layout-first row.NeutralCall c is other = absurd is
+layout-first row.NumberSign c is other = rw is refl
+layout-first row.EndOfCall c is other = rw is refl
+layout-first row.Character c is other = sym (ordinary-layout c is)
 
-pub row-neutral : (text : Text) → slice_get text 0 ≡ Some 35 → slice_get text 1 ≡ Some 35 → slice_get text 2 ≡ Some 40 → row.NeutralCall ≡ row_of (rule text)
-row-neutral text first second third = ap row_of (sym (ap rule (third-rest text 35 35 40 first second third) ∙ rule_neutral (drop 3 text)))
+-- the characters that open a call are as many as there are
+pub opens-active : (text : Text) → slice_get text 0 ≡ Some 35 → slice_get text 1 ≡ Some 40 → Opens Active 2 text
+opens-active text first second =
+    let is = second-rest text 35 40 first second in
+    (ap rule is ∙ rule_active (drop 2 text), omega (arith, ap (λ t. length t) is))
 
-pub row-sign : (text : Text) → slice_get text 0 ≡ Some 35 → slice_get text 1 ≢ Some 40 → (slice_get text 1 ≡ Some 35 → slice_get text 2 ≢ Some 40) → row.NumberSign ≡ row_of (rule text)
-row-sign text first second third = ap row_of (sym (sign-rule text first second third))
+pub opens-neutral : (text : Text) → slice_get text 0 ≡ Some 35 → slice_get text 1 ≡ Some 35 → slice_get text 2 ≡ Some 40 → Opens NeutralMode 3 text
+opens-neutral text first second third =
+    let is = third-rest text 35 35 40 first second third in
+    (ap rule is ∙ rule_neutral (drop 3 text), omega (arith, ap (λ t. length t) is))
 
 -- ---- what a rule drops
 
@@ -118,9 +149,9 @@ pub taken-parenthesis : (text : Text) (o : Option (Text × Text)) (n : ℕ) → 
 taken-parenthesis text o n first is =
     ap (λ r. taken r n) (sym (row-first text 40 first ∙ rule-parenthesis (drop 1 text) o is))
 
-character-row : (sign : Bool) → taken_in_row (if sign then row.NumberSign else row.Character) ≡ 1
-character-row true = refl
-character-row false = refl
+sign-row : (sign : Bool) → taken_in_row (if sign then row.NumberSign else row.Character) ≡ 1
+sign-row true = refl
+sign-row false = refl
 
 sign-within : (active neutral : Bool) (n : ℕ) (a b c : Text) → (active ≡ true → 2 ≤ n) → (neutral ≡ true → 3 ≤ n) → 1 ≤ n → taken_in_row (row_of (if active then BeginCall Active a else (if neutral then BeginCall NeutralMode b else AddCharacter 35 c))) ≤ n
 sign-within true neutral n a b c two three one = two refl
@@ -137,7 +168,7 @@ other-within false false false true close c rest o =
     sign-within (bytes_eq (take 1 rest) (codes "(")) (bytes_eq (take 2 rest) (codes "#(")) (suc (length rest)) (drop 1 rest) (drop 2 rest) rest
     (λ is. omega (arith, length-take 1 rest, prefix 1 (codes "(") is)) (λ is. omega (arith, length-take 2 rest, prefix 2 (codes "#(") is)) (omega arith)
 other-within false false false false true c rest o = omega arith
-other-within false false false false false c rest o = omega (arith, character-row (c == 35))
+other-within false false false false false c rest o = omega (arith, sign-row (c == 35))
 
 -- no more is taken so than there is
 pub taken-within : (text : Text) → taken_in_row (row_of (rule text)) ≤ length text

@@ -1,8 +1,7 @@
 -- The rules that perform no call, over the contents of a workspace.
-use Rattle.trac_core.proofs.Words.{length-map, get_or-map, get_or, seen, ◌≡◌, ◌≢◌, ℕ, ◌+◌, ◌-◌, ◌<◌, true, false, List, [], ◌∷◌, ◌++◌, length, take, drop, map, All, Option, Some, None, refl, sym, ap, ◌∙◌, subst, ⊎_elim, arith, slice_get, MatchOption, is_some, slice_range, cases_eq, drop-map, take-map, length-drop, drop-drop, All-take, All-drop, take-length, Mode, Active, Text, Form, cells, protected, Input, OpenCall, add, begin_argument, Rule, LoadIdling, DeleteLayout, AddProtected, ClearActive, BeginArgument, BeginCall, EndCall, AddCharacter, parenthesis_rule, is_layout, rule, Next, idling, follow, end_need, need_by, step, need, reads_last_by, Cell, Byte, Call, Comma, NoCall, IsLastCall, flat_text, text_of_cells, character_of, IsByte, Contents, used, IsSound, Neutral, with_cell, neutral_of, memory_with, memory_of, state_with, Scans, size, State, performed_by, ending}
-use Rattle.trac_language.specs.declared.mode.Mode.TheVariants.{Neutral as NeutralMode}
+use Rattle.trac_core.proofs.Words.{length-map, get_or-map, get_or, seen, ◌≡◌, ◌≢◌, ℕ, ◌+◌, ◌-◌, ◌<◌, true, false, List, [], ◌∷◌, ◌++◌, length, take, drop, map, All, Option, Some, None, refl, sym, ap, ◌∙◌, subst, ⊎_elim, arith, slice_get, MatchOption, is_some, slice_range, cases_eq, drop-map, take-map, length-drop, drop-drop, All-take, All-drop, take-length, Mode, Text, Form, cells, protected, Input, OpenCall, add, begin_argument, Rule, LoadIdling, DeleteLayout, AddProtected, ClearActive, BeginArgument, BeginCall, EndCall, AddCharacter, parenthesis_rule, is_layout, rule, Next, idling, follow, end_need, need_by, step, need, reads_last_by, Cell, Byte, Call, Comma, NoCall, IsLastCall, flat_text, text_of_cells, character_of, IsByte, Contents, used, IsSound, Neutral, with_cell, neutral_of, memory_with, memory_of, state_with, Scans, size, State, performed_by, ending}
 use Rattle.std.proofs.lemmas.List.{take_all}
-use Rattle.trac_laws.proofs.Rules.{rule_comma, rule_end, rule_active, rule_neutral, rule_sign_last, rule_two_signs_last, rule_sign, rule_two_signs, rule_other}
+use Rattle.trac_laws.proofs.Rules.{rule_comma, rule_end, rule_sign_last, rule_two_signs_last, rule_sign, rule_two_signs, rule_other}
 use Rattle.trac_functions.proofs.FlatLemmas.{with_cells-append, neutral_of-push, neutral_of-innermost, size-used, with_cells-text, calls-none}
 use Rattle.trac_functions.proofs.ArgumentLemmas.{flat-bytes, text_of_cells-seen}
 
@@ -120,7 +119,7 @@ scans-comma-none old first none =
     (λ meta input output. rw (drop-text 1 old.active, calls-none old.neutral none) refl) (λ s. (refl, (refl, refl)))
 
 -- a mark opens a call
-scans-call : (old : Contents) (mode : Mode) (n : ℕ) → rule (text_of_cells old.active) ≡ BeginCall mode (drop n (text_of_cells old.active)) → Scans old (record old { active = drop n old.active; neutral = old.neutral ++ Call mode 0 ∷ [] }) (used old)
+pub scans-call : (old : Contents) (mode : Mode) (n : ℕ) → rule (text_of_cells old.active) ≡ BeginCall mode (drop n (text_of_cells old.active)) → Scans old (record old { active = drop n old.active; neutral = old.neutral ++ Call mode 0 ∷ [] }) (used old)
 scans-call old mode n fits =
     scans-quiet old _ (BeginCall mode (drop n (text_of_cells old.active))) fits
     (λ meta input output. rw (drop-text n old.active, neutral_of-push old.neutral (Call mode 0)) refl) (λ s. (refl, (refl, refl)))
@@ -136,14 +135,8 @@ third-rest (x ∷ []) b c d e f g = absurd cc
 third-rest (x ∷ y ∷ []) b c d e f g = absurd cc
 third-rest (x ∷ y ∷ z ∷ text) b c d e f g = let first : x ≡ b = cc in let second : y ≡ c = cc in let third : z ≡ d = cc in rw (first, second, third) refl
 
-pub scans-active : (old : Contents) → slice_get (text_of_cells old.active) 0 ≡ Some 35 → slice_get (text_of_cells old.active) 1 ≡ Some 40 → Scans old (record old { active = drop 2 old.active; neutral = old.neutral ++ Call Active 0 ∷ [] }) (used old)
-scans-active old first second = scans-call old Active 2 (ap rule (second-rest _ 35 40 first second) ∙ rule_active _)
-
-pub scans-neutral : (old : Contents) → slice_get (text_of_cells old.active) 0 ≡ Some 35 → slice_get (text_of_cells old.active) 1 ≡ Some 35 → slice_get (text_of_cells old.active) 2 ≡ Some 40 → Scans old (record old { active = drop 3 old.active; neutral = old.neutral ++ Call NeutralMode 0 ∷ [] }) (used old)
-scans-neutral old first second third = scans-call old NeutralMode 3 (ap rule (third-rest _ 35 35 40 first second third) ∙ rule_neutral _)
-
 -- the first character goes to the end of neutral
-scans-first : (old : Contents) (c : ℕ) → rule (text_of_cells old.active) ≡ AddCharacter c (drop 1 (text_of_cells old.active)) → Scans old (record old { active = drop 1 old.active; neutral = old.neutral ++ Byte c ∷ [] }) (used old)
+pub scans-first : (old : Contents) (c : ℕ) → rule (text_of_cells old.active) ≡ AddCharacter c (drop 1 (text_of_cells old.active)) → Scans old (record old { active = drop 1 old.active; neutral = old.neutral ++ Byte c ∷ [] }) (used old)
 scans-first old c fits =
     scans-quiet old _ (AddCharacter c (drop 1 (text_of_cells old.active))) fits
     (λ meta input output. rw (drop-text 1 old.active, neutral_of-push old.neutral (Byte c)) (sym (ap (λ m. Next (state_with m input output)) (with_cells-text (c ∷ []) (neutral_of old.neutral) (drop 1 (text_of_cells old.active)) old.forms meta))))
@@ -171,9 +164,6 @@ sign-rule (b ∷ c ∷ d ∷ text) first second third =
     ap (λ c. rule (35 ∷ c ∷ d ∷ text)) same ∙ rule_two_signs d text later ∙ ap (λ c. AddCharacter 35 (c ∷ d ∷ text)) (sym same))
     (λ other. rule_sign c (d ∷ text) opens other)
     (cases_eq c 35)
-
-pub scans-sign : (old : Contents) → slice_get (text_of_cells old.active) 0 ≡ Some 35 → slice_get (text_of_cells old.active) 1 ≢ Some 40 → (slice_get (text_of_cells old.active) 1 ≡ Some 35 → slice_get (text_of_cells old.active) 2 ≢ Some 40) → Scans old (record old { active = drop 1 old.active; neutral = old.neutral ++ Byte 35 ∷ [] }) (used old)
-scans-sign old first second third = scans-first old 35 (sign-rule (text_of_cells old.active) first second third)
 
 -- a character that isn't layout
 layout-not : (c b : ℕ) → is_layout c ≡ false → is_layout b ≡ true → c ≢ b

@@ -15,7 +15,7 @@ pub use Rattle.trac_core.specs.Display.{display, shown}
 pub use Rattle.trac_core.specs.Machine.{Answers, BrokeOff, Course, EndsRun, GoesOn, IsReportOf, KeepsFormsAndMeta, LeavesMemory, MachineState, Moment, RanThrough, RanToFailure, Reports, ReportsOf, Resumes, StopsAtAllowance, StopsAtInput, StopsAtOutput, StopsAtRoom, after_steps, counted, ending, failing, failing_state_of, first_runs, input_failures, later_runs, made, memory_after, moment, output_failures, state_of, state_with}
 pub use Rattle.trac_core.specs.Matching.{IsAt, side_in, side_of}
 pub use Rattle.trac_core.specs.ReadTexts.{Reads}
-pub use Rattle.trac_core.specs.Performed.{is_plain, performed_by, performs, prints_output, reads_input, touches_device, calls_device, needs_device, needs_device_by}
+pub use Rattle.trac_core.specs.Performed.{performed_by, performs, prints_output, reads_input, touches_device, calls_device, needs_device, needs_device_by}
 pub use Rattle.trac_core.specs.NamedCalls.{IsAlone, IsNamed, StopsBefore, TriedAlone}
 pub use Rattle.trac_core.specs.Advancing.{Advanced, EndsAlone, GoesAlone, NeedsMore, StepsAlone, StopsAlone, advanced_to}
 pub use Rattle.trac_core.specs.Session.{printed_in}
@@ -23,7 +23,7 @@ pub use Rattle.trac_core.specs.StepsInRow.{Advances, AsksFor, IsLayout, IsOrdina
 pub use Rattle.trac_language.specs.declared.report.Report.{Report}
 pub use Rattle.trac_devices.specs.Devices.{Breaks, Prints, Sent, Stream, Streams, has_byte}
 pub use Rattle.trac_forms.specs.Contents.{Contents, IsSound, form_at, part_text, used}
-pub use Rattle.trac_functions.specs.Calls.{IsDefined, IsPlaced, IsValue, Makes, texts, texts_from, world}
+pub use Rattle.trac_functions.specs.Calls.{IsDefined, IsPlaced, IsValue, Makes, is_plain, texts, texts_from, world}
 pub use Rattle.trac_functions.specs.Flat.{Neutral, arguments_at, is_active_mode, memory_of, memory_with, mode_at, mode_of, neutral_of, no_neutral, texts_of, with_cell, with_cells}
 pub use Rattle.trac_functions.specs.declared.arguments.CallResult.TheVariants.{Null, Full, Over, InFront, AtEnd}
 pub use Rattle.trac_language.specs.Form.{Form, after_pointer, before_pointer}

@@ -1,10 +1,11 @@
 -- What contracts say of the display of a form.
-use Rattle.std.specs.Prelude.{ℕ, [], ◌∷◌, Option, Some, None}
+use Rattle.std.specs.Prelude.{[], ◌∷◌, Option, Some, None}
 use Rattle.trac_language.specs.declared.item.Item.{Item}
 use Rattle.trac_language.specs.Text.{Text}
 use Rattle.trac_language.specs.Form.{Form}
 use Rattle.trac_language.specs.Store.{form_named}
 use Rattle.trac_language.specs.Meaning.{show, show_form}
+use Rattle.trac_space.specs.declared.part.Part.{Part}
 use Rattle.trac_forms.specs.Contents.{Contents, part_text}
 
 -- the display of an item, null where there is none
@@ -18,5 +19,5 @@ display None = []
 display (Some form) = show_form form
 
 -- the display of the form that a part of the neutral string names, null where there is none
-abbrev pub display_named : Contents → ℕ × ℕ → Text
-display_named w name = display (form_named (part_text w.neutral name.0 name.1) w.forms)
+abbrev pub display_named : Contents → Part → Text
+display_named w name = display (form_named (part_text w.neutral name.from name.to) w.forms)

@@ -3,6 +3,7 @@ pub mod ReadTexts
 pub mod Machine
 pub mod Matching
 pub mod View
+pub mod Rules
 pub mod OpenCalls
 pub mod Session
 pub mod Attempts

@@ -1,4 +1,4 @@
--- The innermost call by its parts, and a try of a step that touches no device.
+-- The innermost call by its parts, and a try of a step that needs no device.
 use Rattle.std.specs.Prelude.{◌≡◌, ◌≢◌, ℕ, drop, true, false, Option, None, IsSome}
 use Rattle.trac_language.specs.declared.fate.Fate.{Fate}
 use Rattle.trac_language.specs.declared.function.Function.{Function}

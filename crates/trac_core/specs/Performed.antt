@@ -2,7 +2,6 @@
 use Rattle.std.specs.Prelude.{Bool, true, false, ◌||◌, List, [], ◌∷◌, length, nat_lt, Option, Some, None}
 use Rattle.trac_language.specs.declared.function.Function.{Function}
 use Rattle.trac_language.specs.declared.function.Function.TheVariants.{ReadString, ReadCharacter}
-use Rattle.trac_language.specs.declared.function.Function.TheVariants.{ChangeMeta, Halt}
 use Rattle.trac_language.specs.declared.function.Function.TheVariants.{PrintString, PrintForm}
 use Rattle.trac_language.specs.Text.{Text}
 use Rattle.trac_language.specs.State.{OpenCall, Memory, argument, arguments}
@@ -66,13 +65,3 @@ needs_device_by (AddCharacter c rest) calls = false
 -- whether the next step needs a device
 abbrev pub needs_device : Memory → Bool
 needs_device memory = needs_device_by (rule memory.active) memory.calls
-
--- a function that neither reads nor prints, nor changes the meta character, nor ends the run
-abbrev pub is_plain : Function → Bool
-is_plain ReadString = false
-is_plain ReadCharacter = false
-is_plain ChangeMeta = false
-is_plain PrintString = false
-is_plain PrintForm = false
-is_plain Halt = false
-is_plain _ = true

@@ -6,12 +6,12 @@ use Rattle.trac_language.specs.Text.{Text}
 use Rattle.trac_language.specs.Rule.{Rule, LoadIdling, DeleteLayout, AddProtected, ClearActive}
 use Rattle.trac_language.specs.Rule.{BeginArgument, BeginCall, EndCall, AddCharacter, rule}
 use Rattle.trac_functions.specs.Flat.{Neutral}
-use Rattle.trac_core.specs.declared.machine.view.ScanningRule.{ScanningRule}
-use Rattle.trac_core.specs.declared.machine.view.ScanningRule.TheVariants.{Idling, Layout}
-use Rattle.trac_core.specs.declared.machine.view.ScanningRule.TheVariants.{Protection, Argument}
-use Rattle.trac_core.specs.declared.machine.view.ScanningRule.TheVariants.{ActiveCall, NeutralCall}
-use Rattle.trac_core.specs.declared.machine.view.ScanningRule.TheVariants.{NumberSign, EndOfCall}
-use Rattle.trac_core.specs.declared.machine.view.ScanningRule.TheVariants.{Character}
+use Rattle.trac_core.specs.declared.rules.ScanningRule.{ScanningRule}
+use Rattle.trac_core.specs.declared.rules.ScanningRule.TheVariants.{Idling, Layout}
+use Rattle.trac_core.specs.declared.rules.ScanningRule.TheVariants.{Protection, Argument}
+use Rattle.trac_core.specs.declared.rules.ScanningRule.TheVariants.{ActiveCall, NeutralCall}
+use Rattle.trac_core.specs.declared.rules.ScanningRule.TheVariants.{NumberSign, EndOfCall}
+use Rattle.trac_core.specs.declared.rules.ScanningRule.TheVariants.{Character}
 
 -- the neutral string of a memory
 abbrev pub neutral_in : Memory → Neutral

@@ -1,4 +1,6 @@
-//! Calls: one is performed when its right parenthesis is scanned.
+//! Calls: one is performed when its right parenthesis is scanned. The table of functions stands in
+//! `trac_functions::function`. The functions that read, print, change the meta character or end the
+//! run are called here; one that reads or prints has a line in `needs_device` too.
 ghost use Rattle.std.specs.Prelude.{◌≡◌, ◌≢◌, ◌-◌, ◌<◌, ◌≤◌, ◌^◌, ℕ};
 ghost use Rattle.std.specs.Prelude.{length, nat_lt, None, Some, true, false, IfOk, MatchResult};
 ghost use Rattle.trac_language.specs.Text.{Text};
@@ -6,8 +8,8 @@ ghost use Rattle.trac_space.specs.Calls.{IsLastCall};
 ghost use Rattle.trac_forms.specs.Contents.{IsSound, used};
 ghost use Rattle.trac_language.specs.State.{argument};
 ghost use Rattle.trac_functions.specs.Flat.{arguments_at, memory_of, mode_at, is_active_mode};
-ghost use Rattle.trac_functions.specs.Calls.{AreArguments, Performs, texts};
-ghost use Rattle.trac_core.specs.Performed.{calls_device, is_plain, performs, touches_device};
+ghost use Rattle.trac_functions.specs.Calls.{AreArguments, texts};
+ghost use Rattle.trac_core.specs.Performed.{calls_device, performs, touches_device};
 ghost use Rattle.trac_core.specs.Attempts.{scene, Tried, TriedCall, function_at, TakesFrom};
 ghost use Rattle.trac_core.specs.Attempts.{TakesAtMost, AnswersCall, Stands, fate_after};
 ghost use Rattle.trac_core.specs.Attempts.{LeavesSource, LeavesSink, EndsQuietly, NoneFailed, HasArguments};
@@ -23,8 +25,9 @@ use crate::scan::{Attempt, InnermostCall, Pending, load_idling};
 use trac_devices::{Sink, Source};
 use trac_forms::Work;
 use trac_functions::arguments::{Arguments, CallResult};
-use trac_functions::{arithmetic, bit_strings, comparing, form_calls, form_parts};
+use trac_functions::function::value_of;
 use trac_language::{Fate, Function};
+use trac_space::Part;
 
 /// The step that the beginning of the active string asks for, where no rule fits that only scans:
 /// the idling procedure is loaded, or the right parenthesis is deleted and the innermost call
@@ -129,7 +132,11 @@ fn perform<I: Source, O: Sink>(
     let before = work.used();
     let end = work.neutral_len();
     let made = answer(work, call, meta, source, sink);
-    finish_call(work, (call.place, end), before, made)
+    let part = Part {
+        from: call.place,
+        to: end,
+    };
+    finish_call(work, part, before, made)
 }
 
 /// Performs the innermost call, whose right parenthesis was deleted and which needs no device.
@@ -149,7 +156,11 @@ fn perform_alone(work: &mut Work, call: NamedCall, meta: &mut u8) -> Attempt
     let before = work.used();
     let end = work.neutral_len();
     let made = answer_alone(work, call, meta);
-    finish_call(work, (call.place, end), before, made)
+    let part = Part {
+        from: call.place,
+        to: end,
+    };
+    finish_call(work, part, before, made)
 }
 
 /// The innermost call by its parts.
@@ -206,7 +217,7 @@ fn has_text(work: &Work, mut arguments: Arguments) -> bool
     ensures { result ≡ nat_lt 0 (length (argument (texts work.now arguments) 0)) }
 {
     let part = arguments.next(work);
-    part.0 < part.1
+    part.from < part.to
 }
 
 /// What the function of the innermost call answers. A call of a name that is no function has a null
@@ -305,44 +316,5 @@ fn made_alone(
         Function::ChangeMeta => change_meta(work, arguments, meta),
         Function::Halt => CallResult::Over(Fate::Halted),
         _ => value_of(work, function, arguments),
-    }
-}
-
-/// What the function makes of the arguments that follow its name; a null value of those that touch
-/// a device or the meta character, or end the run.
-#[inline(always)]
-fn value_of(work: &mut Work, function: Function, arguments: Arguments) -> CallResult
-    requires arguments { AreArguments work.old arguments }
-    ensures makes { is_plain function ≡ true →
-        Performs function work.old arguments result work.new }
-    ensures unmade { result ≡ CallResult.Full → work.new.forms ≡ work.old.forms }
-    ensures keeps { KeepsRoom work.old work.new }
-{
-    match function {
-        Function::Equal => comparing::equal(work, arguments),
-        Function::Greater => comparing::greater(work, arguments),
-        Function::Arithmetic(operation) => arithmetic::arithmetic(work, operation, arguments),
-        Function::Union => bit_strings::union(work, arguments),
-        Function::Intersection => bit_strings::intersection(work, arguments),
-        Function::Complement => bit_strings::complement(work, arguments),
-        Function::Shift => bit_strings::shift(work, arguments),
-        Function::Rotate => bit_strings::rotate(work, arguments),
-        Function::CallSegment => form_parts::call_segment(work, arguments),
-        Function::CallCharacter => form_parts::call_character(work, arguments),
-        Function::CallNumber => form_parts::call_number(work, arguments),
-        Function::InitialPart => form_parts::initial_part(work, arguments),
-        Function::CallRestore => form_parts::call_restore(work, arguments),
-        Function::DefineString => form_calls::define_string(work, arguments),
-        Function::SegmentString => form_calls::segment_string(work, arguments),
-        Function::CallForm => form_calls::call_form(work, arguments),
-        Function::DeleteDefinition => form_calls::delete_definition(work, arguments),
-        Function::DeleteAll => form_calls::delete_all(work),
-        Function::ListNames => form_calls::list_names(work, arguments),
-        Function::ReadString
-        | Function::ReadCharacter
-        | Function::PrintString
-        | Function::PrintForm
-        | Function::ChangeMeta
-        | Function::Halt => CallResult::AtEnd,
     }
 }

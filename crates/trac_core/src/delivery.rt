@@ -12,38 +12,32 @@ use crate::scan::Attempt;
 use trac_forms::Work;
 use trac_functions::arguments::CallResult;
 use trac_language::{Fate, Mode};
-use trac_space::Cell;
+use trac_space::{Cell, Part};
 
-/// The call whose mark stands at the first place leaves, and what its function answered comes to
-/// its end: a value that isn't placed yet, and stands from the second place on, is delivered. So
-/// many cells were used before.
+/// The call that is this part of the neutral string, its mark and its arguments, leaves, and what its
+/// function answered comes to its end: a value that isn't placed yet, and stands behind that part, is
+/// delivered. So many cells were used before.
 #[inline(always)]
-pub(crate) fn finish_call(
-    work: &mut Work,
-    places: (u32, u32),
-    before: u32,
-    made: CallResult,
-) -> Attempt
-    requires order { places.0 < places.1 }
-    requires stands { Stands made before places.1 work.old }
+pub(crate) fn finish_call(work: &mut Work, call: Part, before: u32, made: CallResult) -> Attempt
+    requires order { call.from < call.to }
+    requires stands { Stands made before call.to work.old }
     requires sound { IsSound work.old }
-    ensures settled { work.new ≡ settled made places.0 places.1 work.old }
+    ensures settled { work.new ≡ settled made call.from call.to work.old }
     ensures fate { result.fate ≡ fate_after made }
-    ensures need { result.need ≡ need_after made before places.1 work.old }
+    ensures need { result.need ≡ need_after made before call.to work.old }
     ensures fits { result.need ≤ work.old.room }
     ensures keeps { KeepsRoom work.old work.new }
 {
-    let (place, from) = places;
     let (fate, need) = match made {
         CallResult::Full => (Some(Fate::Workspace), 0),
         CallResult::Over(fate) => (Some(fate), work.used()),
         CallResult::InFront(cells) | CallResult::Null(cells) => {
-            work.cut_neutral(place);
+            work.cut_neutral(call.from);
             (None, before + cells)
         }
         CallResult::AtEnd => {
-            let need = before + (work.neutral_len() - from);
-            deliver(work, place, from);
+            let need = before + (work.neutral_len() - call.to);
+            deliver(work, call.from, call.to);
             (None, need)
         }
     };

@@ -16,6 +16,7 @@ use trac_devices::{Sink, SinkFailed};
 use trac_forms::{StoredForm, Work};
 use trac_functions::arguments::{Arguments, CallResult};
 use trac_language::{Fate, Function, Item};
+use trac_space::Part;
 
 /// `pf,N`: the form N is displayed, and the sink flushed once: its characters as they are, each gap
 /// as its ordinal in angle brackets, and `<^>` at the pointer. A form that isn't defined prints
@@ -45,8 +46,8 @@ pub(crate) fn print_form<O: Sink>(
 }
 
 /// Displays the form whose name is a part of the neutral string, where there is one.
-fn show_named<O: Sink>(work: &mut Work, name: (u32, u32), sink: &mut O) -> Result<(), SinkFailed>
-    requires part { IsTextPart work.old.neutral name.0 name.1 }
+fn show_named<O: Sink>(work: &mut Work, name: Part, sink: &mut O) -> Result<(), SinkFailed>
+    requires part { IsTextPart work.old.neutral name.from name.to }
     requires sound { IsSound work.old }
     requires counts { O.failure_count sink.old < 2 ^ 64 - 1 }
     ensures prints { O.tells sink.old →
@@ -59,7 +60,7 @@ fn show_named<O: Sink>(work: &mut Work, name: (u32, u32), sink: &mut O) -> Resul
     ensures kept { O.lent sink.new ≡ O.lent sink.old }
     ensures counts { O.failure_count sink.new ≡ O.failure_count sink.old + failures_of result }
 {
-    match work.find(name.0, name.1) {
+    match work.find(name.from, name.to) {
         Some(form) => show_and_flush(&work.stored(form), sink),
         None => Ok(()),
     }

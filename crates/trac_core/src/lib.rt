@@ -7,12 +7,14 @@ mod delivery;
 mod display;
 mod input_output;
 mod machine;
+mod rules;
 mod runs;
 mod scan;
 mod text_io;
 
 pub use display::{display_len, show_form};
-pub use machine::{Awaits, Machine, OpenCall, Progress, ScanningRule};
+pub use machine::{Awaits, CallMark, Machine, OpenCall, Progress};
+pub use rules::ScanningRule;
 pub use runs::is_layout;
 pub use trac_devices::{
     BufferedReader, BufferedWriter, Characters, Input, Next, Output, ReadSource, RetryingReader,

@@ -30,9 +30,8 @@ pub(crate) mod session;
 pub(crate) mod view;
 
 pub use advancing::Progress;
-pub use open_calls::OpenCall;
+pub use open_calls::{CallMark, OpenCall};
 pub use session::Awaits;
-pub use view::ScanningRule;
 
 /// A processor over a lent block of cells, with an allowance of steps. It takes no other memory.
 /// The rules that it follows are Mooers' (1966 and 1972); the block, the allowance and the

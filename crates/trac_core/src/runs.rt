@@ -7,6 +7,7 @@ ghost use Rattle.trac_space.specs.Texts.{IsByte, text_of_cells};
 ghost use Rattle.trac_core.specs.Matching.{IsAt, side_in};
 ghost use Rattle.trac_core.specs.StepsInRow.{is_special, kind_in, IsLayout, IsOrdinary};
 
+use crate::rules::{ScanningRule, rule_by_first};
 use trac_space::{Cell, byte_in};
 
 /// For each byte 1 where it is a comma, 2 where it has another rule of its own, and else 0.
@@ -59,7 +60,10 @@ pub(crate) fn layout_characters(cells: &[Cell]) -> u32
 pub fn is_layout(character: u8) -> bool
     ensures { result ≡ is_layout character }
 {
-    matches!(character, b'\t' | b'\n' | b'\r')
+    match rule_by_first(character) {
+        ScanningRule::Layout => true,
+        _ => false,
+    }
 }
 
 /// How many ordinary characters begin the cells: the first few are looked at one by one, since most
@@ -99,20 +103,14 @@ fn special_before(cells: &[Cell], from: usize, end: usize) -> Option<usize>
     None
 }
 
-/// Whether a character has a rule of its own. An arm for each makes one test of a bit of them.
+/// Whether a character has a rule of its own.
 #[inline]
 fn is_special(character: u8) -> bool
     ensures { result ≡ is_special character }
 {
-    match character {
-        b'\t' => true,
-        b'\n' => true,
-        b'\r' => true,
-        b'#' => true,
-        b'(' => true,
-        b')' => true,
-        b',' => true,
-        _ => false,
+    match rule_by_first(character) {
+        ScanningRule::Character => false,
+        _ => true,
     }
 }
 

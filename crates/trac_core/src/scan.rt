@@ -7,10 +7,12 @@ ghost use Rattle.trac_forms.specs.Contents.{used, IsSound};
 ghost use Rattle.trac_core.specs.Attempts.{Scans, Scanned, NoneFailed};
 ghost use Rattle.trac_core.specs.StepsInRow.{IsOrdinary, IsLayout, Advances, SomeSteps};
 ghost use Rattle.trac_core.specs.StepsInRow.{ComesTo, AsksFor, IsPlainFrom, KeepsPlain, kind_of};
+ghost use Rattle.trac_core.specs.Rules.{Begins, Opens};
 ghost use Rattle.trac_space.specs.Calls.{IsLastCall};
 ghost use Rattle.trac_functions.specs.Calls.{KeepsRoom};
 
 use crate::machine::closing::closed_call;
+use crate::rules::{ScanningRule, rule_of};
 use crate::runs::{KINDS, layout_characters, matching, ordinary_characters};
 use trac_forms::Work;
 use trac_language::{Fate, Mode};
@@ -31,16 +33,15 @@ pub(crate) struct Attempt {
     pub(crate) need: u32,
 }
 
-/// The character of the active string at a place.
-#[inline]
-pub(crate) fn character(work: &Work, place: u32) -> Option<u8>
-    ensures { result ≡ slice_get (text_of_cells work.now.active) place }
+/// The cells of the active string.
+#[inline(always)]
+pub(crate) fn characters<'w>(work: &'w Work) -> &'w [Cell]
+    requires sound { IsSound work.now }
+    ensures text { text_of_cells result.now ≡ text_of_cells work.now.active }
+    ensures few { length result.now ≤ 16777216 }
+    ensures bytes { All IsByte result.now }
 {
-    prove!(work.used() <= work.room());
-    match work.active_at(place) {
-        Some(cell) => Some(byte_in(&cell)),
-        None => None,
-    }
+    work.active_part(0, work.active_len())
 }
 
 /// Whether a character stands at a place of the active string.
@@ -48,8 +49,9 @@ pub(crate) fn character(work: &Work, place: u32) -> Option<u8>
 pub(crate) fn is_at(work: &Work, place: u32, byte: u8) -> bool
     ensures { IsTrue result ↔ (slice_get (text_of_cells work.now.active) place ≡ Some byte) }
 {
-    match character(work, place) {
-        Some(c) => c == byte,
+    prove!(work.used() <= work.room());
+    match work.active_at(place) {
+        Some(cell) => byte_in(&cell) == byte,
         None => false,
     }
 }
@@ -93,11 +95,10 @@ pub(crate) fn scan_once(work: &mut Work, plain: u32) -> Option<Pending>
     }
 }
 
-/// The table of the rules of scanning (Mooers 1966). Makes the steps of the rule that fits the
-/// beginning of the active string, at most `most`: a whole run of ordinary characters, in a call
-/// with the commas between them, or of layout characters, or one step of another rule that performs
-/// no call. From `plain` on no comma mark stands in the neutral string; `long` counts the long runs
-/// that followed one another before.
+/// Makes the steps of the rule that fits the beginning of the active string, at most `most`: a whole
+/// run of ordinary characters, in a call with the commas between them, or of layout characters, or
+/// one step of another rule that performs no call. From `plain` on no comma mark stands in the
+/// neutral string; `long` counts the long runs that followed one another before.
 #[inline(always)]
 pub(crate) fn scan_steps(
     work: &mut Work,
@@ -112,16 +113,36 @@ pub(crate) fn scan_steps(
     ensures plain { IsPlainFrom plain.new work.new.neutral }
     ensures keeps { KeepsRoom work.old work.new }
 {
-    match character(work, 0) {
-        None => return Err(Pending::Idling),
-        Some(b'\t' | b'\n' | b'\r') => return Ok(delete_layout(work, most)),
-        Some(b'(') => protect(work),
-        Some(b')') => return end_call(work, *plain),
-        Some(b',') => return Ok(begin_argument(work, most, plain, *long > 1)),
-        Some(b'#') => return Ok(number_sign(work, most, plain, *long > 1)),
-        Some(_) => return Ok(add_characters(work, most, plain, long)),
+    match next_rule(work) {
+        ScanningRule::Idling => Err(Pending::Idling),
+        ScanningRule::Layout => Ok(delete_layout(work, most)),
+        ScanningRule::Protection => {
+            protect(work);
+            Ok(1)
+        }
+        ScanningRule::Argument => Ok(begin_argument(work, most, plain, *long > 1)),
+        ScanningRule::ActiveCall => {
+            Ok(begin_call(work, 2, Mode::Active, most, plain, *long > 1))
+        }
+        ScanningRule::NeutralCall => {
+            Ok(begin_call(work, 3, Mode::Neutral, most, plain, *long > 1))
+        }
+        ScanningRule::NumberSign => {
+            add_number_sign(work);
+            Ok(1)
+        }
+        ScanningRule::EndOfCall => end_call(work, *plain),
+        ScanningRule::Character => Ok(add_characters(work, most, plain, long)),
     }
-    Ok(1)
+}
+
+/// The rule that fits the beginning of the active string.
+#[inline(always)]
+fn next_rule(work: &Work) -> ScanningRule
+    requires sound { IsSound work.now }
+    ensures { Begins result (text_of_cells work.now.active) }
+{
+    rule_of(characters(work))
 }
 
 /// A right parenthesis closes the innermost call, or, where none is
@@ -343,71 +364,43 @@ fn protect(work: &mut Work)
     }
 }
 
-/// A number sign opens a call with a left parenthesis after it, or after a second one, and what
-/// begins its name is added as by `add_run`, unless long runs are; any other is added. Gives how
-/// many steps they were.
-#[inline]
-fn number_sign(work: &mut Work, most: u64, plain: &mut u32, long: bool) -> u64
+/// A number sign, or two, and a left parenthesis open a call: they leave the active string, and its
+/// mark stands last in the neutral one. What begins its name is added as by `add_run`, unless long
+/// runs are. Gives how many steps they were.
+#[inline(always)]
+fn begin_call(
+    work: &mut Work,
+    characters: u32,
+    mode: Mode,
+    most: u64,
+    plain: &mut u32,
+    long: bool,
+) -> u64
     requires some { 0 < most }
-    requires first { slice_get (text_of_cells work.old.active) 0 ≡ Some 35 }
+    requires one { 0 < characters }
+    requires first { Opens mode characters (text_of_cells work.old.active) }
     requires plain { IsPlainFrom plain.old work.old.neutral }
     requires sound { IsSound work.old }
     ensures passes { SomeSteps result most work.old work.new }
     ensures plain { IsPlainFrom plain.new work.new.neutral }
     ensures keeps { KeepsRoom work.old work.new }
 {
-    if !opens_call(work) || long {
+    work.active_to_cell(characters, Cell::Call(mode, 0));
+    if long {
         return 1;
     }
     1 + add_run(work, most - 1, plain)
 }
 
-/// A number sign opens a call or is added. Gives whether it opened one.
-#[inline]
-fn opens_call(work: &mut Work) -> bool
+/// A number sign that opens no call goes to the end of the neutral string.
+fn add_number_sign(work: &mut Work)
     requires sound { IsSound work.old }
-    requires first { slice_get (text_of_cells work.old.active) 0 ≡ Some 35 }
+    requires first { Begins ScanningRule.NumberSign (text_of_cells work.old.active) }
     ensures scans { Scans work.old work.new (used work.old) }
-    ensures opened { IsTrue result → (place : ℕ) × IsLastCall work.new.neutral place }
     ensures plain { KeepsPlain work.old work.new }
     ensures no_larger { used work.new ≤ used work.old }
     ensures shorter { length work.new.active < length work.old.active }
     ensures keeps { KeepsRoom work.old work.new }
 {
-    if is_at(work, 1, b'(') {
-        begin_call(work, 2, Mode::Active);
-    } else if is_at(work, 1, b'#') && is_at(work, 2, b'(') {
-        begin_call(work, 3, Mode::Neutral);
-    } else {
-        put_first(work, b'#');
-        return false;
-    }
-    true
-}
-
-/// The characters that open a call leave the active string,
-/// and its mark stands last in the neutral one.
-fn begin_call(work: &mut Work, characters: u32, mode: Mode)
-    requires sound { IsSound work.old }
-    requires some { (0 < characters) × (characters ≤ length work.old.active) }
-    ensures opened { work.new ≡ record work.old {
-      active = drop characters work.old.active;
-      neutral = work.old.neutral ++ Cell.Call mode 0 ∷ [];
-    } }
-    ensures sound { IsSound work.new }
-{
-    work.active_to_cell(characters, Cell::Call(mode, 0));
-}
-
-/// The first character of the active string goes to the end of the neutral one.
-fn put_first(work: &mut Work, byte: u8)
-    requires sound { IsSound work.old }
-    requires first { slice_get (text_of_cells work.old.active) 0 ≡ Some byte }
-    ensures put { work.new ≡ record work.old {
-      active = drop 1 work.old.active;
-      neutral = work.old.neutral ++ Cell.Byte byte ∷ [];
-    } }
-    ensures sound { IsSound work.new }
-{
-    work.active_to_cell(1, Cell::Byte(byte));
+    work.active_to_cell(1, Cell::Byte(b'#'));
 }

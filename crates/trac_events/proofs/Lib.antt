@@ -1,2 +1,3 @@
+pub mod Depth
 pub mod NextArgument
 mod Words

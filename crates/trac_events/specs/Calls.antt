@@ -1,23 +1,24 @@
 -- Open calls and their arguments.
-use Rattle.std.specs.Prelude.{◌≡◌, ℕ, zero, suc, ◌+◌, ◌-◌, ◌&&◌, ◌||◌, Bool, true, false}
+use Rattle.std.specs.Prelude.{◌≡◌, ℕ, zero, suc, ◌+◌, ◌-◌, ◌^◌, ◌&&◌, ◌||◌, Bool, true, false}
 use Rattle.std.specs.Prelude.{Option, None, Some, List, [], length, take, drop}
 use Rattle.std.specs.Prelude.{min, nat_lt, if◌then◌else◌}
 use Rattle.std.specs.List.{position_or_len}
 use Rattle.trac_language.specs.Rule.{rule}
-use Rattle.trac_language.specs.State.{size}
+use Rattle.trac_language.specs.State.{State, size}
+use Rattle.trac_language.specs.Step.{Next, step}
 use Rattle.trac_space.specs.declared.cell.Cell.{Cell}
 use Rattle.trac_space.specs.Cells.{is_comma}
 use Rattle.trac_space.specs.Texts.{text_of_cells}
 use Rattle.trac_functions.specs.Flat.{neutral_of}
 use Rattle.trac_core.specs.Machine.{MachineState}
-use Rattle.trac_core.specs.OpenCalls.{innermost_of}
+use Rattle.trac_core.specs.OpenCalls.{mark_of}
 use Rattle.trac_core.specs.View.{dropped, neutral_in, row_of}
 use Rattle.trac_core.specs.Session.{awaited, next_function}
-use Rattle.trac_core.specs.declared.machine.open_calls.OpenCall.{OpenCall}
+use Rattle.trac_core.specs.declared.machine.open_calls.CallMark.{CallMark}
 use Rattle.trac_core.specs.declared.machine.session.Awaits.{Awaits}
 use Rattle.trac_core.specs.declared.machine.session.Awaits.TheVariants.{Nothing, Text, Byte}
-use Rattle.trac_core.specs.declared.machine.view.ScanningRule.{ScanningRule}
-use Rattle.trac_core.specs.declared.machine.view.ScanningRule.TheVariants as row
+use Rattle.trac_core.specs.declared.rules.ScanningRule.{ScanningRule}
+use Rattle.trac_core.specs.declared.rules.ScanningRule.TheVariants as row
 use Rattle.trac_events.specs.declared.before.Before.{Before}
 
 -- the cells behind the mark at a place
@@ -40,9 +41,9 @@ abbrev pub ends_call : ScanningRule → Bool
 ends_call row.EndOfCall = true
 ends_call _ = false
 
--- the innermost call of a machine; none where it isn't looked for
-abbrev pub seen_call : Bool → MachineState → Option OpenCall
-seen_call true m = innermost_of (neutral_in m.memory)
+-- the mark of the innermost call of a machine; none where it isn't looked for
+abbrev pub seen_call : Bool → MachineState → Option CallMark
+seen_call true m = mark_of 0 (neutral_in m.memory)
 seen_call false m = None
 
 -- whether the call that the next step performs is looked for: where that is asked for or reads
@@ -74,8 +75,32 @@ IsSeen m asked before = (before.done ≡ m.steps)
     × (before.call ≡ seen_call (looks_at_call m asked) m)
 
 -- the value of the call that was seen, by the cells of a machine's strings; null where none was seen
-abbrev pub SeesValue : MachineState → Option OpenCall → ℕ → List Cell → Type 0
+abbrev pub SeesValue : MachineState → Option CallMark → ℕ → List Cell → Type 0
 SeesValue m None before value = value ≡ []
 SeesValue m (Some call) before value = (neutral : List Cell) × ((active : List Cell)
     × ((neutral_of neutral ≡ neutral_in m.memory) × ((text_of_cells active ≡ m.memory.active)
-    × (value ≡ value_behind call.mark before neutral active))))
+    × (value ≡ value_behind call.place before neutral active))))
+
+-- how many calls are open after a step by a rule, where so many were open before it
+abbrev pub depth_after : ScanningRule → ℕ → ℕ
+depth_after row.Idling depth = 0
+depth_after row.ActiveCall depth = depth + 1
+depth_after row.NeutralCall depth = depth + 1
+depth_after row.EndOfCall depth = depth - 1
+depth_after _ depth = depth
+
+-- how many calls are open in a machine after a step that was seen before, as far as a number of 64 bits
+-- tells, where so many were open then
+abbrev pub depth_in : Before → MachineState → ℕ → ℕ
+depth_in before m depth =
+    if nat_lt before.done m.steps
+    then min (depth_after before.rule depth) (2 ^ 64 - 1)
+    else depth
+
+-- a step leaves as many calls open as its rule tells
+abbrev pub DepthFollows : Type 0
+DepthFollows =
+    (before after : State) →
+    step before ≡ Next after →
+    length after.memory.calls ≡
+    depth_after (row_of (rule before.memory.active)) (length before.memory.calls)

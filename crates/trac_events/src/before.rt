@@ -1,8 +1,9 @@
 //! What you can see of a machine before a step, and the value of a call after it.
 ghost use Rattle.std.specs.Prelude.{◌≡◌};
 ghost use Rattle.trac_events.specs.Calls.{IsSeen, SeesValue, ends_call, reads, value_behind};
+ghost use Rattle.trac_events.specs.Calls.{DepthFollows, depth_in};
 
-use trac_core::{Awaits, Machine, OpenCall, ScanningRule};
+use trac_core::{Awaits, CallMark, Machine, ScanningRule};
 use trac_space::Cell;
 
 /// What you can see of a machine before a step.
@@ -22,8 +23,8 @@ pub struct Before {
     pub meta: u8,
     /// How many characters the step drops, since its left parenthesis has no match.
     pub drops: u32,
-    /// The call that the step performs, if you asked for it or it reads.
-    pub call: Option<OpenCall>,
+    /// The mark of the call that the step performs, if you asked for it or it reads.
+    pub call: Option<CallMark>,
 }
 
 impl Before {
@@ -35,7 +36,7 @@ impl Before {
         let rule = machine.next_rule();
         let awaits = machine.awaits();
         let call = if ends_call(rule) && (with_call || reads(awaits)) {
-            machine.innermost_call()
+            machine.call_mark(0)
         } else {
             None
         };
@@ -48,6 +49,22 @@ impl Before {
             meta: machine.meta(),
             drops: machine.drops(),
             call,
+        }
+    }
+
+    /// How many calls are open in the machine after the step, where so many were open before it. If the step
+    /// was done, its rule tells.
+    pub fn depth_after(&self, machine: &Machine, depth: usize) -> usize
+        ensures { result ≡ depth_in self.now machine.now depth }
+    {
+        if machine.steps() <= self.done {
+            return depth;
+        }
+        match self.rule {
+            ScanningRule::Idling => 0,
+            ScanningRule::ActiveCall | ScanningRule::NeutralCall => depth.saturating_add(1),
+            ScanningRule::EndOfCall => depth.saturating_sub(1),
+            _ => depth,
         }
     }
 
@@ -66,18 +83,18 @@ impl Before {
 /// front of these cells in the active string or, if nothing does, what stands in the neutral string from the
 /// place of the call's mark on.
 pub fn value_behind<'m>(
-    call: OpenCall,
+    call: CallMark,
     before: usize,
     neutral: &'m [Cell],
     active: &'m [Cell],
 ) -> &'m [Cell]
-    ensures { result.now ≡ value_behind call.mark before neutral.now active.now }
+    ensures { result.now ≡ value_behind call.place before neutral.now active.now }
 {
     let added = (active.len() + 1).saturating_sub(before).min(active.len());
     if added > 0 {
         &active[..added]
-    } else if call.mark < neutral.len() {
-        &neutral[call.mark..]
+    } else if call.place < neutral.len() {
+        &neutral[call.place..]
     } else {
         &[]
     }
@@ -96,3 +113,9 @@ fn reads(awaits: Awaits) -> bool
 {
     matches!(awaits, Awaits::Text | Awaits::Byte)
 }
+
+/// How many calls are open after a step is told by the rule that the step follows. Proves this and does
+/// nothing.
+pub fn depth_follows()
+    ensures { DepthFollows }
+{}

@@ -8,7 +8,7 @@ mod call;
 mod change;
 mod place;
 
-pub use before::{Before, value_behind};
+pub use before::{Before, depth_follows, value_behind};
 pub use call::{Named, argument, arguments_of};
 pub use change::{Touched, find_form, is_same, pointer_of, touched_by};
 pub use place::{Place, Reading};

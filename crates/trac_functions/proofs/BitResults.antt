@@ -1,4 +1,5 @@
 -- Results of bits: how many digits they have, and that they stay when cells are put behind the neutral string.
+use Rattle.trac_space.specs.declared.part.Part.{Part}
 use Rattle.trac_functions.proofs.Words.{◌≡◌, ℕ, ◌-◌, ◌*◌, ◌≤◌, max, min, Bool, false, ◌||◌, ◌&&◌, not, List, [], ◌++◌, ◌∷◌, length, slice_range, map, replicate, pos, ℤ, refl, sym, ap, ◌∙◌, subst, arith, flat_map, ◌+ℤ◌, int_rem_euclid, length-append, length-replicate, length-drop, length-map}
 use Rattle.trac_functions.proofs.Words.{length-between, length-map-range_with_len, Text, Bits, is_octal, bits_of_digit, bit_at, octal, padded, cut, union, intersection, complement, shifted, rotated, World, bits_result, Function, Form, Some, bits, octal_prefix, meaning_of, built, value_length, world, Valued, Cell, seen, text_of_cells, flat_text, IsOctal, EachIs, bits_of_cells}
 use Rattle.trac_functions.proofs.Words.{signed, length-text, length-octal, length-bits_of, length-bitwise, rotation_same, Contents, BitResult, Rotation, AreDigits, AreFor, bits_at, bits_made}
@@ -10,10 +11,10 @@ use Rattle.trac_functions.proofs.CellRanges.{part-append}
 
 -- ---- how many digits there are
 
-pub length-at : (neutral : List Cell) (part : ℕ × ℕ) → AreDigits neutral part → length (bits_at neutral part) ≡ 3 * (part.1 - part.0)
+pub length-at : (neutral : List Cell) (part : Part) → AreDigits neutral part → length (bits_at neutral part) ≡ 3 * (part.to - part.from)
 length-at neutral part are =
-    let cells = slice_range neutral part.0 part.1 in
-    omega (arith, length-bits_of (text_of_cells cells), length-text cells, length-between neutral part.0 part.1 are.within)
+    let cells = slice_range neutral part.from part.to in
+    omega (arith, length-bits_of (text_of_cells cells), length-text cells, length-between neutral part.from part.to are.within)
 
 length-padded : (n : ℕ) (l : Bits) → length (padded n l) ≡ max n (length l)
 length-padded n l = omega (arith, length-append (replicate (n - length l) false) l, length-replicate {A = Bool} (n - length l) false)
@@ -33,28 +34,28 @@ length-intersection l m =
     let right = length-cut (length l) m in
     length-bitwise ◌&&◌ (cut (length m) l) (cut (length l) m) (omega arith) ∙ omega arith
 
-module _ (neutral : List Cell) (a : ℕ × ℕ) (are : AreDigits neutral a) where
-  pub complement-digits : a.1 - a.0 ≡ length (octal (complement (bits_at neutral a)))
+module _ (neutral : List Cell) (a : Part) (are : AreDigits neutral a) where
+  pub complement-digits : a.to - a.from ≡ length (octal (complement (bits_at neutral a)))
   complement-digits =
       let l = bits_at neutral a in
       omega (arith, length-octal (complement l), length-map l not, length-at neutral a are)
 
-  pub shift-digits : (d : ℤ) → a.1 - a.0 ≡ length (octal (shifted d (bits_at neutral a)))
+  pub shift-digits : (d : ℤ) → a.to - a.from ≡ length (octal (shifted d (bits_at neutral a)))
   shift-digits d =
       let l = bits_at neutral a in
       omega (arith, length-octal (shifted d l), length-map-range_with_len (λ i. bit_at l (pos i +ℤ d)) 0 (length l), length-at neutral a are)
 
-  pub rotation-digits : (d : ℤ) → a.1 - a.0 ≡ length (octal (rotated d (bits_at neutral a)))
+  pub rotation-digits : (d : ℤ) → a.to - a.from ≡ length (octal (rotated d (bits_at neutral a)))
   rotation-digits d =
       let l = bits_at neutral a in
       omega (arith, length-octal (rotated d l), length-map-range_with_len (λ i. bit_at l (int_rem_euclid (pos i +ℤ d) (pos (length l)))) 0 (length l), length-at neutral a are)
 
-  module _ (b : ℕ × ℕ) (others : AreDigits neutral b) where
-    pub union-digits : max (a.1 - a.0) (b.1 - b.0) ≡ length (octal (union (bits_at neutral a) (bits_at neutral b)))
+  module _ (b : Part) (others : AreDigits neutral b) where
+    pub union-digits : max (a.to - a.from) (b.to - b.from) ≡ length (octal (union (bits_at neutral a) (bits_at neutral b)))
     union-digits =
         omega (arith, length-octal (union (bits_at neutral a) (bits_at neutral b)), length-union (bits_at neutral a) (bits_at neutral b), length-at neutral a are, length-at neutral b others)
 
-    pub intersection-digits : min (a.1 - a.0) (b.1 - b.0) ≡ length (octal (intersection (bits_at neutral a) (bits_at neutral b)))
+    pub intersection-digits : min (a.to - a.from) (b.to - b.from) ≡ length (octal (intersection (bits_at neutral a) (bits_at neutral b)))
     intersection-digits =
         omega (arith, length-octal (intersection (bits_at neutral a) (bits_at neutral b)), length-intersection (bits_at neutral a) (bits_at neutral b), length-at neutral a are, length-at neutral b others)
 
@@ -69,8 +70,8 @@ seen-bits cells part e = ap (flat_map bits_of_digit) (sym (text_of_cells-seen ce
 -- ---- cells put behind the neutral string
 
 module _ (neutral behind : List Cell) where
-  grown-at : (part : ℕ × ℕ) → AreDigits neutral part → bits_at (neutral ++ behind) part ≡ bits_at neutral part
-  grown-at part are = ap (λ cells. bits_of_cells cells) (part-append neutral behind part.0 part.1 are.order are.within)
+  grown-at : (part : Part) → AreDigits neutral part → bits_at (neutral ++ behind) part ≡ bits_at neutral part
+  grown-at part are = ap (λ cells. bits_of_cells cells) (part-append neutral behind part.from part.to are.order are.within)
 
   pub grown-made : (bits : BitResult) → AreFor neutral bits → bits_made (neutral ++ behind) bits ≡ bits_made neutral bits
   grown-made (Union a b) are = ap (λ l. union l (bits_at (neutral ++ behind) b)) (grown-at a are.0) ∙ ap (union (bits_at neutral a)) (grown-at b are.1)
@@ -81,7 +82,7 @@ module _ (neutral behind : List Cell) where
 
 -- ---- a result has no more digits than there are cells in the neutral string
 
-part-within : (neutral : List Cell) (part : ℕ × ℕ) → AreDigits neutral part → part.1 - part.0 ≤ length neutral
+part-within : (neutral : List Cell) (part : Part) → AreDigits neutral part → part.to - part.from ≤ length neutral
 part-within neutral part are = let within = are.within in omega arith
 
 pub made-within : (neutral : List Cell) (bits : BitResult) → AreFor neutral bits → length (octal (bits_made neutral bits)) ≤ length neutral

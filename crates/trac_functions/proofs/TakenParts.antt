@@ -1,4 +1,5 @@
 -- The parts that calls take of a form.
+use Rattle.trac_space.specs.declared.part.Part.{Part as CellPart}
 use Rattle.trac_functions.proofs.Words.{◌≡◌, ◌≢◌, ℕ, zero, suc, ◌+◌, ◌-◌, ◌<◌, ◌≤◌, min, Bool, true, false, List, [], ◌∷◌, ◌++◌, length, take, drop, reverse, set, slice_range, get_or, Option, Some, None, refl, sym, ap, ◌∙◌, subst, arith, nat_lt, take_while, option_map}
 use Rattle.trac_functions.proofs.Words.{if◌then◌else◌, int_lt, unsigned_abs, pos, prefix_len, lt-ltb, le-ltb, length-take, length-drop, length-reverse, nil_from_length, get_or-drop, drop-drop, drop_of_length-le, sum_by-cons, Item, Function, Text, Form, is_character, text_of, after_pointer, before_pointer}
 use Rattle.trac_functions.proofs.Words.{begins, place_of, form_named, changed, cells, form_cells, Input, Part, characters, first_characters, segment_from, next_segment, unless_null, forward, backward, next_characters, previous_characters, up_to, initial_part, World, on_form, silent}
@@ -62,18 +63,18 @@ module _ (f : Function) (args : List Text) (name : Text) (part : Form → Option
       go (Some p) e (Over fate) takes = absurd takes
 
 -- the same, by what the code knows
-pub makes-found : (f : Function) (part : List Text → Form → Option Part) (other : ℕ) (old found new : Contents) (a : Arguments) (k : ℕ) (made : CallResult) (name : Text) (z : ℕ × ℕ) → ((title : Text) (w : World) → meaning_of f (title ∷ texts old a) w ≡ on_form (form_named (argument (texts old a) 0) w.forms) (λ form. take_part (argument (texts old a) 0) (part (texts old a) form) (argument (texts old a) other) w) w) → ((title : Text) (w : World) → built (Some f) (title ∷ texts old a) w ≡ value_length (meaning_of f (title ∷ texts old a) w)) → AreArguments old a → found ≡ old → IsNamedAt old.forms name k → name ≡ argument (texts old a) 0 → TakesOrDefault (part (texts old a)) k z found made new → part_text old.neutral z.0 z.1 ≡ argument (texts old a) other → Performs f old a made new
+pub makes-found : (f : Function) (part : List Text → Form → Option Part) (other : ℕ) (old found new : Contents) (a : Arguments) (k : ℕ) (made : CallResult) (name : Text) (z : CellPart) → ((title : Text) (w : World) → meaning_of f (title ∷ texts old a) w ≡ on_form (form_named (argument (texts old a) 0) w.forms) (λ form. take_part (argument (texts old a) 0) (part (texts old a) form) (argument (texts old a) other) w) w) → ((title : Text) (w : World) → built (Some f) (title ∷ texts old a) w ≡ value_length (meaning_of f (title ∷ texts old a) w)) → AreArguments old a → found ≡ old → IsNamedAt old.forms name k → name ≡ argument (texts old a) 0 → TakesOrDefault (part (texts old a)) k z found made new → part_text old.neutral z.from z.to ≡ argument (texts old a) other → Performs f old a made new
 makes-found f part other old found new a k made name z means built_is are same at is takes text = λ title.
     let here = subst (λ (w : Contents). TakesOrDefault (part (texts old a)) k z w made new) same takes in
     makes-part f (title ∷ texts old a) (argument (texts old a) 0) (part (texts old a)) (argument (texts old a) other) a.scanned (means title) (built_is title) old new k made are.sound
     (subst (λ n. IsNamedAt old.forms n k) is at) (subst (λ t. TakesPart (part (texts old a) (form_at old.forms k)) t k old made new) text here)
 
 -- a part that is there is taken, and else the text of z
-pub takes-some : {part : Part} {o : Option Part} (z : ℕ × ℕ) (k : ℕ) (old : Contents) (made : CallResult) (new : Contents) → Some part ≡ o → ((z : Text) → TakesPart (Some part) z k old made new) → TakesPart o (part_text old.neutral z.0 z.1) k old made new
-takes-some z k old made new e takes = subst (λ o. TakesPart o (part_text old.neutral z.0 z.1) k old made new) e (takes (part_text old.neutral z.0 z.1))
+pub takes-some : {part : Part} {o : Option Part} (z : CellPart) (k : ℕ) (old : Contents) (made : CallResult) (new : Contents) → Some part ≡ o → ((z : Text) → TakesPart (Some part) z k old made new) → TakesPart o (part_text old.neutral z.from z.to) k old made new
+takes-some z k old made new e takes = subst (λ o. TakesPart o (part_text old.neutral z.from z.to) k old made new) e (takes (part_text old.neutral z.from z.to))
 
-pub takes-none : {o : Option Part} (z : ℕ × ℕ) (k : ℕ) (old : Contents) (made : CallResult) (new : Contents) → o ≡ None → ((k : ℕ) → TakesPart None (part_text old.neutral z.0 z.1) k old made new) → TakesPart o (part_text old.neutral z.0 z.1) k old made new
-takes-none z k old made new e takes = subst (λ o. TakesPart o (part_text old.neutral z.0 z.1) k old made new) (sym e) (takes k)
+pub takes-none : {o : Option Part} (z : CellPart) (k : ℕ) (old : Contents) (made : CallResult) (new : Contents) → o ≡ None → ((k : ℕ) → TakesPart None (part_text old.neutral z.from z.to) k old made new) → TakesPart o (part_text old.neutral z.from z.to) k old made new
+takes-none z k old made new e takes = subst (λ o. TakesPart o (part_text old.neutral z.from z.to) k old made new) (sym e) (takes k)
 
 -- ---- a form that is changed
 

@@ -2,6 +2,9 @@
 use Rattle.std.specs.Prelude.{◌≡◌, ℕ, ◌+◌, ◌<◌, ◌≤◌, Bool, true, false, ◌||◌, List, [], ◌∷◌}
 use Rattle.std.specs.Prelude.{◌++◌, length, Some, slice_range, nat_le, if◌then◌else◌}
 use Rattle.trac_language.specs.declared.function.Function.{Function}
+use Rattle.trac_language.specs.declared.function.Function.TheVariants.{ReadString, ReadCharacter}
+use Rattle.trac_language.specs.declared.function.Function.TheVariants.{ChangeMeta, Halt}
+use Rattle.trac_language.specs.declared.function.Function.TheVariants.{PrintString, PrintForm}
 use Rattle.trac_language.specs.Text.{Text}
 use Rattle.trac_language.specs.Form.{Form}
 use Rattle.trac_language.specs.State.{Input}
@@ -15,6 +18,16 @@ use Rattle.trac_functions.specs.declared.arguments.CallResult.{CallResult}
 use Rattle.trac_functions.specs.declared.arguments.CallResult.TheVariants.{Full, AtEnd, InFront, Null}
 use Rattle.trac_functions.specs.declared.arguments.CallResult.TheVariants.{Over}
 use Rattle.trac_functions.specs.Flat.{texts_of}
+
+-- a function that neither reads nor prints, nor changes the meta character, nor ends the run
+abbrev pub is_plain : Function → Bool
+is_plain ReadString = false
+is_plain ReadCharacter = false
+is_plain ChangeMeta = false
+is_plain PrintString = false
+is_plain PrintForm = false
+is_plain Halt = false
+is_plain _ = true
 
 -- the arguments that are left to take: those from a place up to another, none once the place is
 -- past that

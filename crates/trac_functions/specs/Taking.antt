@@ -4,6 +4,7 @@ use Rattle.std.specs.Prelude.{Option, Some, None}
 use Rattle.trac_language.specs.Text.{Text}
 use Rattle.trac_language.specs.Form.{Form}
 use Rattle.trac_language.specs.Part.{Part}
+use Rattle.trac_space.specs.declared.part.Part.{Part as CellPart}
 use Rattle.trac_space.specs.Texts.{flat_text}
 use Rattle.trac_forms.specs.Contents.{Contents, used, part_text, form_at}
 use Rattle.trac_forms.specs.Search.{NonePasses}
@@ -44,9 +45,9 @@ TakesPart part z k old (Over fate) new = ⊥
 
 -- the part of the form at place k that a call takes is the value, and its pointer is moved; or the
 -- text of z, a part of the neutral string, is the value; or that doesn't fit
-abbrev pub TakesOrDefault : (Form → Option Part) → ℕ → ℕ × ℕ → Contents → CallResult → Contents → Type 0
+abbrev pub TakesOrDefault : (Form → Option Part) → ℕ → CellPart → Contents → CallResult → Contents → Type 0
 TakesOrDefault part k z old made new =
-    TakesPart (part (form_at old.forms k)) (part_text old.neutral z.0 z.1) k old made new
+    TakesPart (part (form_at old.forms k)) (part_text old.neutral z.from z.to) k old made new
 
 -- the first place from one up to another that passes a test, or that other place
 pub record IsFirstOr (test : ℕ → Bool) (from to place : ℕ) : Type 0 where

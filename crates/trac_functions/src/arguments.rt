@@ -15,6 +15,7 @@ ghost use Rattle.trac_functions.specs.Calls.{KeepsRoom};
 use crate::function::function_before_comma;
 use trac_forms::{Cell, Work, before_comma};
 use trac_language::{Fate, Function};
+use trac_space::Part;
 
 /// The arguments of a call that are left to take: those in the neutral string from a place up to
 /// another. None is left once the place is past that.
@@ -46,10 +47,10 @@ pub enum CallResult {
 
 impl Arguments {
     /// Where the next argument begins and ends; a null part where none is left.
-    pub fn next(&mut self, work: &Work) -> (u32, u32)
+    pub fn next(&mut self, work: &Work) -> Part
         requires { AreArguments work.now self.old }
-        ensures part { IsTextPart work.now.neutral result.0 result.1 }
-        ensures text { let text = part_text work.now.neutral result.0 result.1 in
+        ensures part { IsTextPart work.now.neutral result.from result.to }
+        ensures text { let text = part_text work.now.neutral result.from result.to in
             text ≡ argument (texts work.now self.old) 0 }
         ensures rest { texts work.now self.new ≡ drop 1 (texts work.now self.old) }
         ensures later { (k : ℕ) →
@@ -58,11 +59,14 @@ impl Arguments {
     {
         let from = self.from;
         if from > self.end {
-            return (self.end, self.end);
+            return Part {
+                from: self.end,
+                to: self.end,
+            };
         }
         let to = self.end_of_next(work);
         self.from = to + 1;
-        (from, to)
+        Part { from, to }
     }
 
     // Where the next argument ends, of those that are left.
@@ -104,55 +108,55 @@ impl Arguments {
 }
 
 /// The cells of a part of the neutral string that is a text.
-pub fn text<'a>(work: &'a Work, part: (u32, u32)) -> &'a [Cell]
-    requires { IsTextPart work.now.neutral part.0 part.1 }
-    ensures text { text_of_cells result.now ≡ part_text work.now.neutral part.0 part.1 }
+pub fn text<'a>(work: &'a Work, part: Part) -> &'a [Cell]
+    requires { IsTextPart work.now.neutral part.from part.to }
+    ensures text { text_of_cells result.now ≡ part_text work.now.neutral part.from part.to }
     ensures is_text { IsText result.now }
 {
     prove!(work.used() <= work.room());
-    work.neutral_part(part.0, part.1)
+    work.neutral_part(part.from, part.to)
 }
 
 /// Appends a part of the neutral string that is a text to that string, if there are cells for it.
-pub fn put_part(work: &mut Work, part: (u32, u32)) -> bool
-    requires part { IsTextPart work.old.neutral part.0 part.1 }
-    ensures put { let text = part_text work.old.neutral part.0 part.1 in
+pub fn put_part(work: &mut Work, part: Part) -> bool
+    requires part { IsTextPart work.old.neutral part.from part.to }
+    ensures put { let text = part_text work.old.neutral part.from part.to in
         IsTrue result ↔ (used work.old + length text ≤ work.old.room) }
-    ensures last { let text = part_text work.old.neutral part.0 part.1 in
+    ensures last { let text = part_text work.old.neutral part.from part.to in
         OnTrue result (work.new ≡ record work.old {
           neutral = work.old.neutral ++ flat_text text;
         }) }
     ensures full { OnFalse result (work.new ≡ work.old) }
     ensures sound { IsSound work.new }
 {
-    work.copy_neutral(part.0, part.1)
+    work.copy_neutral(part.from, part.to)
 }
 
 /// Puts a part of the neutral string that is a text before the active string, if there are cells for
 /// it.
 #[inline(always)]
-pub fn load_part(work: &mut Work, part: (u32, u32)) -> bool
-    requires part { IsTextPart work.old.neutral part.0 part.1 }
-    ensures loaded { let text = part_text work.old.neutral part.0 part.1 in
+pub fn load_part(work: &mut Work, part: Part) -> bool
+    requires part { IsTextPart work.old.neutral part.from part.to }
+    ensures loaded { let text = part_text work.old.neutral part.from part.to in
         IsTrue result ↔ (used work.old + length text ≤ work.old.room) }
-    ensures first { let text = part_text work.old.neutral part.0 part.1 in
+    ensures first { let text = part_text work.old.neutral part.from part.to in
         OnTrue result (work.new ≡ record work.old {
           active = flat_text text ++ work.old.active;
         }) }
     ensures full { OnFalse result (work.new ≡ work.old) }
     ensures sound { IsSound work.new }
 {
-    work.load_part(part.0, part.1)
+    work.load_part(part.from, part.to)
 }
 
 /// A part of the neutral string is the value of a call, which goes to the active string where it
 /// is scanned again.
 #[inline(always)]
-pub fn give(work: &mut Work, part: (u32, u32), scanned: bool) -> CallResult
-    requires part { IsTextPart work.old.neutral part.0 part.1 }
-    ensures makes { let text = part_text work.old.neutral part.0 part.1 in
+pub fn give(work: &mut Work, part: Part, scanned: bool) -> CallResult
+    requires part { IsTextPart work.old.neutral part.from part.to }
+    ensures makes { let text = part_text work.old.neutral part.from part.to in
         MakesValue text scanned work.old result work.new }
-    ensures takes { let text = part_text work.old.neutral part.0 part.1 in
+    ensures takes { let text = part_text work.old.neutral part.from part.to in
         scanned ≡ true → (k : ℕ) → TakesPart None text k work.old result work.new }
     ensures unmade { result ≡ CallResult.Full → work.new.forms ≡ work.old.forms }
     ensures keeps { KeepsRoom work.old work.new }
@@ -161,7 +165,7 @@ pub fn give(work: &mut Work, part: (u32, u32), scanned: bool) -> CallResult
         if !load_part(work, part) {
             return CallResult::Full;
         }
-        return CallResult::InFront(part.1 - part.0);
+        return CallResult::InFront(part.to - part.from);
     }
     if !put_part(work, part) {
         return CallResult::Full;

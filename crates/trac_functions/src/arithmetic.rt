@@ -16,6 +16,7 @@ use crate::writing::put_bytes;
 use itoa::Buffer;
 use trac_forms::Work;
 use trac_language::Arith;
+use trac_space::Part;
 
 // 10 ^ 19, the greatest power of ten that 64 bits hold, and 2 ^ 127 divided by it.
 const POWER: u128 = 10_000_000_000_000_000_000;
@@ -44,7 +45,10 @@ pub fn arithmetic(work: &mut Work, operation: Arith, mut arguments: Arguments) -
     let right = trac_values::tail_number(text(work, second));
     match trac_values::result_of(operation, left.value, right.value) {
         Some(number) => {
-            let prefix = (first.0, first.0 + left.start);
+            let prefix = Part {
+                from: first.from,
+                to: first.from + left.start,
+            };
             give_number(work, prefix, number, scanned)
         }
         None => {
@@ -56,10 +60,10 @@ pub fn arithmetic(work: &mut Work, operation: Arith, mut arguments: Arguments) -
 
 /// A part of the neutral string, and a number in decimal behind it, are the value of a call, which
 /// goes to the active string where it is scanned again.
-fn give_number(work: &mut Work, prefix: (u32, u32), number: i128, scanned: bool) -> CallResult
-    requires prefix { IsTextPart work.old.neutral prefix.0 prefix.1 }
+fn give_number(work: &mut Work, prefix: Part, number: i128, scanned: bool) -> CallResult
+    requires prefix { IsTextPart work.old.neutral prefix.from prefix.to }
     ensures makes { (function : Function) (args : List Text) →
-        let before = part_text work.old.neutral prefix.0 prefix.1 in
+        let before = part_text work.old.neutral prefix.from prefix.to in
         let value = before ++ signed_decimal number in
         Valued function args work.old.forms value false work.old.forms →
         Makes function args scanned work.old result work.new }
@@ -72,7 +76,7 @@ fn give_number(work: &mut Work, prefix: (u32, u32), number: i128, scanned: bool)
     let mut buffer = Buffer::new();
     let digits = decimal(&mut buffer, number);
     let free = work.free();
-    let size = prefix.1 - prefix.0 + digits.len() as u32;
+    let size = prefix.to - prefix.from + digits.len() as u32;
     if free < size {
         return CallResult::Full;
     }
@@ -101,11 +105,11 @@ fn decimal(buffer: &mut Buffer, number: i128) -> &[u8]
 /// What `give_number` does with a number of more than nineteen digits: its last nineteen, and those
 /// before them with the sign, are numbers of 64 bits.
 #[inline(never)]
-fn give_long_number(work: &mut Work, prefix: (u32, u32), number: i128, scanned: bool) -> CallResult
-    requires prefix { IsTextPart work.old.neutral prefix.0 prefix.1 }
+fn give_long_number(work: &mut Work, prefix: Part, number: i128, scanned: bool) -> CallResult
+    requires prefix { IsTextPart work.old.neutral prefix.from prefix.to }
     requires long { 10 ^ 19 ≤ unsigned_abs number }
     ensures makes { (function : Function) (args : List Text) →
-        let before = part_text work.old.neutral prefix.0 prefix.1 in
+        let before = part_text work.old.neutral prefix.from prefix.to in
         let value = before ++ signed_decimal number in
         Valued function args work.old.forms value false work.old.forms →
         Makes function args scanned work.old result work.new }
@@ -123,15 +127,15 @@ fn give_long_number(work: &mut Work, prefix: (u32, u32), number: i128, scanned: 
 /// out here, are the value of a call.
 fn give_digits(
     work: &mut Work,
-    prefix: (u32, u32),
+    prefix: Part,
     first: &[u8],
     last: &[u8],
     scanned: bool,
 ) -> CallResult
-    requires prefix { IsTextPart work.old.neutral prefix.0 prefix.1 }
+    requires prefix { IsTextPart work.old.neutral prefix.from prefix.to }
     requires short { (length first.now ≤ 40) × (length last.now ≤ 19) }
     ensures makes { (function : Function) (args : List Text) →
-        let before = part_text work.old.neutral prefix.0 prefix.1 in
+        let before = part_text work.old.neutral prefix.from prefix.to in
         let value = before ++ (first.now ++ padded_text 19 last.now) in
         Valued function args work.old.forms value false work.old.forms →
         Makes function args scanned work.old result work.new }
@@ -139,7 +143,7 @@ fn give_digits(
     ensures keeps { KeepsRoom work.old work.new }
 {
     let free = work.free();
-    let size = prefix.1 - prefix.0 + first.len() as u32 + 19;
+    let size = prefix.to - prefix.from + first.len() as u32 + 19;
     if free < size {
         return CallResult::Full;
     }
@@ -196,30 +200,30 @@ fn parted(number: u128) -> (u64, u64)
 /// Appends a part of the neutral string to that string. The caller has made sure that it fits. Most
 /// parts are null, and then there is nothing to do.
 #[inline(always)]
-fn put_prefix(work: &mut Work, part: (u32, u32))
-    requires part { IsTextPart work.old.neutral part.0 part.1 }
-    requires fits { used work.old + (part.1 - part.0) ≤ work.old.room }
-    ensures put { let text = part_text work.old.neutral part.0 part.1 in
+fn put_prefix(work: &mut Work, part: Part)
+    requires part { IsTextPart work.old.neutral part.from part.to }
+    requires fits { used work.old + (part.to - part.from) ≤ work.old.room }
+    ensures put { let text = part_text work.old.neutral part.from part.to in
         work.new ≡ record work.old { neutral = work.old.neutral ++ flat_text text } }
     ensures sound { IsSound work.new }
 {
     prove!(work.used() <= work.room());
-    if part.0 < part.1 {
+    if part.from < part.to {
         put_part(work, part);
     }
 }
 
 /// Puts a part of the neutral string before the active string. The caller has made sure that it fits.
 #[inline(always)]
-fn load_prefix(work: &mut Work, part: (u32, u32))
-    requires part { IsTextPart work.old.neutral part.0 part.1 }
-    requires fits { used work.old + (part.1 - part.0) ≤ work.old.room }
-    ensures put { let text = part_text work.old.neutral part.0 part.1 in
+fn load_prefix(work: &mut Work, part: Part)
+    requires part { IsTextPart work.old.neutral part.from part.to }
+    requires fits { used work.old + (part.to - part.from) ≤ work.old.room }
+    ensures put { let text = part_text work.old.neutral part.from part.to in
         work.new ≡ record work.old { active = flat_text text ++ work.old.active } }
     ensures sound { IsSound work.new }
 {
     prove!(work.used() <= work.room());
-    if part.0 < part.1 {
+    if part.from < part.to {
         load_part(work, part);
     }
 }

@@ -16,17 +16,18 @@ ghost use Rattle.trac_functions.specs.Calls.{KeepsRoom};
 
 use crate::arguments::{Arguments, CallResult, put_part, text};
 use trac_forms::{Cell, Work};
+use trac_space::Part;
 use trac_values::Count;
 
 /// A result of bits, with the parts of the neutral string
 /// where the octal digits stand that it is made of.
 #[derive(Clone, Copy)]
 pub enum BitResult {
-    Union((u32, u32), (u32, u32)),
-    Intersection((u32, u32), (u32, u32)),
-    Complement((u32, u32)),
-    Shift(Count, (u32, u32)),
-    Rotation(u32, (u32, u32)),
+    Union(Part, Part),
+    Intersection(Part, Part),
+    Complement(Part),
+    Shift(Count, Part),
+    Rotation(u32, Part),
 }
 
 /// `bu,A,B`: the prefix of A and after it the union of the bit strings of A and B in octal digits
@@ -42,7 +43,11 @@ pub fn union(work: &mut Work, mut arguments: Arguments) -> CallResult
     let second = arguments.next(work);
     let left = digits_of(work, first);
     let right = digits_of(work, second);
-    give_bits(work, (first.0, left.0), BitResult::Union(left, right))
+    let prefix = Part {
+        from: first.from,
+        to: left.from,
+    };
+    give_bits(work, prefix, BitResult::Union(left, right))
 }
 
 /// `bi,A,B`: the prefix of A and after it the intersection of the bit strings
@@ -58,11 +63,11 @@ pub fn intersection(work: &mut Work, mut arguments: Arguments) -> CallResult
     let second = arguments.next(work);
     let left = digits_of(work, first);
     let right = digits_of(work, second);
-    give_bits(
-        work,
-        (first.0, left.0),
-        BitResult::Intersection(left, right),
-    )
+    let prefix = Part {
+        from: first.from,
+        to: left.from,
+    };
+    give_bits(work, prefix, BitResult::Intersection(left, right))
 }
 
 /// `bc,O`: the prefix of O and after it the octal digits of
@@ -75,7 +80,11 @@ pub fn complement(work: &mut Work, mut arguments: Arguments) -> CallResult
 {
     let first = arguments.next(work);
     let digits = digits_of(work, first);
-    give_bits(work, (first.0, digits.0), BitResult::Complement(digits))
+    let prefix = Part {
+        from: first.from,
+        to: digits.from,
+    };
+    give_bits(work, prefix, BitResult::Complement(digits))
 }
 
 /// `bs,D,O`: the prefix of O and after it the octal digits of its bit string, shifted by as many
@@ -92,7 +101,11 @@ pub fn shift(work: &mut Work, mut arguments: Arguments) -> CallResult
     let shifted = arguments.next(work);
     let by = trac_values::shift_of(text(work, distance));
     let digits = digits_of(work, shifted);
-    give_bits(work, (shifted.0, digits.0), BitResult::Shift(by, digits))
+    let prefix = Part {
+        from: shifted.from,
+        to: digits.from,
+    };
+    give_bits(work, prefix, BitResult::Shift(by, digits))
 }
 
 /// `br,D,O`: the prefix of O and after it the octal digits of its bit string,
@@ -108,34 +121,41 @@ pub fn rotate(work: &mut Work, mut arguments: Arguments) -> CallResult
     let distance = arguments.next(work);
     let rotated = arguments.next(work);
     let digits = digits_of(work, rotated);
-    let bits = (3 * (digits.1 - digits.0)).max(1);
+    let bits = (3 * (digits.to - digits.from)).max(1);
     let by = trac_values::rotation_of(text(work, distance), bits);
-    give_bits(work, (rotated.0, digits.0), BitResult::Rotation(by, digits))
+    let prefix = Part {
+        from: rotated.from,
+        to: digits.from,
+    };
+    give_bits(work, prefix, BitResult::Rotation(by, digits))
 }
 
 /// Where the octal digits stand at the end of a part of the neutral string.
-fn digits_of(work: &Work, part: (u32, u32)) -> (u32, u32)
-    requires { IsTextPart work.now.neutral part.0 part.1 }
+fn digits_of(work: &Work, part: Part) -> Part
+    requires { IsTextPart work.now.neutral part.from part.to }
     ensures digits { AreDigits work.now.neutral result }
-    ensures before { IsTextPart work.now.neutral part.0 result.0 }
-    ensures prefix { let text = part_text work.now.neutral part.0 part.1 in
-        part_text work.now.neutral part.0 result.0 ≡ octal_prefix text }
-    ensures bits { let text = part_text work.now.neutral part.0 part.1 in
+    ensures before { IsTextPart work.now.neutral part.from result.from }
+    ensures prefix { let text = part_text work.now.neutral part.from part.to in
+        part_text work.now.neutral part.from result.from ≡ octal_prefix text }
+    ensures bits { let text = part_text work.now.neutral part.from part.to in
         bits_at work.now.neutral result ≡ bits text }
 {
-    (part.0 + trac_values::octal_start(text(work, part)), part.1)
+    Part {
+        from: part.from + trac_values::octal_start(text(work, part)),
+        to: part.to,
+    }
 }
 
 /// The cells of octal digits.
-fn digit_cells<'a>(work: &'a Work, part: (u32, u32)) -> &'a [Cell]
+fn digit_cells<'a>(work: &'a Work, part: Part) -> &'a [Cell]
     requires { AreDigits work.now.neutral part }
     ensures octal { IsOctal result.now }
     ensures bits { bits_of_cells result.now ≡ bits_at work.now.neutral part }
-    ensures long { length result.now ≡ part.1 - part.0 }
+    ensures long { length result.now ≡ part.to - part.from }
     ensures short { length result.now ≤ 16777216 }
 {
     prove!(work.used() <= work.room());
-    work.neutral_part(part.0, part.1)
+    work.neutral_part(part.from, part.to)
 }
 
 /// How many octal digits a result has.
@@ -144,11 +164,11 @@ fn digits_made(work: &Work, bits: BitResult) -> u32
     ensures { result ≡ length (octal_made work.now.neutral bits) }
 {
     match bits {
-        BitResult::Union(a, b) => (a.1 - a.0).max(b.1 - b.0),
-        BitResult::Intersection(a, b) => (a.1 - a.0).min(b.1 - b.0),
-        BitResult::Complement(a) => a.1 - a.0,
-        BitResult::Shift(_, a) => a.1 - a.0,
-        BitResult::Rotation(_, a) => a.1 - a.0,
+        BitResult::Union(a, b) => (a.to - a.from).max(b.to - b.from),
+        BitResult::Intersection(a, b) => (a.to - a.from).min(b.to - b.from),
+        BitResult::Complement(a) => a.to - a.from,
+        BitResult::Shift(_, a) => a.to - a.from,
+        BitResult::Rotation(_, a) => a.to - a.from,
     }
 }
 
@@ -167,7 +187,7 @@ fn digit_made(work: &Work, bits: BitResult, place: u32) -> Option<u8>
         BitResult::Complement(a) => trac_values::complement_digit(digit_cells(work, a), place),
         BitResult::Shift(by, a) => trac_values::shifted_digit(digit_cells(work, a), by, place),
         BitResult::Rotation(by, a) => {
-            if a.0 == a.1 {
+            if a.from == a.to {
                 return None;
             }
             trac_values::rotated_digit(digit_cells(work, a), by, place)
@@ -193,18 +213,18 @@ fn put_digits(work: &mut Work, bits: BitResult)
 
 /// A part of the neutral string, and the octal digits of a
 /// result behind it, are the value of a call.
-fn give_bits(work: &mut Work, prefix: (u32, u32), bits: BitResult) -> CallResult
-    requires prefix { IsTextPart work.old.neutral prefix.0 prefix.1 }
+fn give_bits(work: &mut Work, prefix: Part, bits: BitResult) -> CallResult
+    requires prefix { IsTextPart work.old.neutral prefix.from prefix.to }
     requires parts { AreFor work.old.neutral bits }
     ensures makes { (function : Function) (args : List Text) (scanned : Bool) →
-        let before = part_text work.old.neutral prefix.0 prefix.1 in
+        let before = part_text work.old.neutral prefix.from prefix.to in
         let value = before ++ octal_made work.old.neutral bits in
         Valued function args work.old.forms value false work.old.forms →
         Makes function args scanned work.old result work.new }
     ensures unmade { result ≡ CallResult.Full → work.new.forms ≡ work.old.forms }
     ensures keeps { KeepsRoom work.old work.new }
 {
-    if work.free() < prefix.1 - prefix.0 + digits_made(work, bits) {
+    if work.free() < prefix.to - prefix.from + digits_made(work, bits) {
         return CallResult::Full;
     }
     put_part(work, prefix);

@@ -20,6 +20,7 @@ ghost use Rattle.trac_functions.specs.Calls.{KeepsRoom};
 
 use crate::arguments::{Arguments, CallResult, put_part};
 use trac_forms::{FormId, Work};
+use trac_space::Part;
 
 // Up to this many names of `dd` are deleted one by one: to move a form that stays twice in the index
 // costs less than to put it in anew.
@@ -48,8 +49,8 @@ pub fn define_string(work: &mut Work, mut arguments: Arguments) -> CallResult
 {
     let name = arguments.next(work);
     let text = arguments.next(work);
-    let cells = 3 + (name.1 - name.0) + (text.1 - text.0);
-    match work.define(name, text) {
+    let cells = 3 + (name.to - name.from) + (text.to - text.from);
+    match work.define((name.from, name.to), (text.from, text.to)) {
         Ok(()) => CallResult::Null(cells),
         Err(_) => CallResult::Full,
     }
@@ -73,7 +74,7 @@ pub fn segment_string(work: &mut Work, mut arguments: Arguments) -> CallResult
     while !arguments.is_empty() {
         let part = arguments.next(work);
         ordinal += 1;
-        work.segment(form, part, ordinal);
+        work.segment(form, (part.from, part.to), ordinal);
     }
     CallResult::AtEnd
 }
@@ -99,13 +100,13 @@ pub fn list_names(work: &mut Work, mut arguments: Arguments) -> CallResult
 
 /// Puts a part of the neutral string and then the form's name at its end, if there are cells for
 /// both.
-fn put_name(work: &mut Work, before: (u32, u32), form: FormId) -> bool
-    requires part { IsTextPart work.old.neutral before.0 before.1 }
+fn put_name(work: &mut Work, before: Part, form: FormId) -> bool
+    requires part { IsTextPart work.old.neutral before.from before.to }
     requires known { form_place form < length work.old.forms }
-    ensures put { let before = part_text work.old.neutral before.0 before.1 in
+    ensures put { let before = part_text work.old.neutral before.from before.to in
         let text = before ++ name_at work.old.forms (form_place form) in
         IsTrue result ↔ (used work.old + length text ≤ work.old.room) }
-    ensures last { let before = part_text work.old.neutral before.0 before.1 in
+    ensures last { let before = part_text work.old.neutral before.from before.to in
         let text = before ++ name_at work.old.forms (form_place form) in
         OnTrue result (work.new ≡ record work.old {
           neutral = work.old.neutral ++ flat_text text;
@@ -194,5 +195,5 @@ fn next_form(work: &mut Work, arguments: &mut Arguments) -> Option<FormId>
     ensures left { AreArguments work.old arguments.new }
 {
     let name = arguments.next(work);
-    work.find(name.0, name.1)
+    work.find(name.from, name.to)
 }

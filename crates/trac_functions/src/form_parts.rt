@@ -24,6 +24,7 @@ ghost use Rattle.trac_functions.specs.Calls.{KeepsRoom};
 use crate::arguments::{Arguments, CallResult, give, put_part, text};
 use trac_forms::{FormId, Work};
 use trac_language::Item;
+use trac_space::Part;
 use trac_values::{Count, count_of};
 
 /// `cs,N,Z`: the characters from the pointer up to the next gap, or to the end where no gap
@@ -38,16 +39,16 @@ pub fn call_segment(work: &mut Work, mut arguments: Arguments) -> CallResult
 {
     let name = arguments.next(work);
     let default = arguments.next(work);
-    match work.find(name.0, name.1) {
+    match work.find(name.from, name.to) {
         Some(form) => take_segment(work, form, default),
         None => CallResult::AtEnd,
     }
 }
 
 /// Takes the characters up to the next gap.
-fn take_segment(work: &mut Work, form: FormId, default: (u32, u32)) -> CallResult
+fn take_segment(work: &mut Work, form: FormId, default: Part) -> CallResult
     requires known { form_place form < length work.old.forms }
-    requires part { IsTextPart work.old.neutral default.0 default.1 }
+    requires part { IsTextPart work.old.neutral default.from default.to }
     requires sound { IsSound work.old }
     ensures takes { TakesOrDefault next_segment (form_place form) default work.old result work.new }
     ensures unmade { result ≡ CallResult.Full → work.new.forms ≡ work.old.forms }
@@ -59,8 +60,8 @@ fn take_segment(work: &mut Work, form: FormId, default: (u32, u32)) -> CallResul
         return give(work, default, true);
     }
     match work.next_gap(form, from) {
-        Some(gap) => take_part(work, form, (from, gap), gap + 1),
-        None => take_part(work, form, (from, end), end),
+        Some(gap) => take_part(work, form, Part { from, to: gap }, gap + 1),
+        None => take_part(work, form, Part { from, to: end }, end),
     }
 }
 
@@ -74,16 +75,16 @@ pub fn call_character(work: &mut Work, mut arguments: Arguments) -> CallResult
 {
     let name = arguments.next(work);
     let default = arguments.next(work);
-    match work.find(name.0, name.1) {
+    match work.find(name.from, name.to) {
         Some(form) => take_character(work, form, default),
         None => CallResult::AtEnd,
     }
 }
 
 /// Takes the next character after the pointer.
-fn take_character(work: &mut Work, form: FormId, default: (u32, u32)) -> CallResult
+fn take_character(work: &mut Work, form: FormId, default: Part) -> CallResult
     requires known { form_place form < length work.old.forms }
-    requires part { IsTextPart work.old.neutral default.0 default.1 }
+    requires part { IsTextPart work.old.neutral default.from default.to }
     requires sound { IsSound work.old }
     ensures takes { TakesOrDefault (next_characters 1) (form_place form) default
         work.old result work.new }
@@ -151,16 +152,16 @@ pub fn call_number(work: &mut Work, mut arguments: Arguments) -> CallResult
     let number = arguments.next(work);
     let default = arguments.next(work);
     let count = count_of(text(work, number));
-    match work.find(name.0, name.1) {
+    match work.find(name.from, name.to) {
         Some(form) => take_characters(work, form, count, default),
         None => CallResult::AtEnd,
     }
 }
 
 /// Takes so many characters forward or backward.
-fn take_characters(work: &mut Work, form: FormId, count: Count, default: (u32, u32)) -> CallResult
+fn take_characters(work: &mut Work, form: FormId, count: Count, default: Part) -> CallResult
     requires known { form_place form < length work.old.forms }
-    requires part { IsTextPart work.old.neutral default.0 default.1 }
+    requires part { IsTextPart work.old.neutral default.from default.to }
     requires sound { IsSound work.old }
     ensures takes { let part = characters (signed count.negative count.size) in
         TakesOrDefault part (form_place form) default work.old result work.new }
@@ -169,7 +170,11 @@ fn take_characters(work: &mut Work, form: FormId, count: Count, default: (u32, u
 {
     if count.size == 0 {
         let pointer = work.pointer(form);
-        take_part(work, form, (pointer, pointer), pointer)
+        let null = Part {
+            from: pointer,
+            to: pointer,
+        };
+        take_part(work, form, null, pointer)
     } else if count.negative {
         take_backward(work, form, count.size, default)
     } else {
@@ -178,10 +183,10 @@ fn take_characters(work: &mut Work, form: FormId, count: Count, default: (u32, u
 }
 
 /// Takes the next so many characters after the pointer.
-fn take_forward(work: &mut Work, form: FormId, count: u32, default: (u32, u32)) -> CallResult
+fn take_forward(work: &mut Work, form: FormId, count: u32, default: Part) -> CallResult
     requires known { form_place form < length work.old.forms }
     requires some { 0 < count }
-    requires part { IsTextPart work.old.neutral default.0 default.1 }
+    requires part { IsTextPart work.old.neutral default.from default.to }
     requires sound { IsSound work.old }
     ensures takes { TakesOrDefault (next_characters count) (form_place form) default
         work.old result work.new }
@@ -193,14 +198,14 @@ fn take_forward(work: &mut Work, form: FormId, count: u32, default: (u32, u32)) 
     if to == from {
         return give(work, default, true);
     }
-    take_part(work, form, (from, to), to)
+    take_part(work, form, Part { from, to }, to)
 }
 
 /// Takes the last so many characters before the pointer.
-fn take_backward(work: &mut Work, form: FormId, count: u32, default: (u32, u32)) -> CallResult
+fn take_backward(work: &mut Work, form: FormId, count: u32, default: Part) -> CallResult
     requires known { form_place form < length work.old.forms }
     requires some { 0 < count }
-    requires part { IsTextPart work.old.neutral default.0 default.1 }
+    requires part { IsTextPart work.old.neutral default.from default.to }
     requires sound { IsSound work.old }
     ensures takes { let part = previous_characters count in
         TakesOrDefault part (form_place form) default work.old result work.new }
@@ -212,7 +217,7 @@ fn take_backward(work: &mut Work, form: FormId, count: u32, default: (u32, u32))
     if from == to {
         return give(work, default, true);
     }
-    take_part(work, form, (from, to), from)
+    take_part(work, form, Part { from, to }, from)
 }
 
 /// The place after the next so many characters, or after all of them where there are fewer.
@@ -255,19 +260,20 @@ fn place_before(work: &Work, form: FormId, to: u32, count: u32) -> u32
 }
 
 /// Takes the characters of a part of the body, and moves the pointer.
-fn take_part(work: &mut Work, form: FormId, part: (u32, u32), pointer: u32) -> CallResult
+fn take_part(work: &mut Work, form: FormId, part: Part, pointer: u32) -> CallResult
     requires known { form_place form < length work.old.forms }
-    requires order { part.0 ≤ part.1 }
-    requires within { part.1 ≤ length (body_at work.old.forms (form_place form)) }
+    requires order { part.from ≤ part.to }
+    requires within { part.to ≤ length (body_at work.old.forms (form_place form)) }
     requires pointer { pointer ≤ length (body_at work.old.forms (form_place form)) }
     requires sound { IsSound work.old }
     ensures takes { (z : Text) →
-        let taken = part_between (body_at work.old.forms (form_place form)) part pointer in
+        let body = body_at work.old.forms (form_place form) in
+        let taken = part_between body (part.from, part.to) pointer in
         TakesPart (Some taken) z (form_place form) work.old result work.new }
     ensures unmade { result ≡ CallResult.Full → work.new.forms ≡ work.old.forms }
     ensures keeps { KeepsRoom work.old work.new }
 {
-    if !copy_characters(work, form, part.0, part.1) {
+    if !copy_characters(work, form, part.from, part.to) {
         return CallResult::Full;
     }
     work.set_pointer(form, pointer);
@@ -345,34 +351,39 @@ pub fn initial_part(work: &mut Work, mut arguments: Arguments) -> CallResult
     let name = arguments.next(work);
     let sought = arguments.next(work);
     let default = arguments.next(work);
-    match work.find(name.0, name.1) {
+    match work.find(name.from, name.to) {
         Some(form) => take_initial(work, form, sought, default),
         None => CallResult::AtEnd,
     }
 }
 
 /// Takes the characters up to the first occurrence of a text.
-fn take_initial(
-    work: &mut Work,
-    form: FormId,
-    sought: (u32, u32),
-    default: (u32, u32),
-) -> CallResult
+fn take_initial(work: &mut Work, form: FormId, sought: Part, default: Part) -> CallResult
     requires known { form_place form < length work.old.forms }
-    requires sought { IsTextPart work.old.neutral sought.0 sought.1 }
-    requires part { IsTextPart work.old.neutral default.0 default.1 }
+    requires sought { IsTextPart work.old.neutral sought.from sought.to }
+    requires part { IsTextPart work.old.neutral default.from default.to }
     requires sound { IsSound work.old }
-    ensures takes { let text = part_text work.old.neutral sought.0 sought.1 in
+    ensures takes { let text = part_text work.old.neutral sought.from sought.to in
         TakesOrDefault (initial_part text) (form_place form) default work.old result work.new }
     ensures unmade { result ≡ CallResult.Full → work.new.forms ≡ work.old.forms }
     ensures keeps { KeepsRoom work.old work.new }
 {
     let pointer = work.pointer(form);
-    if sought.0 == sought.1 {
-        return take_part(work, form, (pointer, pointer), pointer);
+    if sought.from == sought.to {
+        let null = Part {
+            from: pointer,
+            to: pointer,
+        };
+        return take_part(work, form, null, pointer);
     }
-    match work.occurrence(form, pointer, sought) {
-        Some((begin, end)) => take_part(work, form, (pointer, begin), end),
+    match work.occurrence(form, pointer, (sought.from, sought.to)) {
+        Some((begin, end)) => {
+            let before = Part {
+                from: pointer,
+                to: begin,
+            };
+            take_part(work, form, before, end)
+        }
         None => give(work, default, true),
     }
 }
@@ -385,7 +396,7 @@ pub fn call_restore(work: &mut Work, mut arguments: Arguments) -> CallResult
     ensures keeps { KeepsRoom work.old work.new }
 {
     let name = arguments.next(work);
-    if let Some(form) = work.find(name.0, name.1) {
+    if let Some(form) = work.find(name.from, name.to) {
         work.set_pointer(form, 0);
     }
     CallResult::AtEnd

@@ -1,10 +1,16 @@
-//! The functions of the language.
-ghost use Rattle.std.specs.Prelude.{◌≡◌, ◌↔◌, ◌∷◌, [], IsSome, IsTrue, take};
+//! The table of functions: the name of each, and where its value is computed. A new function gets a
+//! line in `function_of` and one in `value_of`. One that reads, prints, changes the meta character or
+//! ends the run is called by the machine, in `trac_core`'s module of calls.
+ghost use Rattle.std.specs.Prelude.{◌≡◌, ◌↔◌, ◌∷◌, [], IsSome, IsTrue, take, true};
 ghost use Rattle.trac_language.specs.Function.{function_named};
 ghost use Rattle.trac_space.specs.Texts.{character_of, text_of_cells};
 ghost use Rattle.trac_forms.specs.Arguments.{before_comma};
+ghost use Rattle.trac_functions.specs.Calls.{AreArguments, KeepsRoom, Performs, is_plain};
 ghost use Rattle.std.specs.Char.{to_ascii_lowercase};
 
+use crate::arguments::{Arguments, CallResult};
+use crate::{arithmetic, bit_strings, comparing, form_calls, form_parts};
+use trac_forms::Work;
 use trac_language::{Arith, Function};
 use trac_space::{Cell, character_of};
 
@@ -99,5 +105,44 @@ fn function_of(first: &Cell, second: &Cell) -> Option<Function>
         (b'b', b's') => Some(Function::Shift),
         (b'b', b'r') => Some(Function::Rotate),
         _ => None,
+    }
+}
+
+/// What the function makes of the arguments that follow its name; a null value of those that the
+/// machine calls itself: they touch a device or the meta character, or end the run.
+#[inline(always)]
+pub fn value_of(work: &mut Work, function: Function, arguments: Arguments) -> CallResult
+    requires arguments { AreArguments work.old arguments }
+    ensures makes { is_plain function ≡ true →
+        Performs function work.old arguments result work.new }
+    ensures unmade { result ≡ CallResult.Full → work.new.forms ≡ work.old.forms }
+    ensures keeps { KeepsRoom work.old work.new }
+{
+    match function {
+        Function::DefineString => form_calls::define_string(work, arguments),
+        Function::SegmentString => form_calls::segment_string(work, arguments),
+        Function::DeleteDefinition => form_calls::delete_definition(work, arguments),
+        Function::DeleteAll => form_calls::delete_all(work),
+        Function::ListNames => form_calls::list_names(work, arguments),
+        Function::CallForm => form_calls::call_form(work, arguments),
+        Function::CallSegment => form_parts::call_segment(work, arguments),
+        Function::CallCharacter => form_parts::call_character(work, arguments),
+        Function::CallNumber => form_parts::call_number(work, arguments),
+        Function::InitialPart => form_parts::initial_part(work, arguments),
+        Function::CallRestore => form_parts::call_restore(work, arguments),
+        Function::Equal => comparing::equal(work, arguments),
+        Function::Greater => comparing::greater(work, arguments),
+        Function::Arithmetic(operation) => arithmetic::arithmetic(work, operation, arguments),
+        Function::Union => bit_strings::union(work, arguments),
+        Function::Intersection => bit_strings::intersection(work, arguments),
+        Function::Complement => bit_strings::complement(work, arguments),
+        Function::Shift => bit_strings::shift(work, arguments),
+        Function::Rotate => bit_strings::rotate(work, arguments),
+        Function::ReadString
+        | Function::ReadCharacter
+        | Function::ChangeMeta
+        | Function::PrintString
+        | Function::Halt
+        | Function::PrintForm => CallResult::AtEnd,
     }
 }

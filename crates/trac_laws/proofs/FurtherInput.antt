@@ -1,50 +1,28 @@
 -- A step that doesn't read to the end of its input does the same where more stands behind that.
-use Rattle.trac_laws.proofs.Words.{◌≡◌, ℕ, Bool, true, false, not, ◌||◌, List, [], ◌∷◌, ◌++◌, Option, Some, None, refl, sym, ap, ap₂, subst, ◌∙◌, append_assoc, append-nil, ⊎_elim, take-append-drop, ◌==◌, list_any, position_or_len, and_cases, and_left, and_right, list_any-append, Mode, Function}
-use Rattle.trac_laws.proofs.Words.{Text, Input, OpenCall, State, arguments, World, Meaning, Gives, Ends, before_meta, from_meta, read_all, read_string, read_character, meaning_of, meaning, Rule, EndCall, rule, Outcome, Next, Over, function_of, world_of, perform, end_call, follow, step, need}
+use Rattle.trac_laws.proofs.Words.{◌≡◌, ℕ, Form, Bool, true, false, not, ◌||◌, List, [], ◌∷◌, ◌++◌, Option, Some, None, refl, sym, ap, ap₂, subst, ◌∙◌, append_assoc, ⊎_elim, ◌==◌, list_any, and_cases, and_left, and_right, list_any-append, Mode, Function}
+use Rattle.trac_laws.proofs.Words.{Text, Input, OpenCall, State, arguments, World, Meaning, Gives, Ends, meaning, Rule, EndCall, rule, Outcome, Next, Over, function_of, world_of, perform, end_call, follow, step, need}
 use Rattle.trac_laws.proofs.Words.{is_read_string, reads_last, end_reads_last, reads_last_by, reads_to_end, ReadsNoFurther, with_more}
-use Rattle.trac_laws.proofs.UnreadInput.{with_source, elsewhere}
-use Rattle.trac_laws.proofs.TakenInput.{Kind, IsString, IsCharacter, IsOther, kind, standing, step_anywhere}
+use Rattle.trac_laws.proofs.Shape.{LeftOf, Reading, Stopped, Given, Shape, Reads, Ended, Does, shape}
+use Rattle.trac_laws.proofs.TakenInput.{standing, step_anywhere}
 
 -- ---- what is left of the input stands at its end
-
--- of an input another is left
-abbrev LeftOf : Input → Input → Type 0
-LeftOf before after = (front : Text) × ((before.text ≡ front ++ after.text) × (after.fails ≡ before.fails))
 
 abbrev Leaves : Input → Meaning → Type 0
 Leaves i (Gives answer) = LeftOf i answer.world.input
 Leaves i (Ends fate) = Unit {0}
 
-unread : (i : Input) (m : Meaning) → Leaves i (with_source i m)
-unread i (Gives answer) = ([], (refl, refl))
-unread i (Ends fate) = tt
-
-all_read : (fails : Bool) (text : Text) (world : World) → Leaves world.input (read_all fails text world)
-all_read true text world = tt
-all_read false [] world = tt
-all_read false (c ∷ text) world = (world.input.text, (sym (append-nil world.input.text), refl))
-
-string_read : (text from front : Text) (world : World) → world.input.text ≡ front ++ from → Leaves world.input (read_string text from world)
-string_read text [] front world e = all_read world.input.fails text world
-string_read text (meta ∷ rest) front world e = (front ++ meta ∷ [], (e ∙ sym (append_assoc front (meta ∷ []) rest), refl))
-
-character_read : (text : Text) (fails : Bool) (world : World) → world.input.text ≡ text → Leaves world.input (read_character text fails world)
-character_read (c ∷ rest) fails world e = (c ∷ [], (e, refl))
-character_read [] true world e = tt
-character_read [] false world e = tt
-
-call_leaves : (f : Function) (args : List Text) (world : World) → Leaves world.input (meaning_of f args world)
-unfolding meaning_of
-call_leaves f args world = go (kind f)
+leaves-shape : (f : Function) (forms : List Form) (meta : ℕ) (m : Input → Meaning) → Shape f forms meta m → (i : Input) → Leaves i (m i)
+leaves-shape f forms meta m (Reads r each) i = go (each i)
   where
-    go : Kind f → Leaves world.input (meaning_of f args world)
-    go (IsString e) = subst (λ f. Leaves world.input (meaning_of f args world)) (sym e) (string_read (before_meta world) (from_meta world) (before_meta world) world (sym (take-append-drop (position_or_len (λ c. c == world.meta) world.input.text) world.input.text)))
-    go (IsCharacter e) = subst (λ f. Leaves world.input (meaning_of f args world)) (sym e) (character_read world.input.text world.input.fails world refl)
-    go (IsOther e other) = subst (Leaves world.input) (sym (elsewhere f args world world.input e)) (unread world.input (meaning_of f args world))
+    go : Reading forms meta i (m i) → Leaves i (m i)
+    go (Stopped fate e) = subst (Leaves i) (sym e) tt
+    go (Given value left of e) = subst (Leaves i) (sym e) of
+leaves-shape f forms meta m (Ended fate e) i = subst (Leaves i) (sym (e i)) tt
+leaves-shape f forms meta m (Does value forced forms' meta' printed keeps quiet e) i = subst (Leaves i) (sym (e i)) ([], (refl, refl))
 
 meaning_leaves : (f : Option Function) (args : List Text) (world : World) → Leaves world.input (meaning f args world)
 meaning_leaves None args world = ([], (refl, refl))
-meaning_leaves (Some f) args world = call_leaves f args world
+meaning_leaves (Some f) args world = leaves-shape f world.forms world.meta _ (shape f args world.forms world.meta) world.input
 
 abbrev LeavesNext : Input → Outcome → Type 0
 LeavesNext i (Next s) = LeftOf i s.input

@@ -13,7 +13,9 @@ pub mod ReachedWhileReading
 pub mod Rules
 pub mod Runs
 pub mod ScanningCases
+pub mod Shape
 pub mod Stepping
+pub mod Stores
 pub mod TakenInput
 pub mod UnreadInput
 mod Words

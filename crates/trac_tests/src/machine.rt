@@ -2,11 +2,9 @@
 //! with every allowance and over devices that fail.
 ghost use Rattle.std.specs.Prelude.{◌≤◌, length};
 
-mod devices;
+mod failing;
 mod lines;
 mod rows;
-mod session;
-mod view;
 
 use rows::{DISPLAYED, FORMS, HALTING, PARTS, READ, REPORTS, SCANNED, VALUES};
 use std::process::Abort;
@@ -25,6 +23,8 @@ const OUTPUT: usize = 100;
 const HELLO: &str = "#(ps,hello)'";
 
 const LOOP: &str = "#(ds,L,(#(cl,L)))#(cl,L)'";
+
+const LETTERS: &str = "#(ps,abcdefghijklmnopqrst)'";
 
 const DEFINING: &[u8] = b"#(ds,A,b)'";
 

@@ -1,6 +1,6 @@
 //! What is shown of a run, as it goes on.
 ghost use Rattle.std.specs.Prelude.{◌≡◌, ◌++◌, ◌&&◌, [], IfOk, OnOk, max, not, true, false};
-ghost use Rattle.trac_events.specs.Calls.{IsSeen};
+ghost use Rattle.trac_events.specs.Calls.{IsSeen, depth_in};
 ghost use Rattle.trac_views.specs.Lines.{head_text};
 ghost use Rattle.trac_views.specs.Told.{event_text, has_steps, is_fault, meta_text};
 ghost use Rattle.trac_views.specs.Faults.{TellsDone, TellsEnd, TellsStep, TellsWhere, forms_text};
@@ -8,7 +8,7 @@ ghost use Rattle.trac_views.specs.Faults.{is_told};
 
 use crate::oddities::oddity_of;
 use std::alloc::{AllocError, Global};
-use trac_core::{Awaits, Cell, Fate, Machine, OpenCall, Report};
+use trac_core::{Awaits, CallMark, Cell, Fate, Machine, Report};
 use trac_events::{
     Before, Named, Reading, Touched, argument, arguments_of, find_form, pointer_of, touched_by,
 };
@@ -31,13 +31,15 @@ pub struct Shown {
     // The form that it makes or changes.
     form: Vec<u8>,
     reading: Reading,
+    // How many calls are open.
+    depth: usize,
     peak: u32,
 }
 
 impl Shown {
     /// What is shown before the first step: the lines above all others.
     pub fn new(alloc: Global, views: Views) -> Result<Shown, AllocError>
-        ensures { IfOk result (λ shown. (shown.views ≡ views) × (shown.peak ≡ 0)
+        ensures { IfOk result (λ shown. (shown.views ≡ views) × (shown.peak ≡ 0) × (shown.depth ≡ 0)
             × (shown.lines.items ≡ head_text views.calls views.forms)) }
     {
         let mut lines = Vec::new(alloc);
@@ -54,6 +56,7 @@ impl Shown {
             deleted: Vec::new(alloc),
             form: Vec::new(alloc),
             reading: Reading::first(),
+            depth: 0,
             peak: 0,
         })
     }
@@ -72,6 +75,7 @@ impl Shown {
         ensures cleared { self.new.lines.items ≡ [] }
         ensures views { self.new.views ≡ self.old.views }
         ensures peak { self.new.peak ≡ self.old.peak }
+        ensures depth { self.new.depth ≡ self.old.depth }
     {
         self.lines.clear();
         let is_shown = self.views.has(machine.steps().saturating_add(1));
@@ -84,12 +88,13 @@ impl Shown {
     }
 
     // Keeps what must be known of a call after it is performed.
-    fn look_at_call(&mut self, machine: &Machine, call: OpenCall) -> Result<(), AllocError>
+    fn look_at_call(&mut self, machine: &Machine, call: CallMark) -> Result<(), AllocError>
         ensures lines { self.new.lines ≡ self.old.lines }
         ensures views { self.new.views ≡ self.old.views }
         ensures peak { self.new.peak ≡ self.old.peak }
+        ensures depth { self.new.depth ≡ self.old.depth }
     {
-        let arguments = arguments_of(machine.neutral(), call.mark);
+        let arguments = arguments_of(machine.neutral(), call.place);
         let named = Named::new(machine, arguments);
         self.named = named;
         self.arguments.clear();
@@ -116,6 +121,7 @@ impl Shown {
         printed: &[u8],
     ) -> Result<(), AllocError>
         ensures peak { self.new.peak ≡ max self.old.peak need }
+        ensures depth { self.new.depth ≡ depth_in before.now machine.now self.old.depth }
         ensures views { self.new.views ≡ self.old.views }
         ensures hidden { is_told self.old.views before.now.done ≡ false →
             self.new.lines.items ≡ self.old.lines.items }
@@ -124,6 +130,7 @@ impl Shown {
             before.now need printed.now machine.now self.old.lines.items self.new.lines.items) }
     {
         self.peak = self.peak.max(need);
+        self.depth = before.depth_after(machine, self.depth);
         let value = match fate {
             None => before.value(machine),
             Some(_) => &[],
@@ -145,6 +152,7 @@ impl Shown {
             self.old.lines.items ++ event_text self.old.views event.now) }
         ensures views { self.new.views ≡ self.old.views }
         ensures peak { self.new.peak ≡ self.old.peak }
+        ensures depth { self.new.depth ≡ self.old.depth }
     {
         push_event(&mut self.lines, self.alloc, &self.views, event)
     }
@@ -155,6 +163,7 @@ impl Shown {
             before.now need machine.now self.old.lines.items self.new.lines.items) }
         ensures views { self.new.views ≡ self.old.views }
         ensures peak { self.new.peak ≡ self.old.peak }
+        ensures depth { self.new.depth ≡ self.old.depth }
     {
         let step = Step {
             number: machine.steps(),
@@ -178,6 +187,7 @@ impl Shown {
             OnOk result (self.new.lines.items ≡ self.old.lines.items) }
         ensures views { self.new.views ≡ self.old.views }
         ensures peak { self.new.peak ≡ self.old.peak }
+        ensures depth { self.new.depth ≡ self.old.depth }
     {
         let Some(call) = before.call else {
             return Ok(());
@@ -200,7 +210,7 @@ impl Shown {
         let called = Called {
             number: machine.steps(),
             mode: call.mode,
-            depth: call.depth,
+            depth: self.depth,
             arguments,
             value,
             printed,

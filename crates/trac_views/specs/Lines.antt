@@ -9,8 +9,8 @@ use Rattle.trac_language.specs.declared.fate.Fate.TheVariants.{Halted, InputEnde
 use Rattle.trac_language.specs.declared.fate.Fate.TheVariants.{InputFailed, OutputFailed}
 use Rattle.trac_space.specs.declared.cell.Cell.{Cell}
 use Rattle.trac_space.specs.declared.cell.Cell.TheVariants.{Byte, Call, Comma, Gap, Head}
-use Rattle.trac_core.specs.declared.machine.view.ScanningRule.{ScanningRule}
-use Rattle.trac_core.specs.declared.machine.view.ScanningRule.TheVariants as row
+use Rattle.trac_core.specs.declared.rules.ScanningRule.{ScanningRule}
+use Rattle.trac_core.specs.declared.rules.ScanningRule.TheVariants as row
 
 -- a digit to the base 16
 abbrev pub digit_16 : ℕ → ℕ

@@ -1,6 +1,7 @@
 -- Warnings that stay in front of others.
 use Rattle.std.proofs.Common.{◌≡◌, ◌∙◌, ◌++◌, ◌∷◌, List, [], ap, map, sym, append-nil, append_assoc}
 use Rattle.std.proofs.lemmas.List.{map-append}
+use Rattle.std.specs.Prelude.{Err, Ok, OnOk, Result}
 use Rattle.trac_warnings.specs.Watched.{Adds, Kept, said}
 use Rattle.trac_warnings.specs.declared.warning.Warning.{Warning}
 
@@ -18,6 +19,10 @@ kept_pushed a b x is = (x ∷ [], is)
 
 pub said_pushed : (a b : List Warning) (x : Warning) → b ≡ a ++ x ∷ [] → Adds a b (said x)
 said_pushed a b x is = ap (map said) is ∙ map-append said a (x ∷ [])
+
+pub on_ok : {A E : Type 0} (r : Result A E) (P Q : Type 0) → (P → Q) → OnOk r P → OnOk r Q
+on_ok (Ok x) P Q f p = f p
+on_ok (Err e) P Q f p = p
 
 -- What the functions that note warnings go by.
 pub ruleset keeping = (kept_same, kept_more, kept_pushed)

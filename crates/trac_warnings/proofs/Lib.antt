@@ -3,3 +3,4 @@ pub mod Keeping
 pub mod NextNames
 pub mod Noted
 pub mod Said
+pub mod Looked

@@ -1,13 +1,20 @@
 -- Warnings that are added step by step.
-use Rattle.std.proofs.Common.{◌≡◌, ◌∙◌, ◌<◌, ◌+◌, ◌==◌, ℕ, suc, Bool, List, ◌∷◌, ◌++◌, length, take, drop, ◌-◌, get_or, ap, sym, subst, append_assoc, arith}
+use Rattle.std.proofs.Common.{◌≡◌, ◌∙◌, ◌<◌, ◌+◌, ◌==◌, ℕ, suc, Bool, List, [], ◌∷◌, ◌++◌, length, take, drop, ◌-◌, get_or, ap, sym, subst, append_assoc, arith}
 use Rattle.std.proofs.Math.Seq.{drop-cons}
+use Rattle.std.proofs.lemmas.List.{length-append, reverse-append}
+use Rattle.std.specs.Prelude.{false, nat_lt, reverse, ◌&&◌, if◌then◌else◌}
 use Rattle.trac_language.specs.declared.item.Item.{Item}
 use Rattle.trac_space.specs.declared.cell.Cell.{Cell}
-use Rattle.trac_warnings.specs.Performed.{gap_behind, gaps_behind, next_text}
+use Rattle.trac_warnings.specs.Performed.{gap_behind, gaps_behind, next_text, of_text}
 use Rattle.trac_warnings.specs.Script.{spelled, spelled_at, told_behind}
 use Rattle.trac_warnings.specs.Spelling.{spelling_of}
 use Rattle.trac_warnings.proofs.NextNames.{taken_whole}
+use Rattle.trac_core.specs.declared.machine.view.ScanningRule.{ScanningRule}
+use Rattle.trac_warnings.specs.Told.{end_warnings, ended, is_dropped_last, is_protection, not_ended, open_warnings}
+use Rattle.trac_warnings.specs.declared.watch.OpenString.{OpenString}
 use Rattle.trac_warnings.specs.Watched.{Said}
+use Rattle.trac_warnings.specs.declared.origin.Origin.{Origin}
+use Rattle.trac_warnings.specs.declared.warning.Suspicion.TheVariants.{OpenCall}
 use Rattle.trac_warnings.specs.declared.performed.Ending.{Ending}
 
 pub head_of : {A : Type 0} (xs : List A) (k : ℕ) (d : A) → k < length xs → drop k xs ≡ get_or xs k d ∷ drop (k + 1) xs
@@ -50,3 +57,37 @@ next_gaps old new whole k next i d cells items ending less added is all =
     let here : old ++ (gap_behind cell k items ending ++ others) ≡ whole = ap (λ t. old ++ gaps_behind k t items ending) (sym (head_of cells i d less)) ∙ all in
     ap (λ n. new ++ gaps_behind n (drop (i + 1) cells) items ending) is
     ∙ added_first old new (gap_behind cell k items ending) others whole added here
+
+-- the calls from one on that are still open, and those behind it
+pub next_open : (old new whole : List Said) (k : ℕ) (d : Origin) (calls : List Origin) → k < length calls
+    → new ≡ old ++ of_text OpenCall (get_or calls k d) [] ∷ [] → old ++ open_warnings (drop k calls) ≡ whole
+    → new ++ open_warnings (drop (k + 1) calls) ≡ whole
+next_open old new whole k d calls less added all =
+    added_first old new (of_text OpenCall (get_or calls k d) [] ∷ []) (open_warnings (drop (k + 1) calls)) whole added
+    (ap (λ t. old ++ open_warnings t) (sym (head_of calls k d less)) ∙ all)
+
+last_first : {A : Type 0} (xs ys : List A) (x : A) → xs ≡ ys ++ x ∷ [] → reverse xs ≡ x ∷ reverse ys
+last_first xs ys x is = ap reverse is ∙ reverse-append ys (x ∷ [])
+
+-- what is said behind the end of the last of these strings, and behind those of the others
+pub next_end : (rule : ScanningRule) (active : ℕ) (here : Origin) (calls : List Origin) (told new whole : List Said) (is_unmatched : Bool)
+    (string : OpenString) (strings others : List OpenString) → nat_lt string.rest active ≡ false → strings ≡ others ++ string ∷ []
+    → is_unmatched ≡ (nat_lt active string.rest && is_protection rule)
+    → new ≡ told ++ end_warnings is_unmatched (is_dropped_last told) here calls string
+    → ended rule active here calls told (reverse strings) ≡ whole → ended rule active here calls new (reverse others) ≡ whole
+next_end rule active here calls told new whole is_unmatched string strings others less is unmatched added all =
+    let e = λ (b : Bool). told ++ end_warnings b (is_dropped_last told) here calls string in
+    let later = ended rule active here calls (e (nat_lt active string.rest && is_protection rule)) (reverse others) in
+    ap (λ t. ended rule active here calls t (reverse others)) (added ∙ ap e unmatched)
+    ∙ sym (ap (λ b. if b then told else later) less)
+    ∙ sym (ap (ended rule active here calls told) (last_first strings others string is)) ∙ all
+
+pub next_not_ended : (active : ℕ) (whole : List OpenString) (string : OpenString) (strings others : List OpenString)
+    → nat_lt string.rest active ≡ false → strings ≡ others ++ string ∷ []
+    → not_ended active (reverse strings) ≡ whole → not_ended active (reverse others) ≡ whole
+next_not_ended active whole string strings others less is all =
+    sym (ap (λ b. if b then string ∷ reverse others else not_ended active (reverse others)) less)
+    ∙ sym (ap (not_ended active) (last_first strings others string is)) ∙ all
+
+pub len_popped : {A : Type 0} (xs ys : List A) (x : A) → xs ≡ ys ++ x ∷ [] → length xs ≡ length ys + 1
+len_popped xs ys x is = ap length is ∙ length-append ys (x ∷ [])

@@ -8,3 +8,5 @@ pub mod Script
 pub mod Spelling
 pub mod Strings
 pub mod Watched
+pub mod Looked
+pub mod Told

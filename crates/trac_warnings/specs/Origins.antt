@@ -1,8 +1,8 @@
 -- Where what is scanned was written.
 use Rattle.std.specs.Prelude.{ℕ, ◌+◌, ◌-◌, ◌^◌, ◌==◌, List, [], ◌∷◌, Option, Some, None, min, nat_lt}
 use Rattle.std.specs.Prelude.{if◌then◌else◌}
-use Rattle.trac_core.specs.declared.machine.view.ScanningRule.{ScanningRule}
-use Rattle.trac_core.specs.declared.machine.view.ScanningRule.TheVariants as row
+use Rattle.trac_core.specs.declared.rules.ScanningRule.{ScanningRule}
+use Rattle.trac_core.specs.declared.rules.ScanningRule.TheVariants as row
 use Rattle.trac_warnings.specs.declared.origin.Origin.{Origin}
 use Rattle.trac_warnings.specs.declared.trail.Run.{Run}
 

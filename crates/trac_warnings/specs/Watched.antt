@@ -5,8 +5,8 @@ use Rattle.trac_space.specs.declared.cell.Cell.{Cell}
 use Rattle.trac_core.specs.Machine.{MachineState}
 use Rattle.trac_core.specs.declared.machine.session.Awaits.{Awaits}
 use Rattle.trac_core.specs.declared.machine.session.Awaits.TheVariants as awaits
-use Rattle.trac_core.specs.declared.machine.view.ScanningRule.{ScanningRule}
-use Rattle.trac_core.specs.declared.machine.view.ScanningRule.TheVariants as row
+use Rattle.trac_core.specs.declared.rules.ScanningRule.{ScanningRule}
+use Rattle.trac_core.specs.declared.rules.ScanningRule.TheVariants as row
 use Rattle.trac_events.specs.Calls.{SeesValue, reads}
 use Rattle.trac_events.specs.declared.before.Before.{Before}
 use Rattle.trac_warnings.specs.Origins.{in_input, moved, more}
@@ -44,6 +44,23 @@ abbrev pub Stays : Watch → Watch → Type 0
 Stays old new = (new.warnings.items ≡ []) × (new.runs.items ≡ old.runs.items) × (new.read ≡ old.read)
     × (new.calls.items ≡ old.calls.items)
 
+-- what was seen of the run before stays: what it read, what it scans, and which forms it defined
+abbrev pub KeepsPlaces : Watch → Watch → Type 0
+KeepsPlaces old new = new ≡ record old {
+  warnings = new.warnings;
+  arguments = new.arguments;
+  value = new.value;
+  neutral = new.neutral;
+}
+
+-- another form may be known, and all else stays
+abbrev pub KeepsNames : Watch → Watch → Type 0
+KeepsNames old new = new ≡ record old { names = new.names; written = new.written }
+
+-- another warning may be there, and all else stays
+abbrev pub KeepsRun : Watch → Watch → Type 0
+KeepsRun old new = new ≡ record old { warnings = new.warnings }
+
 -- a step moves the origins of the active string; what it reads was written where the input was read
 abbrev pub Moves : Before → MachineState → Watch → Watch → Type 0
 Moves before m old new = (value : Origin)
@@ -51,33 +68,25 @@ Moves before m old new = (value : Origin)
     × (reverse new.runs.items ≡ moved before.rule before.active (length m.memory.active) value
     (reverse old.runs.items)))
 
--- a rule begins a call
-abbrev pub begins_call : ScanningRule → Bool
-begins_call row.ActiveCall = true
-begins_call row.NeutralCall = true
-begins_call _ = false
-
 -- where a text ends of so many characters that was read at a place of the input
 abbrev pub end_of_text : List ℕ → ℕ → ℕ → ℕ
 end_of_text input read len = min (more (min read (length input)) len) (length input)
 
--- a string was read, and the meta character where it stands behind it
-abbrev pub ReadsText : Before → MachineState → List ℕ → ℕ → ℕ → Type 0
-ReadsText before m input old new = (value : List Cell)
-    × (SeesValue m before.call before.active value
-    × ((slice_get input (end_of_text input old (length value)) ≡ Some before.meta →
-    new ≡ more (end_of_text input old (length value)) 1)
-    × ((slice_get input (end_of_text input old (length value)) ≡ Some before.meta → ⊥) →
-    new ≡ end_of_text input old (length value))))
+-- behind a string that ends at a place, and behind the meta character where it stands there
+abbrev pub EndsText : List ℕ → (end meta new : ℕ) → Type 0
+EndsText input end meta new =
+    (slice_get input end ≡ Some meta → new ≡ more end 1)
+    × ((slice_get input end ≡ Some meta → ⊥) → new ≡ end)
 
--- by what the step reads
-abbrev pub ReadsBy : Awaits → Before → MachineState → List ℕ → ℕ → ℕ → Type 0
-ReadsBy awaits.Nothing before m input old new = new ≡ old
-ReadsBy awaits.Text before m input old new = ReadsText before m input old new
-ReadsBy awaits.Byte before m input old new = (value : List Cell)
-    × (SeesValue m before.call before.active value
-    × (new ≡ min (more old (length value)) (length input)))
+-- by what the step reads whose value has so many characters
+abbrev pub ReadsLen : Awaits → Before → List ℕ → (len old new : ℕ) → Type 0
+ReadsLen awaits.Nothing before input len old new = new ≡ old
+ReadsLen awaits.Text before input len old new =
+    EndsText input (end_of_text input old len) before.meta new
+ReadsLen awaits.Byte before input len old new = new ≡ min (more old len) (length input)
 
 -- where the input is read behind a step
 abbrev pub Reads : Before → MachineState → List ℕ → ℕ → ℕ → Type 0
-Reads before m input old new = ReadsBy before.awaits before m input old new
+Reads before m input old new = (value : List Cell)
+    × (SeesValue m before.call before.active value
+    × ReadsLen before.awaits before input (length value) old new)

@@ -165,8 +165,8 @@ fn is_in_default(arguments: &[Cell]) -> bool
     }
 }
 
-// How many of the cells are comma marks.
-fn commas_in(cells: &[Cell]) -> u32
+/// How many of the cells are comma marks.
+pub fn commas_in(cells: &[Cell]) -> u32
     ensures { result ≡ commas_of cells.now }
 {
     let mut count: u32 = 0;

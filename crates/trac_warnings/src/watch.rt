@@ -1,19 +1,31 @@
 //! A run that is watched, step by step.
-ghost use Rattle.std.specs.Prelude.{◌≡◌, ◌≢◌, ◌<◌, ◌↔◌, ◌++◌, ◌∷◌, [], IfOk, OnOk, IsSome, true, false};
-ghost use Rattle.std.specs.Prelude.{MatchOption, length, reverse, slice_get, option_to_list};
+ghost use Rattle.std.specs.Prelude.{◌≡◌, ◌≢◌, ◌<◌, ◌≤◌, ◌↔◌, ◌++◌, ◌&&◌, [], IfOk, OnOk, IsSome, true};
+ghost use Rattle.std.specs.Prelude.{MatchOption, drop, false, length, map, min, nat_lt, option_to_list};
+ghost use Rattle.std.specs.Prelude.{reverse, slice_get};
+ghost use Rattle.trac_language.specs.Function.{function_named};
+ghost use Rattle.trac_space.specs.Texts.{text_of_cells};
 ghost use Rattle.trac_events.specs.Calls.{IsSeen, reads};
+ghost use Rattle.trac_warnings.specs.Looked.{Looks, LooksAtEnd, LooksAtMark, around_of, begin_of, is_inside};
+ghost use Rattle.trac_warnings.specs.Looked.{is_stray, place_of, places_of, stray_warnings};
 ghost use Rattle.trac_warnings.specs.Origins.{first_origin, in_input, moved, origin_at};
-ghost use Rattle.trac_warnings.specs.Watched.{IsFresh, Kept, Moves, Reads, ReadsText, Stays, begins_call};
+ghost use Rattle.trac_warnings.specs.Performed.{Warns, function_of};
+ghost use Rattle.trac_warnings.specs.Told.{TellsAll, calls_behind, drop_warnings, end_warnings, ended};
+ghost use Rattle.trac_warnings.specs.Told.{is_arithmetic, is_dropped_last, is_ended_at, is_null, is_protection, left_open};
+ghost use Rattle.trac_warnings.specs.Told.{lowered, not_ended, open_warnings, read_warnings, result_warnings};
+ghost use Rattle.trac_warnings.specs.Told.{rule_warnings, strings_behind, strings_read, text_warnings};
+ghost use Rattle.trac_warnings.specs.Told.{with_string, without_last};
+ghost use Rattle.trac_warnings.specs.Watched.{EndsText, IsFresh, Kept, KeepsNames, KeepsPlaces, KeepsRun};
+ghost use Rattle.trac_warnings.specs.Watched.{Moves, Reads, ReadsLen, Stays, end_of_text, said};
 
 use crate::arguments::{default_place, takes_branches};
 use crate::origin::Origin;
-use crate::performed::{Ending, characters_of, look_at_call, warn};
+use crate::performed::{Ending, characters_of, commas_in, look_at_call, warn};
 use crate::strings::layout_len;
 use crate::trail::{Run, first_origin, push_run, take_run};
 use crate::warning::{Suspicion, Warning};
 use std::alloc::{AllocError, Global};
 use std::collections::BTreeMap;
-use trac_core::{Awaits, Machine, ScanningRule};
+use trac_core::{Awaits, CallMark, Machine, ScanningRule};
 use trac_events::{Before, argument, arguments_of, is_same, pointer_of};
 use trac_functions::function::function_named;
 use trac_language::Function;
@@ -121,8 +133,8 @@ impl Watch {
     /// Fails only if memory runs out.
     pub fn look(&mut self, machine: &Machine, input: &[u8]) -> Result<Before, AllocError>
         ensures seen { IfOk result (IsSeen machine.now false) }
-        ensures runs { self.new.runs.items ≡ self.old.runs.items }
-        ensures read { self.new.read ≡ self.old.read }
+        ensures looks { OnOk result (Looks self.old machine.now input.now self.new.warnings.items) }
+        ensures stays { KeepsPlaces self.old self.new }
     {
         self.warnings.clear();
         self.arguments.clear();
@@ -141,19 +153,48 @@ impl Watch {
         machine: &Machine,
         input: &[u8],
     ) -> Result<(), AllocError>
+        requires { before.now.active ≡ length machine.now.memory.active }
         ensures kept { Kept self.old.warnings.items self.new.warnings.items }
-        ensures runs { self.new.runs.items ≡ self.old.runs.items }
-        ensures read { self.new.read ≡ self.old.read }
+        ensures looks { OnOk result (LooksAtEnd self.old machine.now input.now
+            self.old.warnings.items self.new.warnings.items) }
+        ensures stays { KeepsPlaces self.old self.new }
     {
-        let here = self.origin();
-        if self.is_stray(before.active) {
-            warn(&mut self.warnings, self.alloc, Suspicion::NoCall, here, &[])?;
+        self.tell_stray(before.active)?;
+        match machine.call_mark(0) {
+            None => Ok(()),
+            Some(mark) => self.look_at_call(machine, mark.place, input),
         }
-        let Some(mark) = machine.call_mark(0) else {
+    }
+
+    // Warns of a right parenthesis that ends no call of its string.
+    fn tell_stray(&mut self, active: usize) -> Result<(), AllocError>
+        ensures kept { Kept self.old.warnings.items self.new.warnings.items }
+        ensures said { OnOk result (Warns self.old.warnings.items self.new.warnings.items
+            (stray_warnings self.old active)) }
+        ensures stays { KeepsRun self.old self.new }
+    {
+        if !self.is_stray(active) {
             return Ok(());
-        };
-        let arguments = arguments_of(machine.neutral(), mark);
-        let begin = self.calls.last().copied().unwrap_or(here);
+        }
+        let here = self.origin();
+        warn(&mut self.warnings, self.alloc, Suspicion::NoCall, here, &[])
+    }
+
+    // Looks at the innermost call, whose mark stands at this place of the neutral string.
+    fn look_at_call(
+        &mut self,
+        machine: &Machine,
+        mark: usize,
+        input: &[u8],
+    ) -> Result<(), AllocError>
+        ensures kept { Kept self.old.warnings.items self.new.warnings.items }
+        ensures looks { OnOk result (LooksAtMark mark self.old machine.now input.now
+            self.old.warnings.items self.new.warnings.items) }
+        ensures stays { KeepsPlaces self.old self.new }
+    {
+        let neutral = machine.neutral();
+        let arguments = arguments_of(neutral, mark);
+        let begin = self.begin();
         self.arguments.extend_from_slice(arguments)?;
         self.value = self.origin_of_form(machine, begin)?;
         let is_inside = self.is_inside(begin);
@@ -161,11 +202,18 @@ impl Watch {
             arguments,
             begin,
             places: places_of(&self.commas, arguments),
-            around: arguments_around(machine, mark),
+            around: arguments_around(neutral, machine.call_mark(1), mark),
             is_inside,
             input,
         };
         look_at_call(&mut self.warnings, self.alloc, machine, &ending)
+    }
+
+    // Where the innermost call was written; if it isn't known, where its right parenthesis was.
+    fn begin(&self) -> Origin
+        ensures { result ≡ begin_of self.now }
+    {
+        self.calls.last().copied().unwrap_or(self.origin())
     }
 
     /// Looks at a machine after a step. `input` has at least the bytes that the machine has read.
@@ -183,56 +231,75 @@ impl Watch {
             OnOk result (Moves before.now machine.now self.old self.new) }
         ensures read { machine.now.steps ≢ before.now.done → OnOk result (Reads before.now machine.now
             input.now self.old.read self.new.read) }
+        ensures tells { machine.now.steps ≢ before.now.done →
+            OnOk result (TellsAll before.now machine.now input.now self.old self.new) }
     {
         if machine.steps() == before.done {
             self.warnings.clear();
             return Ok(());
         }
         let here = self.origin();
-        let value = self.value_origin(before, machine);
-        self.tell_rule(before, machine)?;
-        self.move_on(before, machine, value)?;
-        self.tell_read(before, machine, input)?;
-        self.tell_ends(before, machine.active().len(), here)
+        let origin = self.value_origin(before, machine);
+        let active = machine.active();
+        self.tell_rule(before, active, machine.neutral().len())?;
+        self.move_on(before, machine, origin)?;
+        self.tell_read(before, before.value(machine), active.len(), input)?;
+        self.tell_ends(before.rule, active.len(), here)
     }
 
-    // Looks at what a step did, by its rule.
-    fn tell_rule(&mut self, before: &Before, machine: &Machine) -> Result<(), AllocError>
+    // Looks at what a step did, by its rule, and left in the strings.
+    fn tell_rule(
+        &mut self,
+        before: &Before,
+        active: &[Cell],
+        neutral: usize,
+    ) -> Result<(), AllocError>
         ensures kept { Kept self.old.warnings.items self.new.warnings.items }
+        ensures said { OnOk result (Warns self.old.warnings.items self.new.warnings.items
+            (rule_warnings before.now.rule self.old before.now (length active.now) neutral)) }
+        ensures calls { OnOk result (self.new.calls.items ≡ calls_behind before.now.rule self.old) }
+        ensures strings { OnOk result
+            (reverse self.new.strings.items ≡ strings_behind before.now.rule self.old) }
         ensures runs { self.new.runs.items ≡ self.old.runs.items }
         ensures read { self.new.read ≡ self.old.read }
-        ensures calls { begins_call before.now.rule ≡ true → OnOk result (self.new.calls.items ≡
-            self.old.calls.items ++ origin_at self.old.read
-            (first_origin (reverse self.old.runs.items)) ∷ []) }
     {
         let origin = self.origin();
         match before.rule {
-            ScanningRule::Idling => self.begin_again(),
-            ScanningRule::ActiveCall | ScanningRule::NeutralCall => self.calls.push(origin)?,
-            ScanningRule::Argument => self.commas.push(argument_origin(origin, machine.active()))?,
-            ScanningRule::Protection => self.tell_protection(before, origin)?,
-            ScanningRule::EndOfCall => self.tell_call(before, machine)?,
-            _ => {}
+            ScanningRule::Idling => {
+                self.begin_again();
+                Ok(())
+            }
+            ScanningRule::ActiveCall | ScanningRule::NeutralCall => Ok(self.calls.push(origin)?),
+            ScanningRule::Argument => Ok(self.commas.push(argument_origin(origin, active))?),
+            ScanningRule::Protection => self.tell_protection(before, origin),
+            ScanningRule::EndOfCall => self.tell_call(before, active.len(), neutral),
+            _ => Ok(()),
         }
-        Ok(())
     }
 
-    // Looks at what a step read.
+    // Looks at what a step read, whose value this is, and behind which so many cells are active.
     fn tell_read(
         &mut self,
         before: &Before,
-        machine: &Machine,
+        value: &[Cell],
+        active: usize,
         input: &[u8],
     ) -> Result<(), AllocError>
         ensures kept { Kept self.old.warnings.items self.new.warnings.items }
+        ensures said { OnOk result (Warns self.old.warnings.items self.new.warnings.items (read_warnings
+            before.now.awaits before.now input.now self.old.read (length value.now))) }
+        ensures strings { OnOk result (reverse self.new.strings.items ≡ strings_read before.now.awaits before.now
+            input.now self.old.read (length value.now) active (length self.old.calls.items)
+            (reverse self.old.strings.items)) }
+        ensures read { OnOk result (ReadsLen before.now.awaits before.now input.now (length value.now)
+            self.old.read self.new.read) }
         ensures runs { self.new.runs.items ≡ self.old.runs.items }
         ensures calls { self.new.calls.items ≡ self.old.calls.items }
-        ensures read { OnOk result (Reads before.now machine.now input.now self.old.read self.new.read) }
     {
         match before.awaits {
-            Awaits::Text => self.tell_string(before, machine, input),
+            Awaits::Text => self.tell_string(before, value.len(), active, input),
             Awaits::Byte => {
-                let end = self.read.saturating_add(before.value(machine).len());
+                let end = self.read.saturating_add(value.len());
                 self.read = end.min(input.len());
                 Ok(())
             }
@@ -254,6 +321,7 @@ impl Watch {
         ensures runs { self.new.runs.items ≡ self.old.runs.items }
         ensures read { self.new.read ≡ self.old.read }
         ensures calls { self.new.calls.items ≡ [] }
+        ensures strings { self.new.strings.items ≡ [] }
     {
         self.strings.clear();
         self.calls.clear();
@@ -261,7 +329,9 @@ impl Watch {
     }
 
     // Whether a right parenthesis of the string that is scanned ends no call of it.
-    fn is_stray(&self, active: usize) -> bool {
+    fn is_stray(&self, active: usize) -> bool
+        ensures { result ≡ is_stray self.now active }
+    {
         match self.strings.last() {
             Some(string) => active > string.rest && self.calls.len() <= string.depth,
             None => false,
@@ -269,15 +339,16 @@ impl Watch {
     }
 
     // Whether the innermost call, which was written here, stands in another call of the same text.
-    fn is_inside(&self, begin: Origin) -> bool {
+    fn is_inside(&self, begin: Origin) -> bool
+        ensures { result ≡ is_inside self.now begin }
+    {
         let depth = match self.strings.last() {
             Some(string) => string.depth,
             None => 0,
         };
-        match self.calls.as_slice() {
-            [.., outer, _] => self.calls.len() > depth.saturating_add(1)
-                && outer.form == begin.form,
-            _ => false,
+        match self.calls.get(self.calls.len().saturating_sub(2)) {
+            Some(outer) => self.calls.len() > depth.saturating_add(1) && outer.form == begin.form,
+            None => false,
         }
     }
 
@@ -335,9 +406,11 @@ impl Watch {
 
     // Warns of a left parenthesis that has no match, with the characters of its string that are dropped.
     fn tell_protection(&mut self, before: &Before, origin: Origin) -> Result<(), AllocError>
+        requires { origin ≡ place_of self.old }
         ensures kept { Kept self.old.warnings.items self.new.warnings.items }
-        ensures runs { self.new.runs.items ≡ self.old.runs.items }
-        ensures read { self.new.read ≡ self.old.read }
+        ensures said { OnOk result (Warns self.old.warnings.items self.new.warnings.items
+            (drop_warnings self.old before.now)) }
+        ensures stays { KeepsRun self.old self.new }
     {
         if before.drops == 0 {
             return Ok(());
@@ -355,54 +428,111 @@ impl Watch {
         Ok(())
     }
 
-    // Looks at a call that was performed.
-    fn tell_call(&mut self, before: &Before, machine: &Machine) -> Result<(), AllocError>
+    // Looks at a call that was performed, behind which the strings have so many cells.
+    fn tell_call(
+        &mut self,
+        before: &Before,
+        active: usize,
+        neutral: usize,
+    ) -> Result<(), AllocError>
         ensures kept { Kept self.old.warnings.items self.new.warnings.items }
+        ensures said { OnOk result (Warns self.old.warnings.items self.new.warnings.items
+            (result_warnings self.old before.now active neutral)) }
+        ensures calls { OnOk result (self.new.calls.items ≡ without_last self.old.calls.items) }
+        ensures strings { OnOk result (reverse self.new.strings.items ≡
+            lowered (length (without_last self.old.calls.items)) (reverse self.old.strings.items)) }
         ensures runs { self.new.runs.items ≡ self.old.runs.items }
         ensures read { self.new.read ≡ self.old.read }
     {
-        match function_named(argument(&self.arguments, 0)) {
-            Some(Function::DefineString) => self.define()?,
-            Some(Function::Arithmetic(_)) if self.is_null(before, machine) => {
-                let begin = self.calls.last().copied().unwrap_or(self.value);
-                let name = argument(&self.arguments, 0);
-                warn(
-                    &mut self.warnings,
-                    self.alloc,
-                    Suspicion::NoResult,
-                    begin,
-                    name,
-                )?;
-            }
-            _ => {}
+        self.tell_result(before, active, neutral)?;
+        self.keep_form()?;
+        self.close_call()
+    }
+
+    // Warns of a call of arithmetic that has no result.
+    fn tell_result(
+        &mut self,
+        before: &Before,
+        active: usize,
+        neutral: usize,
+    ) -> Result<(), AllocError>
+        ensures kept { Kept self.old.warnings.items self.new.warnings.items }
+        ensures said { OnOk result (Warns self.old.warnings.items self.new.warnings.items
+            (result_warnings self.old before.now active neutral)) }
+        ensures stays { KeepsRun self.old self.new }
+    {
+        if !self.has_no_result(before, active, neutral) {
+            return Ok(());
         }
-        let left = self.commas.len().saturating_sub(commas_in(&self.arguments));
+        let begin = self.calls.last().copied().unwrap_or(self.value);
+        let name = argument(&self.arguments, 0);
+        warn(
+            &mut self.warnings,
+            self.alloc,
+            Suspicion::NoResult,
+            begin,
+            name,
+        )
+    }
+
+    // Whether a call of arithmetic has no result: it gives no default value, and its value is null.
+    fn has_no_result(&self, before: &Before, active: usize, neutral: usize) -> bool
+        ensures { result ≡ (is_arithmetic (function_of self.now.arguments.items)
+            && is_null self.now before.now active neutral) }
+    {
+        is_arithmetic(argument(&self.arguments, 0)) && self.is_null(before, active, neutral)
+    }
+
+    // Keeps which form a call defined, if it defined one.
+    fn keep_form(&mut self) -> Result<(), AllocError>
+        ensures stays { KeepsNames self.old self.new }
+    {
+        match function_named(argument(&self.arguments, 0)) {
+            Some(Function::DefineString) => self.define(),
+            _ => Ok(()),
+        }
+    }
+
+    // Forgets the innermost call. A string that was read in it then belongs to the call around it.
+    fn close_call(&mut self) -> Result<(), AllocError>
+        ensures calls { OnOk result (self.new.calls.items ≡ without_last self.old.calls.items) }
+        ensures strings { OnOk result (reverse self.new.strings.items ≡
+            lowered (length (without_last self.old.calls.items)) (reverse self.old.strings.items)) }
+        ensures warnings { self.new.warnings.items ≡ self.old.warnings.items }
+        ensures runs { self.new.runs.items ≡ self.old.runs.items }
+        ensures read { self.new.read ≡ self.old.read }
+    {
+        let left = self
+            .commas
+            .len()
+            .saturating_sub(commas_in(&self.arguments) as usize);
         self.commas.truncate(left);
-        self.calls.pop();
+        self.calls.truncate(self.calls.len().saturating_sub(1));
         let depth = self.calls.len();
-        if let Some(string) = self.strings.last_mut() {
-            string.depth = string.depth.min(depth);
+        if let Some(string) = self.strings.pop() {
+            self.strings.push(OpenString {
+                depth: string.depth.min(depth),
+                ..string
+            })?;
         }
         Ok(())
     }
 
-    // Whether the call that was performed gives no default value and has a null value.
-    fn is_null(&self, before: &Before, machine: &Machine) -> bool {
+    // Whether the call that was performed gives no default value and has a null value: the strings have so
+    // many cells behind it.
+    fn is_null(&self, before: &Before, active: usize, neutral: usize) -> bool
+        ensures { result ≡ is_null self.now before.now active neutral }
+    {
         let mark = self
             .neutral
             .saturating_sub(self.arguments.len())
             .saturating_sub(1);
-        argument(&self.arguments, 3).is_empty()
-            && machine.active().len() < before.active
-            && machine.neutral().len() <= mark
+        argument(&self.arguments, 3).is_empty() && active < before.active && neutral <= mark
     }
 
     // Keeps where the body of the form was written that was defined.
     fn define(&mut self) -> Result<(), AllocError>
-        ensures warnings { self.new.warnings.items ≡ self.old.warnings.items }
-        ensures runs { self.new.runs.items ≡ self.old.runs.items }
-        ensures read { self.new.read ≡ self.old.read }
-        ensures calls { self.new.calls.items ≡ self.old.calls.items }
+        ensures { KeepsNames self.old self.new }
     {
         let name = characters_of(self.alloc, argument(&self.arguments, 1))?;
         let body = places_of(&self.commas, &self.arguments)
@@ -433,6 +563,8 @@ impl Watch {
             before.now.active (length machine.now.memory.active) value
             (reverse self.old.runs.items)) }
         ensures read { self.new.read ≡ self.old.read }
+        ensures calls { self.new.calls.items ≡ self.old.calls.items }
+        ensures strings { self.new.strings.items ≡ self.old.strings.items }
     {
         let active = machine.active();
         match before.rule {
@@ -449,137 +581,268 @@ impl Watch {
         }
     }
 
-    // Looks at a string that was read.
+    // Looks at a string that was read, with so many characters, and behind which so many cells are active.
     fn tell_string(
         &mut self,
         before: &Before,
-        machine: &Machine,
+        len: usize,
+        active: usize,
         input: &[u8],
     ) -> Result<(), AllocError>
         ensures kept { Kept self.old.warnings.items self.new.warnings.items }
+        ensures said { let start = min self.old.read (length input.now) in
+            let end = end_of_text input.now self.old.read len in
+            OnOk result (Warns self.old.warnings.items self.new.warnings.items
+            (text_warnings input.now start end before.now.meta)) }
+        ensures strings { let end = end_of_text input.now self.old.read len in
+            OnOk result (reverse self.new.strings.items ≡ with_string before.now input.now end active
+            (length self.old.calls.items) (reverse self.old.strings.items)) }
+        ensures read { let end = end_of_text input.now self.old.read len in
+            OnOk result (EndsText input.now end before.now.meta self.new.read) }
         ensures runs { self.new.runs.items ≡ self.old.runs.items }
         ensures calls { self.new.calls.items ≡ self.old.calls.items }
-        ensures read { OnOk result (ReadsText before.now machine.now input.now self.old.read
-            self.new.read) }
     {
         let start = self.read.min(input.len());
-        let end = start
-            .saturating_add(before.value(machine).len())
-            .min(input.len());
+        let end = start.saturating_add(len).min(input.len());
+        self.tell_text(start, end, before.meta, input)?;
+        self.read = behind_text(end, before.meta, input);
+        self.open_string(before, end, active, input)
+    }
+
+    // Warns of a string that stands between two places of the input, unless a meta character ends it.
+    fn tell_text(
+        &mut self,
+        start: usize,
+        end: usize,
+        meta: u8,
+        input: &[u8],
+    ) -> Result<(), AllocError>
+        requires { (start ≤ end) × (end ≤ length input.now) }
+        ensures kept { Kept self.old.warnings.items self.new.warnings.items }
+        ensures said { OnOk result (Warns self.old.warnings.items self.new.warnings.items
+            (text_warnings input.now start end meta)) }
+        ensures stays { KeepsRun self.old self.new }
+    {
         let begin = start.saturating_add(layout_len(&input[start..end]));
-        let is_ended = input.get(end).copied() == Some(before.meta);
-        if !is_ended && begin < end {
-            let origin = Origin::in_input(begin);
-            warn(
-                &mut self.warnings,
-                self.alloc,
-                Suspicion::OpenString,
-                origin,
-                &[],
-            )?;
+        if is_ended_at(end, meta, input) || begin >= end {
+            return Ok(());
         }
-        self.read = if is_ended { end.saturating_add(1) } else { end };
+        let origin = Origin::in_input(begin);
+        warn(
+            &mut self.warnings,
+            self.alloc,
+            Suspicion::OpenString,
+            origin,
+            &[],
+        )
+    }
+
+    // Keeps a string that was read up to a place of the input, unless nothing of it is active.
+    fn open_string(
+        &mut self,
+        before: &Before,
+        end: usize,
+        active: usize,
+        input: &[u8],
+    ) -> Result<(), AllocError>
+        ensures strings { OnOk result (reverse self.new.strings.items ≡ with_string before.now input.now end active
+            (length self.old.calls.items) (reverse self.old.strings.items)) }
+        ensures stays { self.new ≡ record self.old { strings = self.new.strings } }
+    {
         let rest = before.active.saturating_sub(1);
-        if machine.active().len() > rest {
-            let depth = self.calls.len();
-            self.strings.push(OpenString {
-                end,
-                is_ended,
-                rest,
-                depth,
-            })?;
+        if active <= rest {
+            return Ok(());
         }
+        let is_ended = is_ended_at(end, before.meta, input);
+        let depth = self.calls.len();
+        self.strings.push(OpenString {
+            end,
+            is_ended,
+            rest,
+            depth,
+        })?;
         Ok(())
     }
 
-    // Looks at the strings that ended with a step. The step left `active` cells in the active
+    // Looks at the strings that ended with a step by this rule. The step left `active` cells in the active
     // string, and the first of them was written `here`.
-    fn tell_ends(&mut self, before: &Before, active: usize, here: Origin) -> Result<(), AllocError>
+    fn tell_ends(
+        &mut self,
+        rule: ScanningRule,
+        active: usize,
+        here: Origin,
+    ) -> Result<(), AllocError>
         ensures kept { Kept self.old.warnings.items self.new.warnings.items }
+        ensures said { OnOk result (map said self.new.warnings.items ≡ ended rule active here
+            self.old.calls.items (map said self.old.warnings.items) (reverse self.old.strings.items)) }
+        ensures strings { OnOk result
+            (reverse self.new.strings.items ≡ not_ended active (reverse self.old.strings.items)) }
         ensures runs { self.new.runs.items ≡ self.old.runs.items }
         ensures read { self.new.read ≡ self.old.read }
         ensures calls { self.new.calls.items ≡ self.old.calls.items }
     {
         for _ in 0..self.strings.len() {
-            let Some(string) = self.strings.last().copied() else {
+            let Some(string) = self.strings.pop() else {
                 return Ok(());
             };
             if active > string.rest {
+                self.strings.push(string)?;
                 return Ok(());
             }
-            self.strings.pop();
-            let is_unmatched = active < string.rest
-                && matches!(before.rule, ScanningRule::Protection);
-            if is_unmatched && !self.is_dropped() {
-                warn(
-                    &mut self.warnings,
-                    self.alloc,
-                    Suspicion::Protection,
-                    here,
-                    &[],
-                )?;
-            } else if !is_unmatched {
-                self.tell_open_calls(string.depth)?;
-            }
-            if string.is_ended && (is_unmatched || self.calls.len() > string.depth) {
-                let origin = Origin::in_input(string.end);
-                warn(
-                    &mut self.warnings,
-                    self.alloc,
-                    Suspicion::EndInside,
-                    origin,
-                    &[],
-                )?;
-            }
+            self.tell_end(string, is_unmatched(rule, active, string.rest), here)?;
         }
         Ok(())
+    }
+
+    // Looks at the end of a string, which is `here`, and in which a left parenthesis may have no match.
+    fn tell_end(
+        &mut self,
+        string: OpenString,
+        is_unmatched: bool,
+        here: Origin,
+    ) -> Result<(), AllocError>
+        ensures kept { Kept self.old.warnings.items self.new.warnings.items }
+        ensures said { OnOk result (Warns self.old.warnings.items self.new.warnings.items (end_warnings
+            is_unmatched (is_dropped_last (map said self.old.warnings.items)) here
+            self.old.calls.items string)) }
+        ensures stays { KeepsRun self.old self.new }
+    {
+        self.tell_left_open(string.depth, is_unmatched, here)?;
+        if !string.is_ended || !is_unmatched && self.calls.len() <= string.depth {
+            return Ok(());
+        }
+        let origin = Origin::in_input(string.end);
+        warn(
+            &mut self.warnings,
+            self.alloc,
+            Suspicion::EndInside,
+            origin,
+            &[],
+        )
+    }
+
+    // Warns of a left parenthesis that has no match, unless it is told already, or of the open calls beyond
+    // the outermost `depth`.
+    fn tell_left_open(
+        &mut self,
+        depth: usize,
+        is_unmatched: bool,
+        here: Origin,
+    ) -> Result<(), AllocError>
+        ensures kept { Kept self.old.warnings.items self.new.warnings.items }
+        ensures said { OnOk result (Warns self.old.warnings.items self.new.warnings.items (left_open
+            is_unmatched (is_dropped_last (map said self.old.warnings.items)) here
+            (drop depth self.old.calls.items))) }
+        ensures stays { KeepsRun self.old self.new }
+    {
+        if !is_unmatched {
+            let open = calls_beyond(&self.calls, depth);
+            return tell_open_calls(&mut self.warnings, self.alloc, open);
+        }
+        if self.is_dropped() {
+            return Ok(());
+        }
+        warn(
+            &mut self.warnings,
+            self.alloc,
+            Suspicion::Protection,
+            here,
+            &[],
+        )
     }
 
     // Whether the last warning says that the rest of a string was dropped.
-    fn is_dropped(&self) -> bool {
-        match self.warnings.as_slice() {
-            [.., warning] => warning.suspicion == Suspicion::Dropped,
-            [] => false,
-        }
-    }
-
-    // Warns of the open calls beyond the outermost `depth`.
-    fn tell_open_calls(&mut self, depth: usize) -> Result<(), AllocError>
-        ensures kept { Kept self.old.warnings.items self.new.warnings.items }
-        ensures runs { self.new.runs.items ≡ self.old.runs.items }
-        ensures read { self.new.read ≡ self.old.read }
-        ensures calls { self.new.calls.items ≡ self.old.calls.items }
+    fn is_dropped(&self) -> bool
+        ensures { result ≡ is_dropped_last (map said self.now.warnings.items) }
     {
-        for k in depth..self.calls.len() {
-            if let Some(begin) = self.calls.get(k).copied() {
-                warn(
-                    &mut self.warnings,
-                    self.alloc,
-                    Suspicion::OpenCall,
-                    begin,
-                    &[],
-                )?;
-            }
+        match self.warnings.last() {
+            Some(warning) => matches!(warning.suspicion, Suspicion::Dropped),
+            None => false,
         }
-        Ok(())
     }
 }
 
-// The arguments so far of the call around the innermost one, whose mark stands at this place; null if no
-// call is open around it.
-fn arguments_around<'m>(machine: &'m Machine, mark: usize) -> &'m [Cell] {
-    let neutral = machine.neutral();
-    match machine.call_mark(1) {
-        Some(outer) => arguments_of(&neutral[..mark.min(neutral.len())], outer),
+// Warns of calls that are still open.
+#[tactic(auto, using(crate::proofs::Keeping::keeping))]
+fn tell_open_calls(
+    warnings: &mut Vec<Warning>,
+    alloc: Global,
+    calls: &[Origin],
+) -> Result<(), AllocError>
+    ensures kept { Kept warnings.old.items warnings.new.items }
+    ensures said { OnOk result (Warns warnings.old.items warnings.new.items (open_warnings calls.now)) }
+{
+    for call in calls {
+        warn(warnings, alloc, Suspicion::OpenCall, *call, &[])?;
+    }
+    Ok(())
+}
+
+// The open calls beyond the outermost `depth`.
+fn calls_beyond(calls: &[Origin], depth: usize) -> &[Origin]
+    ensures { result.now ≡ drop depth calls.now }
+{
+    if depth < calls.len() {
+        &calls[depth..]
+    } else {
+        &[]
+    }
+}
+
+// Whether a name is that of a function of arithmetic.
+fn is_arithmetic(name: &[Cell]) -> bool
+    ensures { result ≡ is_arithmetic (function_named (text_of_cells name.now)) }
+{
+    match function_named(name) {
+        Some(Function::Arithmetic(_)) => true,
+        _ => false,
+    }
+}
+
+// Whether a left parenthesis has no match in a string that ends in front of `rest` cells: the step by this
+// rule took more than the string.
+fn is_unmatched(rule: ScanningRule, active: usize, rest: usize) -> bool
+    ensures { result ≡ (nat_lt active rest && is_protection rule) }
+{
+    active < rest && matches!(rule, ScanningRule::Protection)
+}
+
+// Whether a string ends at a place of the input by a meta character.
+fn is_ended_at(end: usize, meta: u8, input: &[u8]) -> bool
+    ensures { result ≡ is_ended_at input.now end meta }
+{
+    input.get(end).copied() == Some(meta)
+}
+
+// Where the input is read behind a string that ends at a place: behind a meta character that stands there.
+fn behind_text(end: usize, meta: u8, input: &[u8]) -> usize
+    ensures { EndsText input.now end meta result }
+{
+    if input.get(end).copied() == Some(meta) {
+        end.saturating_add(1)
+    } else {
+        end
+    }
+}
+
+// The arguments so far of the call around the innermost one, by the places of their marks in the neutral
+// string; null if no call is open around it.
+fn arguments_around(neutral: &[Cell], outer: Option<CallMark>, mark: usize) -> &[Cell]
+    ensures { result.now ≡ around_of outer neutral.now mark }
+{
+    match outer {
+        Some(outer) => arguments_of(&neutral[..mark.min(neutral.len())], outer.place),
         None => &[],
     }
 }
 
 // Where each argument behind the name was written, of the innermost call, which has these
 // arguments. `commas` has the places of the arguments of all open calls.
-fn places_of<'c>(commas: &'c [Origin], arguments: &[Cell]) -> &'c [Origin] {
-    let first = commas.len().saturating_sub(commas_in(arguments));
-    commas.get(first..).unwrap_or(&[])
+fn places_of<'c>(commas: &'c [Origin], arguments: &[Cell]) -> &'c [Origin]
+    ensures { result.now ≡ places_of commas.now arguments.now }
+{
+    let first = commas.len().saturating_sub(commas_in(arguments) as usize);
+    &commas[first..]
 }
 
 // Where an argument was written, by the comma before it and what stands behind that: what is protected
@@ -603,15 +866,4 @@ fn gives_body(name: &[Cell]) -> bool {
                 | Function::InitialPart
         )
     )
-}
-
-// How many comma marks there are.
-fn commas_in(cells: &[Cell]) -> usize {
-    let mut count: usize = 0;
-    for cell in cells {
-        if matches!(cell, Cell::Comma) {
-            count = count.saturating_add(1);
-        }
-    }
-    count
 }

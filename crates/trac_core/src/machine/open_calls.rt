@@ -19,6 +19,15 @@ pub struct OpenCall {
     pub depth: usize,
 }
 
+/// The mark of an open call.
+#[derive(Clone, Copy, Debug, PartialEq, Eq)]
+pub struct CallMark {
+    /// The mode of the call.
+    pub mode: Mode,
+    /// The place of the mark in the neutral string, in cells from 0.
+    pub place: usize,
+}
+
 impl<'a> Machine<'a> {
     /// The innermost open call: the one that the next right parenthesis performs. None if no call is open.
     /// Looks at the mark of each open call and at no text. This processor's own choice.
@@ -28,10 +37,10 @@ impl<'a> Machine<'a> {
         innermost_of(&self.work)
     }
 
-    /// The place of the mark of an open call in the neutral string, in cells from 0. The innermost call has
-    /// the number 0, the one around it the number 1, and so on. None if no open call has the number. Looks
-    /// at the marks of the calls up to this one and at no text. This processor's own choice.
-    pub fn call_mark(&self, number: u32) -> Option<usize>
+    /// The mark of an open call. The innermost call has the number 0, the one around it the number 1, and so
+    /// on. None if no open call has the number. Looks at the marks of the calls up to this one and at no text.
+    /// This processor's own choice.
+    pub fn call_mark(&self, number: u32) -> Option<CallMark>
         ensures { result ≡ mark_of number (neutral_in self.now.memory) }
     {
         mark_of(&self.work, number)
@@ -52,8 +61,8 @@ fn innermost_of(work: &Work) -> Option<OpenCall>
     })
 }
 
-/// The place of the mark of the open call with this number, the innermost being 0.
-fn mark_of(work: &Work, number: u32) -> Option<usize>
+/// The mark of the open call with this number, the innermost being 0.
+fn mark_of(work: &Work, number: u32) -> Option<CallMark>
     ensures { result ≡ mark_of number (neutral_of work.now.neutral) }
 {
     let Some(mut place) = work.last_call() else {
@@ -65,7 +74,10 @@ fn mark_of(work: &Work, number: u32) -> Option<usize>
         };
         place = around;
     }
-    Some(place as usize)
+    Some(CallMark {
+        mode: mode_at(work, place),
+        place: place as usize,
+    })
 }
 
 /// The mode of the call whose mark stands at a place.

@@ -17,6 +17,7 @@ use crate::display::display_len;
 use crate::scan::InnermostCall;
 use trac_forms::Work;
 use trac_language::Function;
+use trac_space::Part;
 
 impl<'a> Machine<'a> {
     /// How many bytes the next step prints: by `ps` or `pf`, whatever the input. 0 where it prints
@@ -151,7 +152,7 @@ fn call_len(work: &mut Work, call: InnermostCall) -> u32
     match function {
         None => 0,
         Some(function) => match function {
-            Function::PrintString => part.1 - part.0,
+            Function::PrintString => part.to - part.from,
             Function::PrintForm => named_len(work, part),
             _ => 0,
         },
@@ -160,13 +161,13 @@ fn call_len(work: &mut Work, call: InnermostCall) -> u32
 
 /// How many bytes the display of the form has whose name is a part of the neutral string, 0 where
 /// no form has that name.
-fn named_len(work: &mut Work, name: (u32, u32)) -> u32
-    requires part { IsTextPart work.old.neutral name.0 name.1 }
+fn named_len(work: &mut Work, name: Part) -> u32
+    requires part { IsTextPart work.old.neutral name.from name.to }
     requires sound { IsSound work.old }
     ensures length { result ≡ length (display_named work.old name) }
     ensures same { work.new ≡ work.old }
 {
-    match work.find(name.0, name.1) {
+    match work.find(name.from, name.to) {
         Some(form) => display_len(&work.stored(form)),
         None => 0,
     }

@@ -1,5 +1,5 @@
 //! What a caller who drives a machine step by step may look at.
-ghost use Rattle.std.specs.Prelude.{◌≡◌, ◌≤◌, ◌↔◌, All, IsTrue, length, slice_get, Some};
+ghost use Rattle.std.specs.Prelude.{◌≡◌, ◌≤◌, All, length};
 ghost use Rattle.trac_language.specs.State.{size};
 ghost use Rattle.trac_language.specs.Rule.{rule};
 ghost use Rattle.trac_space.specs.Texts.{IsByte, text_of_cells};
@@ -9,35 +9,10 @@ ghost use Rattle.trac_core.specs.View.{steps_before_call};
 ghost use Rattle.trac_forms.specs.Contents.{IsSound};
 
 use super::Machine;
+use crate::rules::{ScanningRule, is_in, rule_of};
 use crate::runs::matching;
-use crate::scan::is_at;
+use crate::scan::{characters, is_at};
 use trac_forms::{Cell, Work};
-use trac_space::character_of;
-
-/// The rows of the table of scanning rules: what a step does is
-/// told by the beginning of the active string (Mooers 1966).
-#[derive(Clone, Copy, Debug, PartialEq, Eq)]
-pub enum ScanningRule {
-    /// The active string is empty: the idling procedure is loaded.
-    Idling,
-    /// A tab, a line feed or a carriage return is deleted.
-    Layout,
-    /// A left parenthesis: the text up to its match is taken
-    /// over; without a match the active string becomes empty.
-    Protection,
-    /// A comma: an argument begins.
-    Argument,
-    /// A number sign and a left parenthesis open an active call.
-    ActiveCall,
-    /// Two number signs and a left parenthesis open a neutral call.
-    NeutralCall,
-    /// A number sign that opens no call is added.
-    NumberSign,
-    /// A right parenthesis: the innermost call is performed.
-    EndOfCall,
-    /// Any other character is added.
-    Character,
-}
 
 impl<'a> Machine<'a> {
     /// The cells of the block.
@@ -74,7 +49,7 @@ impl<'a> Machine<'a> {
     pub fn next_rule(&self) -> ScanningRule
         ensures { result ≡ row_of (rule self.now.memory.active) }
     {
-        rule_of(self.active())
+        rule_of(characters(&self.work))
     }
 
     /// How many characters the next step takes from the front of the active string: those that open a
@@ -130,65 +105,6 @@ fn dropped_from(work: &Work) -> u32
     match matching(work.active_part(1, work.active_len())) {
         Some(_) => 0,
         None => work.active_len(),
-    }
-}
-
-/// The cells of the active string.
-fn characters<'w>(work: &'w Work) -> &'w [Cell]
-    requires sound { IsSound work.now }
-    ensures text { text_of_cells result.now ≡ text_of_cells work.now.active }
-    ensures few { length result.now ≤ 16777216 }
-    ensures bytes { All IsByte result.now }
-{
-    work.active_part(0, work.active_len())
-}
-
-/// Whether a character stands at a place of an active string.
-fn is_in(active: &[Cell], place: usize, byte: u8) -> bool
-    ensures { IsTrue result ↔ (slice_get (text_of_cells active.now) place ≡ Some byte) }
-{
-    match active.get(place) {
-        Some(cell) => character_of(cell) == byte,
-        None => false,
-    }
-}
-
-/// The rule that fits the beginning of an active string.
-fn rule_of(active: &[Cell]) -> ScanningRule
-    ensures { result ≡ row_of (rule (text_of_cells active.now)) }
-{
-    match active.first() {
-        None => ScanningRule::Idling,
-        Some(first) => rule_at(active, character_of(first)),
-    }
-}
-
-/// The rule that fits an active string that begins with this character.
-fn rule_at(active: &[Cell], first: u8) -> ScanningRule
-    requires { slice_get (text_of_cells active.now) 0 ≡ Some first }
-    ensures { result ≡ row_of (rule (text_of_cells active.now)) }
-{
-    match first {
-        b'\t' | b'\n' | b'\r' => ScanningRule::Layout,
-        b'(' => ScanningRule::Protection,
-        b')' => ScanningRule::EndOfCall,
-        b',' => ScanningRule::Argument,
-        b'#' => number_sign_rule(active),
-        _ => ScanningRule::Character,
-    }
-}
-
-/// The rule where a number sign stands first.
-fn number_sign_rule(active: &[Cell]) -> ScanningRule
-    requires { slice_get (text_of_cells active.now) 0 ≡ Some 35 }
-    ensures { result ≡ row_of (rule (text_of_cells active.now)) }
-{
-    if is_in(active, 1, b'(') {
-        ScanningRule::ActiveCall
-    } else if is_in(active, 1, b'#') && is_in(active, 2, b'(') {
-        ScanningRule::NeutralCall
-    } else {
-        ScanningRule::NumberSign
     }
 }
 

@@ -16,7 +16,7 @@ returns-in-Some-clause-some g c =
 pub returns-in-None-clause-prints : goal.returns-in-None-clause-prints
 returns-in-None-clause-prints g c = λ told.
     let written = g.O.Sink.written c.args.sink.now in
-    sym (ap (λ o. written ++ display o) (form_named-none (part_text c.args.work.now.neutral c.args.name.0 c.args.name.1) c.args.work.now.forms c.in-None.ensures.found) ∙ append-nil written)
+    sym (ap (λ o. written ++ display o) (form_named-none (part_text c.args.work.now.neutral c.args.name.from c.args.name.to) c.args.work.now.forms c.in-None.ensures.found) ∙ append-nil written)
 
 pub returns-in-Some-clause-untouched : goal.returns-in-Some-clause-untouched
 returns-in-Some-clause-untouched g c = λ none.
@@ -24,4 +24,4 @@ returns-in-Some-clause-untouched g c = λ none.
 
 pub returns-in-None-clause-flushed : goal.returns-in-None-clause-flushed
 returns-in-None-clause-flushed g c = λ some.
-    absurd (some (ap display (form_named-none (part_text c.args.work.now.neutral c.args.name.0 c.args.name.1) c.args.work.now.forms c.in-None.ensures.found)))
+    absurd (some (ap display (form_named-none (part_text c.args.work.now.neutral c.args.name.from c.args.name.to) c.args.work.now.forms c.in-None.ensures.found)))

@@ -10,5 +10,5 @@ returns-clause-is_text c =
     let e = c.neutral_part.ensures in
     let sound = c.used.ensures.sound in (
       bytes-seen c.neutral_part.result.now (subst (All IsByte) (sym e) c.requires.bytes),
-      within-room c.args.work.now c.args.part.0 c.args.part.1 c.neutral_part.result.now sound c.requires e,
+      within-room c.args.work.now c.args.part.from c.args.part.to c.neutral_part.result.now sound c.requires e,
     )

@@ -30,7 +30,7 @@ returns-in-Some-clause-makes c = λ name.
     let first = c.next-first.result in
     let left = c.text.ensures.text ∙ c.next-first.ensures.text in
     let right = c.text-2.ensures.text ∙ c.next-second.ensures.text ∙ c.next-first.ensures.later 0 in
-    let before : part_text w.neutral first.0 (first.0 + c.tail_number-left.result.start) ≡ prefix (argument ts 0) =
+    let before : part_text w.neutral first.from (first.from + c.tail_number-left.result.start) ≡ prefix (argument ts 0) =
     front-text _ _ _ _ c.next-first.ensures.part prefix prefix-front _ c.text.ensures.text c.tail_number-left.ensures.start ∙ ap prefix c.next-first.ensures.text in
     let result : Some c.in-Some.number ≡ result_of_arith operation (number (argument ts 0)) (number (argument ts 1)) =
     c.in-Some.ensures (number (argument ts 0)) (number (argument ts 1))
@@ -41,7 +41,7 @@ returns-in-Some-clause-makes c = λ name.
     (valued-of (Arithmetic operation) (name ∷ ts) w.forms w.forms _ false
     (λ meta input. ap (λ r. result_or r (prefix (argument ts 0)) (argument ts 2) (world w.forms meta input)) (sym result)
     ∙ ap (λ p. result_or (Some c.in-Some.number) p (argument ts 2) (world w.forms meta input)) (sym before)
-    ∙ ap (λ n. valued (part_text w.neutral first.0 (first.0 + c.tail_number-left.result.start) ++ signed_decimal n) (world w.forms meta input)) (sym kept))
+    ∙ ap (λ n. valued (part_text w.neutral first.from (first.from + c.tail_number-left.result.start) ++ signed_decimal n) (world w.forms meta input)) (sym kept))
     (λ _. refl))
 
 pub returns-in-None-clause-makes : goal.returns-in-None-clause-makes

@@ -23,7 +23,7 @@ give_digits-requires-clause-short c =
 pub returns-clause-makes : goal.returns-clause-makes
 returns-clause-makes c = λ function args valued.
     let w = c.args.work.now in
-    let before = part_text w.neutral c.args.prefix.0 c.args.prefix.1 in
+    let before = part_text w.neutral c.args.prefix.from c.args.prefix.to in
     let n = unsigned_abs c.args.number in
     let same = to_z-of_z w128 c.args.number c.ranges.number in
     let size = c.unsigned_abs.ensures.value ∙ ap unsigned_abs same in

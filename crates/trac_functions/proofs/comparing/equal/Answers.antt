@@ -16,7 +16,7 @@ returns-clause-makes c = λ name.
     let b = text_of_cells c.text-2.result.now in
     let test = same-test c.equal.result a b c.equal.ensures
     ∙ ap (λ t. bytes_eq t b) (c.text.ensures.text ∙ first) ∙ ap (λ t. bytes_eq (argument ts 0) t) (c.text-2.ensures.text ∙ second) in
-    let value = chosen c.equal.result (bytes_eq (argument ts 0) (argument ts 1)) (argument ts 2) (argument ts 3) (part_text w.neutral c.if-equal.value.0 c.if-equal.value.1) test
+    let value = chosen c.equal.result (bytes_eq (argument ts 0) (argument ts 1)) (argument ts 2) (argument ts 3) (part_text w.neutral c.if-equal.value.from c.if-equal.value.to) test
     (λ is. elim c.if-equal.branch [ then-equal w ↦ rw w.value-is third | else-equal w ↦ absurd cc ])
     (λ is. elim c.if-equal.branch [ then-equal w ↦ absurd cc | else-equal w ↦ rw w.value-is fourth ]) in
     c.give.ensures.makes Equal (name ∷ ts) false c.args.arguments.scanned refl

@@ -16,7 +16,7 @@ returns-clause-makes c = λ name.
     let b = text_of_cells c.text-2.result.now in
     let test = same-order c.greater.result (number b) (number a) c.greater.ensures
     ∙ ap (λ t. int_lt (number b) (number t)) (c.text.ensures.text ∙ first) ∙ ap (λ t. int_lt (number t) (number (argument ts 0))) (c.text-2.ensures.text ∙ second) in
-    let value = chosen c.greater.result (int_lt (number (argument ts 1)) (number (argument ts 0))) (argument ts 2) (argument ts 3) (part_text w.neutral c.if-greater.value.0 c.if-greater.value.1) test
+    let value = chosen c.greater.result (int_lt (number (argument ts 1)) (number (argument ts 0))) (argument ts 2) (argument ts 3) (part_text w.neutral c.if-greater.value.from c.if-greater.value.to) test
     (λ is. elim c.if-greater.branch [ then-greater w ↦ rw w.value-is third | else-greater w ↦ absurd cc ])
     (λ is. elim c.if-greater.branch [ then-greater w ↦ absurd cc | else-greater w ↦ rw w.value-is fourth ]) in
     c.give.ensures.makes Greater (name ∷ ts) false c.args.arguments.scanned refl

@@ -9,12 +9,12 @@ returns-in-Ok-clause-makes c = λ name.
     let ts = texts old c.args.arguments in
     let first = c.next-name.ensures.text in
     let second = c.next-text.ensures.text ∙ c.next-name.ensures.later 0 in
-    let n = part-long old.neutral c.next-name.result.0 c.next-name.result.1 c.next-name.ensures.part in
-    let m = part-long old.neutral c.next-text.result.0 c.next-text.result.1 c.next-text.ensures.part in
-    let named = part_text old.neutral c.next-name.result.0 c.next-name.result.1 in
-    let body = part_text old.neutral c.next-text.result.0 c.next-text.result.1 in
+    let n = part-long old.neutral c.next-name.result.from c.next-name.result.to c.next-name.ensures.part in
+    let m = part-long old.neutral c.next-text.result.from c.next-text.result.to c.next-text.ensures.part in
+    let named = part_text old.neutral c.next-name.result.from c.next-name.result.to in
+    let body = part_text old.neutral c.next-text.result.from c.next-text.result.to in
     let same : defined (argument ts 0) (argument ts 1) old.forms ≡ defined named body old.forms = rw (first, second) refl in
-    let cells : 3 + length (argument ts 0) + length (argument ts 1) ≡ 3 + (c.next-name.result.1 - c.next-name.result.0) + (c.next-text.result.1 - c.next-text.result.0) =
+    let cells : 3 + length (argument ts 0) + length (argument ts 1) ≡ 3 + (c.next-name.result.to - c.next-name.result.from) + (c.next-text.result.to - c.next-text.result.from) =
     omega (arith, n, m, ap length first, ap length second) in
     rw c.in-Ok.ensures.ok
     (record {

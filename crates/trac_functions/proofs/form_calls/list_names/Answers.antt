@@ -27,7 +27,7 @@ module _ (old was now : Contents) (same : now ≡ was) (a b k i : ℕ) (put : Ha
 
 pub put_name-requires-clause-part : goal.put_name-requires-clause-part
 put_name-requires-clause-part c =
-    rw c.form.ensures.same (part-kept c.args.work.now c.loop-k.work _ _ c.loop-k.invariant c.next-before.result.0 c.next-before.result.1 c.next-before.ensures.part)
+    rw c.form.ensures.same (part-kept c.args.work.now c.loop-k.work _ _ c.loop-k.invariant c.next-before.result.from c.next-before.result.to c.next-before.ensures.part)
 
 pub loop-k-init : goal.loop-k-init
 loop-k-init c = put-none c.args.work.now c.args.work.now _ _ c.requires.sound refl refl
@@ -57,7 +57,7 @@ returns-clause-makes c = λ name.
     let old = c.args.work.now in
     let now = c.loop-k.work in
     let ts = texts old c.args.arguments in
-    let before = part_text old.neutral c.next-before.result.0 c.next-before.result.1 in
+    let before = part_text old.neutral c.next-before.result.from c.next-before.result.to in
     let whole = names before old.forms in
     let past = c.loop-k-test.false in
     let all = c.forms-k-end.ensures.value in

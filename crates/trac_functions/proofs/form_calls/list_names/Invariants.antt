@@ -6,5 +6,5 @@ use Rattle.trac_functions.proofs.form_calls.list_names.Given as goal
 -- the names of the forms so far stand, each behind X
 abbrev pub invariant-loop-k : goal.invariant-loop-k
 invariant-loop-k l =
-    let before = part_text l.fn.work.neutral l.before.0 l.before.1 in
+    let before = part_text l.fn.work.neutral l.before.from l.before.to in
     HasPut l.fn.work l.work (names before l.fn.work.forms) (names before (drop l.k l.fn.work.forms))

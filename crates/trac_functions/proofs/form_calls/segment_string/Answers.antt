@@ -63,7 +63,7 @@ loop-arguments-preserved c =
     let some : before.from ≤ before.end = grind (arith, c.is_empty.ensures) in
     let is = c.segment.ensures.gaps in
     let neutral = ap (λ (w : Contents). w.neutral) is in
-    let text = part_text now.neutral c.next-part.result.0 c.next-part.result.1 in
+    let text = part_text now.neutral c.next-part.result.from c.next-part.result.to in
     let form = record (form_at now.forms k) { body = segment text (o + 1) (body_at now.forms k); pointer = 0 } in
     let given : text ∷ texts new after ≡ texts now before =
     ap (λ t. t ∷ texts new after) c.next-part.ensures.text ∙ ap (λ cells. argument (texts now before) 0 ∷ texts_from cells after.from after.end) neutral ∙ sym (next-left now before after some c.next-part.ensures.rest) in

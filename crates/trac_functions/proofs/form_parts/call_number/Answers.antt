@@ -11,7 +11,7 @@ returns-in-Some-clause-makes c =
     let within = ap (λ (v : Contents). length v.forms) c.in-Some.ensures.same in
     let at = c.in-Some.ensures.found.within in
     let counts = characters-counted c.find.new.self c.in-Some.form.0 (text_of_cells c.text.result.now) c.count_of-count.result.negative c.count_of-count.result.size sound (omega arith) c.count_of-count.ensures.negative c.count_of-count.ensures.size in
-    let takes = subst (λ (o : Option Part). TakesPart o (part_text c.find.new.self.neutral c.next-default.result.0 c.next-default.result.1) c.in-Some.form.0 c.find.new.self c.take_characters.result c.take_characters.new.work)
+    let takes = subst (λ (o : Option Part). TakesPart o (part_text c.find.new.self.neutral c.next-default.result.from c.next-default.result.to) c.in-Some.form.0 c.find.new.self c.take_characters.result c.take_characters.new.work)
     (counts ∙ ap (λ t. characters (number t) (form_at c.find.new.self.forms c.in-Some.form.0)) number_is) c.take_characters.ensures.takes in
     makes-found CallNumber (λ ts. characters (number (argument ts 1))) 2 c.args.work.now c.find.new.self c.take_characters.new.work c.args.arguments c.in-Some.form.0 c.take_characters.result _ c.next-default.result (λ _ _. refl) (λ _ _. refl)
     c.requires c.in-Some.ensures.same c.in-Some.ensures.found c.next-name.ensures.text takes (c.next-default.ensures.text ∙ c.next-number.ensures.later 0 ∙ c.next-name.ensures.later 1)

@@ -11,7 +11,7 @@ returns-then-stops_before c =
     let place = c.loop-steps.place in
     let rest = drop place (text_of_cells active) in
     let ends : stops_before (row_of (rule rest)) ≡ true =
-    sym (c.stops_before.ensures ∙ ap stops_before (c.rule_of.ensures ∙ ap (λ t. row_of (rule t)) (text-from place active))) ∙ c.if-stops_before.true in
+    sym (c.stops_before.ensures ∙ ap stops_before (c.rule_of.ensures.row ∙ ap (λ t. row_of (rule t)) (text-from place active))) ∙ c.if-stops_before.true in
     omega (arith, c.loop-steps.invariant.counted, steps-end (c.args.most - c.loop-steps.steps) rest ends)
 
 pub loop-steps-preserved : goal.loop-steps-preserved
@@ -21,7 +21,7 @@ loop-steps-preserved c =
     let text = text_of_cells active in
     let rest = text-from place active in
     let goes : stops_before (row_of (rule (drop place text))) ≡ false =
-    sym (c.stops_before.ensures ∙ ap stops_before (c.rule_of.ensures ∙ ap (λ t. row_of (rule t)) rest)) ∙ c.if-stops_before.false in
+    sym (c.stops_before.ensures ∙ ap stops_before (c.rule_of.ensures.row ∙ ap (λ t. row_of (rule t)) rest)) ∙ c.if-stops_before.false in
     let took = c.taken_from-place.ensures.taken ∙ ap (λ t. taken (rule t) (length t)) rest in
     let all = take_all (length active - place) (drop place active) (omega (arith, length-drop place active)) in
     record {

@@ -9,12 +9,12 @@ use Rattle.trac_core.proofs.machine.view.taken_from.Goals as goal
 pub returns-then-not-is_in-clause-taken : goal.returns-then-not-is_in-clause-taken
 returns-then-not-is_in-clause-taken c =
     let text = text_of_cells c.args.active.now in
-    c.taken_in_row.ensures ∙ ap taken_in_row c.rule_of.ensures
+    c.taken_in_row.ensures ∙ ap taken_in_row c.rule_of.ensures.row
     ∙ taken-other text (length text) (λ first. (let t = c.is_in.ensures.1 first in let f = c.if-not-is_in.true in cc))
 
 pub returns-then-not-is_in-clause-within : goal.returns-then-not-is_in-clause-within
 returns-then-not-is_in-clause-within c =
-    omega (arith, c.taken_in_row.ensures ∙ ap taken_in_row c.rule_of.ensures, taken-within (text_of_cells c.args.active.now), length-map c.args.active.now character_of)
+    omega (arith, c.taken_in_row.ensures ∙ ap taken_in_row c.rule_of.ensures.row, taken-within (text_of_cells c.args.active.now), length-map c.args.active.now character_of)
 
 pub matching-requires-clause-bytes : goal.matching-requires-clause-bytes
 matching-requires-clause-bytes c =

@@ -1,0 +1,106 @@
+//! The table of scanning rules (Mooers 1966): which one fits the beginning of the active string. The
+//! scanner, the look for runs of characters and what a machine shows of itself all go by it.
+ghost use Rattle.std.specs.Prelude.{◌≡◌, ◌↔◌, All, IsTrue, slice_get, Some};
+ghost use Rattle.trac_language.specs.Rule.{rule};
+ghost use Rattle.trac_space.specs.Texts.{IsByte, text_of_cells};
+ghost use Rattle.trac_core.specs.Rules.{Begins, IsFirstOf};
+ghost use Rattle.trac_core.specs.View.{row_of};
+
+use trac_space::{Cell, byte_in};
+
+/// The rows of the table of scanning rules: what a step does is
+/// told by the beginning of the active string (Mooers 1966).
+#[derive(Clone, Copy, Debug, PartialEq, Eq)]
+pub enum ScanningRule {
+    /// The active string is empty: the idling procedure is loaded.
+    Idling,
+    /// A tab, a line feed or a carriage return is deleted.
+    Layout,
+    /// A left parenthesis: the text up to its match is taken
+    /// over; without a match the active string becomes empty.
+    Protection,
+    /// A comma: an argument begins.
+    Argument,
+    /// A number sign and a left parenthesis open an active call.
+    ActiveCall,
+    /// Two number signs and a left parenthesis open a neutral call.
+    NeutralCall,
+    /// A number sign that opens no call is added.
+    NumberSign,
+    /// A right parenthesis: the innermost call is performed.
+    EndOfCall,
+    /// Any other character is added.
+    Character,
+}
+
+/// The rule that fits the beginning of an active string.
+#[inline(always)]
+pub(crate) fn rule_of(active: &[Cell]) -> ScanningRule
+    requires bytes { All IsByte active.now }
+    ensures begins { Begins result (text_of_cells active.now) }
+    ensures row { result ≡ row_of (rule (text_of_cells active.now)) }
+{
+    match active.first() {
+        None => ScanningRule::Idling,
+        Some(first) => rule_at(active, byte_in(first)),
+    }
+}
+
+/// The rule that fits an active string that begins with this character.
+#[inline(always)]
+fn rule_at(active: &[Cell], first: u8) -> ScanningRule
+    requires bytes { All IsByte active.now }
+    requires first { slice_get (text_of_cells active.now) 0 ≡ Some first }
+    ensures { Begins result (text_of_cells active.now) }
+{
+    match rule_by_first(first) {
+        ScanningRule::NumberSign => number_sign_rule(active),
+        rule => rule,
+    }
+}
+
+/// The rule that fits each active string that begins with this character; of a number sign, which
+/// may open a call, that of one which opens none.
+#[inline(always)]
+pub(crate) fn rule_by_first(character: u8) -> ScanningRule
+    ensures { IsFirstOf result character }
+{
+    match character {
+        b'\t' => ScanningRule::Layout,
+        b'\n' => ScanningRule::Layout,
+        b'\r' => ScanningRule::Layout,
+        b'(' => ScanningRule::Protection,
+        b')' => ScanningRule::EndOfCall,
+        b',' => ScanningRule::Argument,
+        b'#' => ScanningRule::NumberSign,
+        _ => ScanningRule::Character,
+    }
+}
+
+/// The rule where a number sign stands first.
+#[inline(always)]
+fn number_sign_rule(active: &[Cell]) -> ScanningRule
+    requires bytes { All IsByte active.now }
+    requires first { slice_get (text_of_cells active.now) 0 ≡ Some 35 }
+    ensures { Begins result (text_of_cells active.now) }
+{
+    if is_in(active, 1, b'(') {
+        ScanningRule::ActiveCall
+    } else if is_in(active, 1, b'#') && is_in(active, 2, b'(') {
+        ScanningRule::NeutralCall
+    } else {
+        ScanningRule::NumberSign
+    }
+}
+
+/// Whether a character stands at a place of an active string.
+#[inline(always)]
+pub(crate) fn is_in(active: &[Cell], place: usize, byte: u8) -> bool
+    requires bytes { All IsByte active.now }
+    ensures { IsTrue result ↔ (slice_get (text_of_cells active.now) place ≡ Some byte) }
+{
+    match active.get(place) {
+        Some(cell) => byte_in(cell) == byte,
+        None => false,
+    }
+}

@@ -1,0 +1,30 @@
+use Rattle.std.proofs.Common.{◌≡◌, ◌∙◌, ◌++◌, ap, arith, false, length, map}
+use Rattle.std.proofs.lemmas.Bool.{le-ltb}
+use Rattle.std.specs.Prelude.{nat_lt, reverse}
+use Rattle.trac_warnings.specs.Told.{end_warnings, ended, is_dropped_last, not_ended}
+use Rattle.trac_warnings.specs.Watched.{said}
+use Rattle.trac_warnings.proofs.Keeping.{kept_more}
+use Rattle.trac_warnings.proofs.Said.{len_popped, next_end, next_not_ended}
+use Rattle.trac_warnings.specs.declared.watch.Watch.{Watch}
+use Rattle.trac_warnings.proofs.watch.Watch.tell_ends.Goals as goal
+
+pub loop-preserved : goal.loop-preserved
+loop-preserved c =
+    let i = c.loop.invariant in
+    let told = c.in_ok-tell_end.ensures in
+    let less : nat_lt c.in-Some.string.rest c.args.active ≡ false = le-ltb _ _ (omega (arith, c.if-active-string.false)) in
+    let runs : c.tell_end.new.self.runs.items ≡ c.loop.self.runs.items = ap (λ (w : Watch). w.runs.items) told.stays in
+    let read : c.tell_end.new.self.read ≡ c.loop.self.read = ap (λ (w : Watch). w.read) told.stays in
+    let calls : c.tell_end.new.self.calls.items ≡ c.loop.self.calls.items = ap (λ (w : Watch). w.calls.items) told.stays in
+    let left = ap (λ (w : Watch). w.strings.items) told.stays in
+    record {
+      runs = runs ∙ i.runs;
+      read = read ∙ i.read;
+      kept = kept_more _ _ _ i.kept told.kept;
+      calls = calls ∙ i.calls;
+      len = omega (arith, ap length left, len_popped _ _ c.in-Some.string c.in-Some.ensures.items, i.len);
+      strings = ap (λ t. not_ended c.args.active (reverse t)) left ∙ next_not_ended c.args.active _ c.in-Some.string _ _ less c.in-Some.ensures.items i.strings;
+      said = ap (λ t. ended c.args.rule c.args.active c.args.here c.args.self.now.calls.items (map said c.tell_end.new.self.warnings.items) (reverse t)) left
+          ∙ next_end c.args.rule c.args.active c.args.here c.args.self.now.calls.items _ _ _ c.is_unmatched.result c.in-Some.string _ _ less c.in-Some.ensures.items c.is_unmatched.ensures
+          (told.said ∙ ap (λ t. map said c.loop.self.warnings.items ++ end_warnings c.is_unmatched.result (is_dropped_last (map said c.loop.self.warnings.items)) c.args.here t c.in-Some.string) i.calls) i.said;
+    }

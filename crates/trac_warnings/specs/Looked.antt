@@ -1,0 +1,113 @@
+-- What is looked at before a step, and what is said of it.
+use Rattle.std.specs.Prelude.{◌≡◌, ℕ, ◌-◌, ◌&&◌, Bool, true, false, List, [], ◌++◌, length, take, drop}
+use Rattle.std.specs.Prelude.{reverse, slice_get, Option, None, Some, unwrap_or, nat_le, nat_lt}
+use Rattle.std.specs.Bool.{nat_eq}
+use Rattle.std.specs.Option.{option_eq}
+use Rattle.trac_language.specs.Rule.{rule}
+use Rattle.trac_space.specs.declared.cell.Cell.{Cell}
+use Rattle.trac_functions.specs.Flat.{neutral_of}
+use Rattle.trac_core.specs.Machine.{MachineState}
+use Rattle.trac_core.specs.OpenCalls.{mark_of}
+use Rattle.trac_core.specs.View.{neutral_in, row_of}
+use Rattle.trac_core.specs.declared.machine.open_calls.CallMark.{CallMark}
+use Rattle.trac_core.specs.declared.machine.view.ScanningRule.{ScanningRule}
+use Rattle.trac_core.specs.declared.machine.view.ScanningRule.TheVariants as row
+use Rattle.trac_events.specs.Calls.{behind_mark}
+use Rattle.trac_warnings.specs.Origins.{first_origin, more, origin_at}
+use Rattle.trac_warnings.specs.Performed.{Warns, call_warnings, commas_of, where_so}
+use Rattle.trac_warnings.specs.Watched.{Said}
+use Rattle.trac_warnings.specs.declared.origin.Origin.{Origin}
+use Rattle.trac_warnings.specs.declared.performed.Ending.{Ending}
+use Rattle.trac_warnings.specs.declared.warning.Suspicion.TheVariants.{NoCall}
+use Rattle.trac_warnings.specs.declared.warning.Warning.{Warning}
+use Rattle.trac_warnings.specs.declared.watch.OpenString.{OpenString}
+use Rattle.trac_warnings.specs.declared.watch.Watch.{Watch}
+
+-- where the first character of the active string was written, and where it is read next where nothing is active
+abbrev pub place_of : Watch → Origin
+place_of watch = origin_at watch.read (first_origin (reverse watch.runs.items))
+
+-- the string that was read last, of those that are being scanned
+abbrev pub open_string : Watch → Option OpenString
+open_string watch = slice_get watch.strings.items (length watch.strings.items - 1)
+
+-- whether a right parenthesis stands in a string, and so many open calls hold none of that string
+abbrev pub is_outside : Option OpenString → (active calls : ℕ) → Bool
+is_outside None active calls = false
+is_outside (Some string) active calls = nat_lt string.rest active && nat_le calls string.depth
+
+-- whether the right parenthesis before so many cells of the active string ends no call of its string
+abbrev pub is_stray : Watch → ℕ → Bool
+is_stray watch active = is_outside (open_string watch) active (length watch.calls.items)
+
+-- the warning of that parenthesis
+abbrev pub stray_warnings : Watch → ℕ → List Said
+stray_warnings watch active = where_so (is_stray watch active) NoCall (place_of watch) []
+
+-- where the innermost call was written, and where its right parenthesis was, if the call isn't known
+abbrev pub begin_of : Watch → Origin
+begin_of watch = unwrap_or (slice_get watch.calls.items (length watch.calls.items - 1)) (place_of watch)
+
+-- how many calls were open when a string was read
+abbrev pub depth_of : Option OpenString → ℕ
+depth_of None = 0
+depth_of (Some string) = string.depth
+
+-- whether a call was written in the same text as one that was written here
+abbrev pub is_beside : Option Origin → Origin → Bool
+is_beside None begin = false
+is_beside (Some outer) begin = option_eq nat_eq outer.form begin.form
+
+-- whether the innermost call, which was written here, stands in another one of its string and of its text
+abbrev pub is_inside : Watch → Origin → Bool
+is_inside watch begin =
+    nat_lt (more (depth_of (open_string watch)) 1) (length watch.calls.items)
+    && is_beside (slice_get watch.calls.items (length watch.calls.items - 2)) begin
+
+-- where the arguments behind the name were written of the innermost call, which has these arguments
+abbrev pub places_of : List Origin → List Cell → List Origin
+places_of commas arguments = drop (length commas - commas_of arguments) commas
+
+-- the arguments so far of the call around the innermost one, by the places of their marks
+abbrev pub around_of : Option CallMark → List Cell → ℕ → List Cell
+around_of None neutral mark = []
+around_of (Some outer) neutral mark = behind_mark (take mark neutral) outer.place
+
+-- a call before it is performed, whose mark stands at a place of a neutral string, and the call around it has
+-- its mark at another one
+pub record IsEnding
+    (watch : Watch) (neutral : List Cell) (outer : Option CallMark) (mark : ℕ) (known : List ℕ) (ending : Ending)
+    : Type 0 where
+  pub arguments_are : ending.arguments.now ≡ behind_mark neutral mark
+  pub begin_is : ending.begin ≡ begin_of watch
+  pub places_are : ending.places.now ≡ places_of watch.commas.items (behind_mark neutral mark)
+  pub around_is : ending.around.now ≡ around_of outer neutral mark
+  pub inside_is : ending.is_inside ≡ is_inside watch (begin_of watch)
+  pub input_is : ending.input.now ≡ known
+
+-- the warnings are added of a call whose mark stands at this place
+abbrev pub LooksAtMark : ℕ → Watch → MachineState → List ℕ → (old new : List Warning) → Type 0
+LooksAtMark mark watch m input old new =
+    (neutral : List Cell) × ((ending : Ending) × ((neutral_of neutral ≡ neutral_in m.memory)
+    × (IsEnding watch neutral (mark_of 1 (neutral_in m.memory)) mark input ending
+    × Warns old new (call_warnings m.memory.forms ending))))
+
+-- the same, where such a mark stands
+abbrev pub LooksAtCall : Option CallMark → Watch → MachineState → List ℕ → (old new : List Warning) → Type 0
+LooksAtCall None watch m input old new = new ≡ old
+LooksAtCall (Some mark) watch m input old new = LooksAtMark mark.place watch m input old new
+
+-- the warning is added of a right parenthesis, and then those of the call that it ends
+abbrev pub LooksAtEnd : Watch → MachineState → List ℕ → (old new : List Warning) → Type 0
+LooksAtEnd watch m input old new =
+    (stray : List Warning) × (Warns old stray (stray_warnings watch (length m.memory.active))
+    × LooksAtCall (mark_of 0 (neutral_in m.memory)) watch m input stray new)
+
+-- by the rule of a step, these are the warnings before it
+abbrev pub LooksBy : ScanningRule → Watch → MachineState → List ℕ → List Warning → Type 0
+LooksBy row.EndOfCall watch m input new = LooksAtEnd watch m input [] new
+LooksBy _ watch m input new = new ≡ []
+
+-- the warnings before a step of a machine, of whose input these bytes are known
+abbrev pub Looks : Watch → MachineState → List ℕ → List Warning → Type 0
+Looks watch m input new = LooksBy (row_of (rule m.memory.active)) watch m input new

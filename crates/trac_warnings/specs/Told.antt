@@ -1,0 +1,218 @@
+-- What is said of a step that was done.
+use Rattle.std.specs.Prelude.{◌≡◌, ℕ, ◌-◌, ◌==◌, ◌&&◌, ◌||◌, Bool, true, false, not, min, List, [], ◌∷◌, ◌++◌}
+use Rattle.std.specs.Prelude.{length, map, take, drop, reverse, slice_get, Option, None, Some, unwrap_or}
+use Rattle.std.specs.Prelude.{nat_le, nat_lt, if◌then◌else◌}
+use Rattle.std.specs.Bool.{nat_eq}
+use Rattle.std.specs.Option.{option_eq}
+use Rattle.trac_language.specs.declared.function.Function.{Function}
+use Rattle.trac_language.specs.declared.function.Function.TheVariants.{Arithmetic}
+use Rattle.trac_space.specs.declared.cell.Cell.{Cell}
+use Rattle.trac_functions.specs.Flat.{neutral_of}
+use Rattle.trac_core.specs.Machine.{MachineState}
+use Rattle.trac_core.specs.View.{neutral_in}
+use Rattle.trac_core.specs.declared.machine.session.Awaits.{Awaits}
+use Rattle.trac_core.specs.declared.machine.session.Awaits.TheVariants as awaits
+use Rattle.trac_core.specs.declared.machine.view.ScanningRule.{ScanningRule}
+use Rattle.trac_core.specs.declared.machine.view.ScanningRule.TheVariants as row
+use Rattle.trac_events.specs.Calls.{SeesValue, argument_of}
+use Rattle.trac_events.specs.declared.before.Before.{Before}
+use Rattle.trac_warnings.specs.Looked.{open_string, place_of}
+use Rattle.trac_warnings.specs.Origins.{in_input, more}
+use Rattle.trac_warnings.specs.Performed.{function_of, of_text, where_so}
+use Rattle.trac_warnings.specs.Strings.{layout_len}
+use Rattle.trac_warnings.specs.Watched.{Said, end_of_text, said}
+use Rattle.trac_warnings.specs.declared.origin.Origin.{Origin}
+use Rattle.trac_warnings.specs.declared.warning.Suspicion.{Suspicion}
+use Rattle.trac_warnings.specs.declared.warning.Suspicion.TheVariants.{Dropped, EndInside, NoResult, OpenCall}
+use Rattle.trac_warnings.specs.declared.warning.Suspicion.TheVariants.{OpenString as NotEnded, Protection}
+use Rattle.trac_warnings.specs.declared.warning.Warning.{Warning}
+use Rattle.trac_warnings.specs.declared.watch.OpenString.{OpenString}
+use Rattle.trac_warnings.specs.declared.watch.Watch.{Watch}
+
+-- how many cells of the active string stand behind a string, 0 where there is none
+abbrev pub rest_of : Option OpenString → ℕ
+rest_of None = 0
+rest_of (Some string) = string.rest
+
+-- the warning of the characters that a step drops, up to the end of the string that is scanned
+abbrev pub drop_warnings : Watch → Before → List Said
+drop_warnings watch before =
+    if before.drops == 0 then []
+    else record {
+      origin = place_of watch;
+      suspicion = Dropped;
+      count = before.active - rest_of (open_string watch);
+      text = [];
+    } ∷ []
+
+-- whether a rule takes over a protected text
+abbrev pub is_protection : ScanningRule → Bool
+is_protection row.Protection = true
+is_protection _ = false
+
+-- whether it is a function of arithmetic
+abbrev pub is_arithmetic : Option Function → Bool
+is_arithmetic (Some (Arithmetic operation)) = true
+is_arithmetic _ = false
+
+-- whether the call that a step performed gives no default value and has a null value: behind the step the
+-- strings have so many cells
+abbrev pub is_null : Watch → Before → (active neutral : ℕ) → Bool
+is_null watch before active neutral =
+    (length (argument_of watch.arguments.items 3) == 0)
+    && (nat_lt active before.active && nat_le neutral (watch.neutral - length watch.arguments.items - 1))
+
+-- where the innermost call was written, and else where its value was
+abbrev pub call_place : Watch → Origin
+call_place watch = unwrap_or (slice_get watch.calls.items (length watch.calls.items - 1)) watch.value
+
+-- the warning of a call of arithmetic that has no result
+abbrev pub result_warnings : Watch → Before → (active neutral : ℕ) → List Said
+result_warnings watch before active neutral =
+    where_so (is_arithmetic (function_of watch.arguments.items) && is_null watch before active neutral)
+    NoResult (call_place watch) (argument_of watch.arguments.items 0)
+
+-- the warnings of what a step did, by its rule
+abbrev pub rule_warnings : ScanningRule → Watch → Before → (active neutral : ℕ) → List Said
+rule_warnings row.Protection watch before active neutral = drop_warnings watch before
+rule_warnings row.EndOfCall watch before active neutral = result_warnings watch before active neutral
+rule_warnings _ watch before active neutral = []
+
+-- all but the last
+abbrev pub without_last : {A : Type 0} → List A → List A
+without_last items = take (length items - 1) items
+
+-- where the calls were written that are open behind a step by a rule
+abbrev pub calls_behind : ScanningRule → Watch → List Origin
+calls_behind row.Idling watch = []
+calls_behind row.ActiveCall watch = watch.calls.items ++ place_of watch ∷ []
+calls_behind row.NeutralCall watch = watch.calls.items ++ place_of watch ∷ []
+calls_behind row.EndOfCall watch = without_last watch.calls.items
+calls_behind _ watch = watch.calls.items
+
+-- strings, the last first, which was read when at most so many calls were open
+abbrev pub lowered : ℕ → List OpenString → List OpenString
+lowered depth [] = []
+lowered depth (string ∷ strings) = record string { depth = min string.depth depth } ∷ strings
+
+-- the strings that are scanned behind a step by a rule, the last first
+abbrev pub strings_behind : ScanningRule → Watch → List OpenString
+strings_behind row.Idling watch = []
+strings_behind row.EndOfCall watch =
+    lowered (length (without_last watch.calls.items)) (reverse watch.strings.items)
+strings_behind _ watch = reverse watch.strings.items
+
+-- whether a string ends at a place of the input by a meta character
+abbrev pub is_ended_at : List ℕ → (end meta : ℕ) → Bool
+is_ended_at input end meta = option_eq nat_eq (slice_get input end) (Some meta)
+
+-- where the first character apart from layout stands between two places of the input
+abbrev pub begin_of_text : List ℕ → (start end : ℕ) → ℕ
+begin_of_text input start end = more start (layout_len (take (end - start) (drop start input)))
+
+-- the warning of a string that was read from one place up to another, unless a meta character ends it
+abbrev pub text_warnings : List ℕ → (start end meta : ℕ) → List Said
+text_warnings input start end meta =
+    let begin = begin_of_text input start end in
+    where_so (not (is_ended_at input end meta) && nat_lt begin end) NotEnded (in_input begin) []
+
+-- the warning of what a step read whose value has so many characters
+abbrev pub read_warnings : Awaits → Before → List ℕ → (read len : ℕ) → List Said
+read_warnings awaits.Text before input read len =
+    text_warnings input (min read (length input)) (end_of_text input read len) before.meta
+read_warnings _ before input read len = []
+
+-- the strings with one that was read up to a place, unless nothing of it is active; so many calls are open
+abbrev pub with_string :
+    Before → List ℕ → (end active depth : ℕ) → List OpenString → List OpenString
+with_string before input end active depth strings =
+    if nat_lt (before.active - 1) active
+    then record {
+      end = end;
+      is_ended = is_ended_at input end before.meta;
+      rest = before.active - 1;
+      depth = depth;
+    } ∷ strings
+    else strings
+
+-- the strings behind what a step read whose value has so many characters
+abbrev pub strings_read :
+    Awaits → Before → List ℕ → (read len active depth : ℕ) → List OpenString → List OpenString
+strings_read awaits.Text before input read len active depth strings =
+    with_string before input (end_of_text input read len) active depth strings
+strings_read _ before input read len active depth strings = strings
+
+-- whether it is said of characters that they were dropped
+abbrev pub tells_dropped : Suspicion → Bool
+tells_dropped Dropped = true
+tells_dropped _ = false
+
+-- whether that is what was said last
+abbrev pub is_dropped : Option Said → Bool
+is_dropped None = false
+is_dropped (Some said) = tells_dropped said.suspicion
+
+-- the same of what was said
+abbrev pub is_dropped_last : List Said → Bool
+is_dropped_last told = is_dropped (slice_get told (length told - 1))
+
+-- the warnings of calls that are still open
+abbrev pub open_warnings : List Origin → List Said
+open_warnings [] = []
+open_warnings (call ∷ calls) = of_text OpenCall call [] ∷ open_warnings calls
+
+-- the warnings of the left parentheses and of the calls that a string leaves open at its end, which is here
+abbrev pub left_open : (is_unmatched is_told : Bool) → Origin → List Origin → List Said
+left_open true is_told here calls = where_so (not is_told) Protection here []
+left_open false is_told here calls = open_warnings calls
+
+-- the warnings of the end of a string, by whether a left parenthesis has no match in it and whether that was
+-- told as characters that were dropped
+abbrev pub end_warnings :
+    (is_unmatched is_told : Bool) → Origin → List Origin → OpenString → List Said
+end_warnings is_unmatched is_told here calls string =
+    left_open is_unmatched is_told here (drop string.depth calls)
+    ++ where_so (string.is_ended && (is_unmatched || nat_lt string.depth (length calls)))
+    EndInside (in_input string.end) []
+
+-- all that is said behind the ends of these strings, the last first, of those that end where so many cells
+-- are active
+abbrev pub ended :
+    ScanningRule → ℕ → Origin → List Origin → List Said → List OpenString → List Said
+ended rule active here calls told [] = told
+ended rule active here calls told (string ∷ strings) =
+    if nat_lt string.rest active then told
+    else ended rule active here calls (told ++ end_warnings (nat_lt active string.rest && is_protection rule)
+    (is_dropped_last told) here calls string) strings
+
+-- the strings that don't end there
+abbrev pub not_ended : ℕ → List OpenString → List OpenString
+not_ended active [] = []
+not_ended active (string ∷ strings) =
+    if nat_lt string.rest active then string ∷ strings else not_ended active strings
+
+-- the strings that are scanned behind a step, the last first, before those leave that end
+abbrev pub strings_scanned : Before → List ℕ → (len active : ℕ) → Watch → List OpenString
+strings_scanned before input len active watch =
+    strings_read before.awaits before input watch.read len active
+    (length (calls_behind before.rule watch)) (strings_behind before.rule watch)
+
+-- all that is said behind a step that was done, whose value has so many characters, and behind which the
+-- strings have so many cells
+abbrev pub told_behind : Before → List ℕ → (len active neutral : ℕ) → Watch → List Said
+told_behind before input len active neutral watch =
+    ended before.rule active (place_of watch) (calls_behind before.rule watch)
+    (map said watch.warnings.items ++ rule_warnings before.rule watch before active neutral
+    ++ read_warnings before.awaits before input watch.read len)
+    (strings_scanned before input len active watch)
+
+-- a step was done: its warnings are added, and the calls and the strings are those that are open then
+abbrev pub TellsAll : Before → MachineState → List ℕ → (old new : Watch) → Type 0
+TellsAll before m input old new =
+    (value : List Cell) × ((neutral : List Cell) × (SeesValue m before.call before.active value
+    × ((neutral_of neutral ≡ neutral_in m.memory)
+    × ((map said new.warnings.items
+    ≡ told_behind before input (length value) (length m.memory.active) (length neutral) old)
+    × ((new.calls.items ≡ calls_behind before.rule old)
+    × (reverse new.strings.items ≡ not_ended (length m.memory.active)
+    (strings_scanned before input (length value) (length m.memory.active) old)))))))
