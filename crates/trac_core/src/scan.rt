@@ -1,8 +1,8 @@
 //! The scanner: the rules that perform no call.
-ghost use Rattle.std.specs.Prelude.{◌≡◌, ◌≢◌, ◌+◌, ◌<◌, ◌≤◌, [], ◌∷◌, ℕ, length};
-ghost use Rattle.std.specs.Prelude.{take, drop, slice_get, IsTrue, ◌↔◌, None, Some, ◌++◌, All};
+ghost use Rattle.std.specs.Prelude.{◌≡◌, ◌+◌, ◌<◌, ◌≤◌, [], ℕ, length};
+ghost use Rattle.std.specs.Prelude.{take, drop, slice_get, IsTrue, ◌↔◌, None, Some, All};
 ghost use Rattle.std.specs.Prelude.{MatchOption};
-ghost use Rattle.trac_space.specs.Texts.{character_of, text_of_cells, IsByte};
+ghost use Rattle.trac_space.specs.Texts.{text_of_cells, IsByte};
 ghost use Rattle.trac_forms.specs.Contents.{used, IsSound};
 ghost use Rattle.trac_core.specs.Attempts.{Scans, Scanned, NoneFailed};
 ghost use Rattle.trac_core.specs.StepsInRow.{IsOrdinary, IsLayout, Advances, SomeSteps};

@@ -9,7 +9,7 @@ use Rattle.trac_warnings.specs.Performed.{gap_behind, gaps_behind, next_text, of
 use Rattle.trac_warnings.specs.Script.{spelled, spelled_at, told_behind}
 use Rattle.trac_warnings.specs.Spelling.{spelling_of}
 use Rattle.trac_warnings.proofs.NextNames.{taken_whole}
-use Rattle.trac_core.specs.declared.machine.view.ScanningRule.{ScanningRule}
+use Rattle.trac_core.specs.declared.rules.ScanningRule.{ScanningRule}
 use Rattle.trac_warnings.specs.Told.{end_warnings, ended, is_dropped_last, is_protection, not_ended, open_warnings}
 use Rattle.trac_warnings.specs.declared.watch.OpenString.{OpenString}
 use Rattle.trac_warnings.specs.Watched.{Said}

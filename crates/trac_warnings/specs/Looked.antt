@@ -10,8 +10,8 @@ use Rattle.trac_core.specs.Machine.{MachineState}
 use Rattle.trac_core.specs.OpenCalls.{mark_of}
 use Rattle.trac_core.specs.View.{neutral_in, row_of}
 use Rattle.trac_core.specs.declared.machine.open_calls.CallMark.{CallMark}
-use Rattle.trac_core.specs.declared.machine.view.ScanningRule.{ScanningRule}
-use Rattle.trac_core.specs.declared.machine.view.ScanningRule.TheVariants as row
+use Rattle.trac_core.specs.declared.rules.ScanningRule.{ScanningRule}
+use Rattle.trac_core.specs.declared.rules.ScanningRule.TheVariants as row
 use Rattle.trac_events.specs.Calls.{behind_mark}
 use Rattle.trac_warnings.specs.Origins.{first_origin, more, origin_at}
 use Rattle.trac_warnings.specs.Performed.{Warns, call_warnings, commas_of, where_so}

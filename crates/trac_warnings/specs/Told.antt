@@ -12,8 +12,8 @@ use Rattle.trac_core.specs.Machine.{MachineState}
 use Rattle.trac_core.specs.View.{neutral_in}
 use Rattle.trac_core.specs.declared.machine.session.Awaits.{Awaits}
 use Rattle.trac_core.specs.declared.machine.session.Awaits.TheVariants as awaits
-use Rattle.trac_core.specs.declared.machine.view.ScanningRule.{ScanningRule}
-use Rattle.trac_core.specs.declared.machine.view.ScanningRule.TheVariants as row
+use Rattle.trac_core.specs.declared.rules.ScanningRule.{ScanningRule}
+use Rattle.trac_core.specs.declared.rules.ScanningRule.TheVariants as row
 use Rattle.trac_events.specs.Calls.{SeesValue, argument_of}
 use Rattle.trac_events.specs.declared.before.Before.{Before}
 use Rattle.trac_warnings.specs.Looked.{open_string, place_of}
