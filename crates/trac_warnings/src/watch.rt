@@ -10,7 +10,8 @@ ghost use Rattle.trac_warnings.specs.Looked.{is_stray, place_of, places_of, stra
 ghost use Rattle.trac_warnings.specs.Origins.{first_origin, in_input, moved, origin_at};
 ghost use Rattle.trac_warnings.specs.Performed.{Warns, function_of};
 ghost use Rattle.trac_warnings.specs.Told.{TellsAll, calls_behind, drop_warnings, end_warnings, ended};
-ghost use Rattle.trac_warnings.specs.Told.{is_arithmetic, is_dropped_last, is_ended_at, is_null, is_protection, left_open};
+ghost use Rattle.trac_warnings.specs.Told.{is_arithmetic, is_dropped_last, is_ended_at, is_null};
+ghost use Rattle.trac_warnings.specs.Told.{is_protection, left_open};
 ghost use Rattle.trac_warnings.specs.Told.{lowered, not_ended, open_warnings, read_warnings, result_warnings};
 ghost use Rattle.trac_warnings.specs.Told.{rule_warnings, strings_behind, strings_read, text_warnings};
 ghost use Rattle.trac_warnings.specs.Told.{with_string, without_last};
