@@ -1,12 +1,12 @@
--- What a call makes of forms.
-use Rattle.std.specs.Prelude.{ℕ, Bool, List, Option, None, option_map, bytes_eq, if◌then◌else◌}
+-- What a call makes of forms, and which it needs.
+use Rattle.std.specs.Prelude.{ℕ, Bool, true, false, List, Option, None, option_map, bytes_eq, if◌then◌else◌}
 use Rattle.std.specs.List.{list_all}
 use Rattle.trac_language.specs.declared.function.Function.{Function}
 use Rattle.trac_language.specs.declared.function.Function.TheVariants.{DefineString, SegmentString}
 use Rattle.trac_language.specs.declared.function.Function.TheVariants.{DeleteDefinition, DeleteAll}
 use Rattle.trac_language.specs.declared.function.Function.TheVariants.{CallSegment, CallCharacter}
 use Rattle.trac_language.specs.declared.function.Function.TheVariants.{CallNumber, InitialPart}
-use Rattle.trac_language.specs.declared.function.Function.TheVariants.{CallRestore}
+use Rattle.trac_language.specs.declared.function.Function.TheVariants.{CallForm, CallRestore, PrintForm}
 use Rattle.trac_language.specs.Text.{Text}
 use Rattle.trac_language.specs.Form.{Form}
 use Rattle.trac_language.specs.Store.{form_named}
@@ -27,6 +27,18 @@ touched_by CallRestore = First
 touched_by DeleteDefinition = Each
 touched_by DeleteAll = All
 touched_by _ = Nothing
+
+-- whether a call of a function does nothing where no form has the name behind the function's
+abbrev pub needs_form : Function → Bool
+needs_form SegmentString = true
+needs_form PrintForm = true
+needs_form CallForm = true
+needs_form CallSegment = true
+needs_form CallCharacter = true
+needs_form CallNumber = true
+needs_form InitialPart = true
+needs_form CallRestore = true
+needs_form _ = false
 
 -- the form whose name these cells are; none where one of them is no character
 abbrev pub form_of : List Cell → List Form → Option Form

@@ -1,8 +1,8 @@
-//! Which forms a call can change.
+//! Which forms a call can change, and which it needs.
 ghost use Rattle.std.specs.Prelude.{◌≡◌};
 ghost use Rattle.std.specs.List.{list_all};
 ghost use Rattle.trac_space.specs.Texts.{is_byte_cell, text_of_cells};
-ghost use Rattle.trac_events.specs.Changes.{form_of, pointer_of, is_same, touched_by};
+ghost use Rattle.trac_events.specs.Changes.{form_of, pointer_of, is_same, needs_form, touched_by};
 
 use trac_core::{Machine, StoredForm};
 use trac_language::Function;
@@ -36,6 +36,23 @@ pub fn touched_by(function: Function) -> Touched
         Function::DeleteDefinition => Touched::Each,
         Function::DeleteAll => Touched::All,
         _ => Touched::Nothing,
+    }
+}
+
+/// Whether a call of this function does nothing if no form has the name behind the function's.
+pub fn needs_form(function: Function) -> bool
+    ensures { result ≡ needs_form function }
+{
+    match function {
+        Function::SegmentString
+        | Function::PrintForm
+        | Function::CallForm
+        | Function::CallSegment
+        | Function::CallCharacter
+        | Function::CallNumber
+        | Function::InitialPart
+        | Function::CallRestore => true,
+        _ => false,
     }
 }
 

@@ -1,11 +1,11 @@
 //! Files that are checked, one after another.
 
-use crate::trace::{TraceError, write};
 use crate::watched::{watched, worse};
 use crate::{NO_MEMORY, NOT_WRITTEN, say};
 use std::io::{ErrorKind, Write};
 use std::{fs, io};
 use trac_core::{RetryingWriter, SliceSource};
+use trac_tracer::{TraceError, write};
 use trac_words::Settings;
 
 // The status where a file can't be read, as for a run whose input failed.

@@ -10,11 +10,6 @@ ghost use Rattle.trac_trace.specs.Statuses.{traced_status};
 
 mod check;
 mod errors;
-mod last;
-mod oddities;
-mod record;
-mod shown;
-mod trace;
 mod warnings;
 mod watched;
 mod words;
@@ -26,8 +21,8 @@ use std::io::{ErrorKind, Read, Write};
 use std::process::ExitCode;
 use trac_core::{Fate, Input, Output, RetryingReader, RetryingWriter, SliceSource};
 use trac_lines::{fate_status, refused, refused_words};
+use trac_tracer::{TraceError, trace, trace_last, write};
 use trac_views::{Options, push_text};
-use trace::{TraceError, trace, trace_last, write};
 use watched::watched;
 use words::{Words, words_from};
 

@@ -16,10 +16,10 @@ use Rattle.trac_space.specs.declared.cell.Cell.{Cell}
 use Rattle.trac_space.specs.Cells.{is_comma}
 use Rattle.trac_space.specs.Texts.{text_of_cells}
 use Rattle.trac_events.specs.Calls.{argument_of}
-use Rattle.trac_events.specs.Changes.{form_of}
+use Rattle.trac_events.specs.Changes.{form_of, needs_form}
 use Rattle.trac_warnings.specs.Arguments.{default_place, most_arguments, takes_branches}
 use Rattle.trac_warnings.specs.Gaps.{stands_in_name}
-use Rattle.trac_warnings.specs.Suspicions.{is_written, needs_form, suspicion_of_name}
+use Rattle.trac_warnings.specs.Suspicions.{is_written, suspicion_of_name}
 use Rattle.trac_warnings.specs.Watched.{Said, said}
 use Rattle.trac_warnings.specs.declared.origin.Origin.{Origin}
 use Rattle.trac_warnings.specs.declared.performed.Ending.{Ending}

@@ -3,11 +3,6 @@ use Rattle.std.specs.Prelude.{Bool, true, false, List, [], ◌∷◌, map, Optio
 use Rattle.std.specs.Prelude.{bytes_eq, if◌then◌else◌, is_some, ℕ, ◌==◌, ◌&&◌, ◌||◌}
 use Rattle.std.specs.List.{list_any}
 use Rattle.std.specs.Char.{to_ascii_lowercase}
-use Rattle.trac_language.specs.declared.function.Function.{Function}
-use Rattle.trac_language.specs.declared.function.Function.TheVariants.{SegmentString, PrintForm}
-use Rattle.trac_language.specs.declared.function.Function.TheVariants.{CallForm, CallSegment}
-use Rattle.trac_language.specs.declared.function.Function.TheVariants.{CallCharacter, CallNumber}
-use Rattle.trac_language.specs.declared.function.Function.TheVariants.{InitialPart, CallRestore}
 use Rattle.trac_language.specs.Text.{Text}
 use Rattle.trac_language.specs.Function.{function_named}
 use Rattle.trac_warnings.specs.declared.warning.Suspicion.{Suspicion}
@@ -65,18 +60,6 @@ suspicion_of_name [] = None
 suspicion_of_name (c ∷ name) =
     if is_some (function_named (c ∷ name)) then None
     else (if is_left_out (c ∷ name) then Some LeftOut else Some NoFunction)
-
--- whether a call of a function does nothing where no form has the name behind the function's
-abbrev pub needs_form : Function → Bool
-needs_form SegmentString = true
-needs_form PrintForm = true
-needs_form CallForm = true
-needs_form CallSegment = true
-needs_form CallCharacter = true
-needs_form CallNumber = true
-needs_form InitialPart = true
-needs_form CallRestore = true
-needs_form _ = false
 
 -- whether bytes begin with a name and, behind it, a comma or a right parenthesis
 abbrev pub begins_argument : Text → List ℕ → Bool

@@ -19,7 +19,7 @@ mod written;
 pub use arguments::{default_place, most_arguments, takes_branches};
 pub use findings::Findings;
 pub use gaps::{body_of, stands_in_name};
-pub use names::{is_left_out, is_written, needs_form, suspicion_of_name};
+pub use names::{is_left_out, is_written, suspicion_of_name};
 pub use origin::Origin;
 pub use strings::{begins_with_mark, layout_len};
 pub use warning::{Suspicion, Warning};

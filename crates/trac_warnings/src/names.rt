@@ -1,12 +1,10 @@
 //! Names of calls.
 ghost use Rattle.std.specs.Prelude.{◌≡◌};
 ghost use Rattle.trac_space.specs.Texts.{text_of_cells};
-ghost use Rattle.trac_warnings.specs.Suspicions.{begins_argument, is_left_out, is_written};
-ghost use Rattle.trac_warnings.specs.Suspicions.{needs_form, suspicion_of_name};
+ghost use Rattle.trac_warnings.specs.Suspicions.{begins_argument, is_left_out, is_written, suspicion_of_name};
 
 use crate::warning::Suspicion;
 use trac_functions::function::function_named;
-use trac_language::Function;
 use trac_space::{Cell, character_of};
 
 /// What is suspicious in the name of a call. None if it names a function, or is the null name of a remark.
@@ -37,23 +35,6 @@ pub fn is_left_out(name: &[Cell]) -> bool
         ),
         (b's' | b'f' | b'e', b'b') | (b't', b'n' | b'f') | (b'm', b'o')
     )
-}
-
-/// Whether a call of this function does nothing if no form has the name behind the function's.
-pub fn needs_form(function: Function) -> bool
-    ensures { result ≡ needs_form function }
-{
-    match function {
-        Function::SegmentString
-        | Function::PrintForm
-        | Function::CallForm
-        | Function::CallSegment
-        | Function::CallCharacter
-        | Function::CallNumber
-        | Function::InitialPart
-        | Function::CallRestore => true,
-        _ => false,
-    }
 }
 
 /// Whether a name stands in the input as an argument: behind a comma, and before another one or a right

@@ -11,12 +11,12 @@ ghost use Rattle.trac_warnings.specs.Watched.{Adds, Kept};
 
 use crate::arguments::{default_place, most_arguments, takes_branches};
 use crate::gaps::{body_of, stands_in_name};
-use crate::names::{is_written, needs_form, suspicion_of_name};
+use crate::names::{is_written, suspicion_of_name};
 use crate::origin::Origin;
 use crate::warning::{Suspicion, Warning};
 use std::alloc::{AllocError, Global};
 use trac_core::{Item, Machine, StoredForm};
-use trac_events::{argument, find_form};
+use trac_events::{argument, find_form, needs_form};
 use trac_functions::function::function_named;
 use trac_language::Function;
 use trac_space::{Cell, character_of};

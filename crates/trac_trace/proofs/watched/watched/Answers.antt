@@ -1,5 +1,5 @@
 use Rattle.std.proofs.Common.{arith}
-use Rattle.trac_trace.proofs.Failures.{last-failures}
+use Rattle.trac_events.proofs.Failures.{last-failures}
 use Rattle.trac_trace.proofs.watched.watched.Goals as goal
 
 pub returns-in-Some : goal.returns-in-Some

@@ -11,7 +11,7 @@ use Rattle.trac_space.specs.declared.cell.Cell.{Cell}
 use Rattle.trac_space.specs.Texts.{text_of_cells}
 use Rattle.trac_events.specs.Calls.{argument_of}
 use Rattle.trac_events.specs.Changes.{is_same}
-use Rattle.trac_warnings.specs.Suspicions.{needs_form}
+use Rattle.trac_events.specs.Changes.{needs_form}
 use Rattle.trac_views.specs.declared.calls.Oddity.{Oddity}
 use Rattle.trac_views.specs.declared.calls.Oddity.TheVariants.{NoFunction, NoForm, Default}
 

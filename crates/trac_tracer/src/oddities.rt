@@ -1,15 +1,14 @@
 //! What is odd about calls.
 ghost use Rattle.std.specs.Prelude.{◌≡◌, false};
-ghost use Rattle.trac_trace.specs.Odd.{asks_for_part, is_default, oddity_of};
-ghost use Rattle.trac_trace.specs.Odd.{has_number, takes_part};
+ghost use Rattle.trac_tracer.specs.Odd.{asks_for_part, is_default, oddity_of};
+ghost use Rattle.trac_tracer.specs.Odd.{has_number, takes_part};
 ghost use Rattle.trac_space.specs.Texts.{text_of_cells};
 
 use trac_core::Cell;
-use trac_events::{Named, argument, is_same};
+use trac_events::{Named, argument, is_same, needs_form};
 use trac_language::Function;
 use trac_space::character_of;
 use trac_views::Oddity;
-use trac_warnings::needs_form;
 
 /// What is odd about a call with these arguments and this value: no function has its name, no form
 /// has the name that its function needs, or its value is its default value. `named` is what it

@@ -1,5 +1,5 @@
 use Rattle.std.proofs.Common.{◌≡◌, ◌-◌, None}
-use Rattle.trac_trace.proofs.trace.trace.Given as goal
+use Rattle.trac_tracer.proofs.tracing.trace.Given as goal
 
 -- the run is not over, and no device has failed
 abbrev pub invariant-loop-last : goal.invariant-loop-last

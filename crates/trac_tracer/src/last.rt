@@ -1,6 +1,6 @@
 //! The last steps of which something was shown.
 ghost use Rattle.std.specs.Prelude.{◌≡◌, [], OnErr, OnOk, slice_index_or};
-ghost use Rattle.trac_trace.specs.Last.{with_step};
+ghost use Rattle.trac_tracer.specs.Last.{with_step};
 
 use std::alloc::{AllocError, Global};
 use std::collections::VecDeque;
@@ -15,7 +15,7 @@ pub struct LastSteps {
 
 impl Model for LastSteps {
     ghost use Rattle.std.specs.Prelude.{◌≤◌, length};
-    ghost use Rattle.trac_trace.specs.Last.{LastNumbers};
+    ghost use Rattle.trac_tracer.specs.Last.{LastNumbers};
 
     ghost Value = { LastNumbers };
 

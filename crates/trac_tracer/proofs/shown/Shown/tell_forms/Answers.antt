@@ -3,7 +3,7 @@ use Rattle.std.specs.Prelude.{if◌then◌else◌}
 use Rattle.std.specs.List.{flat_map}
 use Rattle.trac_views.specs.Told.{form_line, meta_text}
 use Rattle.trac_views.proofs.Texts.{on_ok}
-use Rattle.trac_trace.proofs.shown.Shown.tell_forms.Goals as goal
+use Rattle.trac_tracer.proofs.shown.Shown.tell_forms.Goals as goal
 
 -- two texts behind a first one, where they are asked for
 asked : (forms : Bool) (old one new a b : List ℕ) → forms ≡ true → one ≡ old ++ a → new ≡ one ++ b → new ≡ old ++ (if forms then a ++ b else [])
