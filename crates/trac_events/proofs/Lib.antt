@@ -1,3 +1,4 @@
 pub mod Depth
+pub mod Failures
 pub mod NextArgument
 mod Words

@@ -1,3 +1,1 @@
-pub mod Failures
 pub mod Command
-pub mod Placed

@@ -1,5 +1,4 @@
 pub mod CommandLine
 pub mod Last
 pub mod Odd
-pub mod Warned
 pub mod Statuses

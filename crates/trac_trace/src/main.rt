@@ -6,17 +6,16 @@
 #![tactic(auto)]
 
 ghost use Rattle.std.specs.Prelude.{◌≡◌};
-ghost use Rattle.trac_trace.specs.Statuses.{traced_status};
+ghost use Rattle.trac_trace.specs.Statuses.{traced_status, warned_status};
 
 mod check;
 mod errors;
 mod last;
 mod oddities;
+mod options;
 mod record;
 mod shown;
 mod trace;
-mod warnings;
-mod watched;
 mod words;
 
 use check::check_files;
@@ -24,11 +23,13 @@ use errors::Errors;
 use std::env;
 use std::io::{ErrorKind, Read, Write};
 use std::process::ExitCode;
+use options::Options;
+use trac_checker::watched;
 use trac_core::{Fate, Input, Output, RetryingReader, RetryingWriter, SliceSource};
 use trac_lines::{fate_status, refused, refused_words};
-use trac_views::{Options, push_text};
+use trac_space::make_block;
+use trac_views::{is_fault, push_text};
 use trace::{TraceError, trace, trace_last, write};
-use watched::watched;
 use words::{Words, words_from};
 
 // The status if the words can't be used.
@@ -131,12 +132,14 @@ fn show_warnings<W: Write>(
     let mut input = Vec::new(rt.alloc());
     let fails_at = read_all(&mut RetryingReader::new(rt.stdin()), &mut input)?;
     let mut source = SliceSource::new(&input, fails_at);
-    let watched = watched(rt.alloc(), &options.settings, &input, &mut source)?;
+    let mut block = make_block(rt.alloc(), options.settings.cells)?;
+    let steps = options.settings.steps;
+    let watched = watched(rt.alloc(), &mut block, steps, &input, &mut source)?;
     let mut lines = Vec::new(rt.alloc());
     watched.push_warnings(&mut lines, &[], &input)?;
     watched.push_fault(&mut lines)?;
     write(output, &lines)?;
-    Ok(watched.status())
+    Ok(warned_status(watched.report.fate, watched.len()))
 }
 
 // Reads the whole input, and gives the place at which reading failed, if it did. Fails only if
@@ -158,4 +161,15 @@ fn status(fate: Fate) -> u8
         return NO_MEMORY;
     }
     fate_status(fate)
+}
+
+// The status after a run with this fate and so many warnings: that of a fault, or 7 if there are any warnings.
+fn warned_status(fate: Fate, warnings: usize) -> u8
+    ensures { result ≡ warned_status fate warnings }
+{
+    if !is_fault(fate) && warnings > 0 {
+        7
+    } else {
+        status(fate)
+    }
 }

@@ -5,10 +5,11 @@ ghost use Rattle.trac_words.specs.CommandLine.{AreValuesOf, HasDefaults};
 ghost use Rattle.trac_trace.specs.CommandLine.{AreViewsOf, HasDefaultViews, flag_of, has_check, is_version};
 ghost use Rattle.trac_trace.specs.CommandLine.{options_len, place_of_check, trace_command, views_command};
 
+use crate::options::Options;
 use clap::error::ErrorKind;
 use clap::{Arg, ArgAction, Command, Error, value_parser};
 use std::alloc::{AllocError, Global};
-use trac_views::{MOST_LAST, MOST_WIDTH, Options, Views};
+use trac_views::{MOST_LAST, MOST_WIDTH, Views};
 use trac_words::{MOST_STEPS, Settings, number, numbers_command};
 
 /// What the words give.

@@ -1,6 +1,6 @@
 use Rattle.std.proofs.Common.{◌∙◌, ap, arith}
 use Rattle.trac_core.specs.Machine.{MachineState}
-use Rattle.trac_trace.proofs.Failures.{last-failures}
+use Rattle.trac_events.proofs.Failures.{last-failures}
 use Rattle.trac_trace.proofs.trace.trace.Goals as goal
 
 pub returns-in-Some : goal.returns-in-Some
