@@ -1,10 +1,13 @@
 //! Files that are checked, one after another.
+ghost use Rattle.std.specs.Prelude.{◌≡◌};
+ghost use Rattle.trac_trace.specs.Statuses.{worse};
 
-use crate::watched::{watched, worse};
-use crate::{NO_MEMORY, NOT_WRITTEN, say};
+use crate::{NO_MEMORY, NOT_WRITTEN, say, warned_status};
 use std::io::{ErrorKind, Write};
 use std::{fs, io};
+use trac_checker::watched;
 use trac_core::{RetryingWriter, SliceSource};
+use trac_space::make_block;
 use trac_tracer::{TraceError, write};
 use trac_words::Settings;
 
@@ -44,7 +47,8 @@ fn check_file<W: Write>(
         Err(error) => return unread(rt, name, &error),
     };
     let mut source = SliceSource::new(&input, None);
-    let watched = watched(rt.alloc(), settings, &input, &mut source)?;
+    let mut block = make_block(rt.alloc(), settings.cells)?;
+    let watched = watched(rt.alloc(), &mut block, settings.steps, &input, &mut source)?;
     let mut head = Vec::new(rt.alloc());
     head.extend_from_slice(name.as_bytes())?;
     head.extend_from_slice(b": ")?;
@@ -52,7 +56,7 @@ fn check_file<W: Write>(
     watched.push_warnings(&mut lines, &head, &input)?;
     watched.push_summary(&mut lines, name.as_bytes())?;
     write(output, &lines)?;
-    Ok(watched.status())
+    Ok(warned_status(watched.report.fate, watched.len()))
 }
 
 // Says why a file can't be read, and gives the status.
@@ -68,4 +72,23 @@ fn unread(rt: &HostRuntime, name: &str, error: &io::Error) -> Result<u8, TraceEr
     };
     say(rt, &["can't read ", name, ": ", why]);
     Ok(NOT_READ)
+}
+
+// The worse of two statuses. 0 is the best, then that of warnings; all others are worse.
+fn worse(a: u8, b: u8) -> u8
+    ensures { result ≡ worse a b }
+{
+    if a == 0 {
+        b
+    } else if b == 0 {
+        a
+    } else if a == 7 {
+        b
+    } else if b == 7 {
+        a
+    } else if a < b {
+        b
+    } else {
+        a
+    }
 }

@@ -6,12 +6,10 @@
 #![tactic(auto)]
 
 ghost use Rattle.std.specs.Prelude.{◌≡◌};
-ghost use Rattle.trac_trace.specs.Statuses.{traced_status};
+ghost use Rattle.trac_trace.specs.Statuses.{traced_status, warned_status};
 
 mod check;
 mod errors;
-mod warnings;
-mod watched;
 mod words;
 
 use check::check_files;
@@ -19,11 +17,12 @@ use errors::Errors;
 use std::env;
 use std::io::{ErrorKind, Read, Write};
 use std::process::ExitCode;
+use trac_checker::watched;
 use trac_core::{Fate, Input, Output, RetryingReader, RetryingWriter, SliceSource};
 use trac_lines::{fate_status, refused, refused_words};
-use trac_tracer::{TraceError, trace, trace_last, write};
-use trac_views::{Options, push_text};
-use watched::watched;
+use trac_space::make_block;
+use trac_tracer::{Options, TraceError, trace, trace_last, write};
+use trac_views::{is_fault, push_text};
 use words::{Words, words_from};
 
 // The status if the words can't be used.
@@ -126,12 +125,14 @@ fn show_warnings<W: Write>(
     let mut input = Vec::new(rt.alloc());
     let fails_at = read_all(&mut RetryingReader::new(rt.stdin()), &mut input)?;
     let mut source = SliceSource::new(&input, fails_at);
-    let watched = watched(rt.alloc(), &options.settings, &input, &mut source)?;
+    let mut block = make_block(rt.alloc(), options.settings.cells)?;
+    let steps = options.settings.steps;
+    let watched = watched(rt.alloc(), &mut block, steps, &input, &mut source)?;
     let mut lines = Vec::new(rt.alloc());
     watched.push_warnings(&mut lines, &[], &input)?;
     watched.push_fault(&mut lines)?;
     write(output, &lines)?;
-    Ok(watched.status())
+    Ok(warned_status(watched.report.fate, watched.len()))
 }
 
 // Reads the whole input, and gives the place at which reading failed, if it did. Fails only if
@@ -153,4 +154,15 @@ fn status(fate: Fate) -> u8
         return NO_MEMORY;
     }
     fate_status(fate)
+}
+
+// The status after a run with this fate and so many warnings: that of a fault, or 7 if there are any warnings.
+fn warned_status(fate: Fate, warnings: usize) -> u8
+    ensures { result ≡ warned_status fate warnings }
+{
+    if !is_fault(fate) && warnings > 0 {
+        7
+    } else {
+        status(fate)
+    }
 }

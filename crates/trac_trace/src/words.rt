@@ -8,7 +8,8 @@ ghost use Rattle.trac_trace.specs.CommandLine.{options_len, place_of_check, trac
 use clap::error::ErrorKind;
 use clap::{Arg, ArgAction, Command, Error, value_parser};
 use std::alloc::{AllocError, Global};
-use trac_views::{MOST_LAST, MOST_WIDTH, Options, Views};
+use trac_tracer::Options;
+use trac_views::{MOST_LAST, MOST_WIDTH, Views};
 use trac_words::{MOST_STEPS, Settings, number, numbers_command};
 
 /// What the words give.

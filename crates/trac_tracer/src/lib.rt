@@ -5,8 +5,10 @@
 
 mod last;
 mod oddities;
+mod options;
 mod record;
 mod shown;
 mod tracing;
 
+pub use options::Options;
 pub use tracing::{TraceError, Traced, trace, trace_last, write};

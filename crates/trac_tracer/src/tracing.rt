@@ -5,6 +5,7 @@ ghost use Rattle.trac_core.specs.Machine.{reported_input_failures};
 ghost use Rattle.trac_views.specs.Lines.{output_text};
 
 use crate::last::LastSteps;
+use crate::options::Options;
 use crate::record::{Record, Recording};
 use crate::shown::Shown;
 use std::alloc::{AllocError, Global};
@@ -13,7 +14,7 @@ use std::io::{Read, Write};
 use thiserror::Error;
 use trac_core::{Fate, Input, Machine, Output, SliceSource, Source};
 use trac_space::make_block;
-use trac_views::{Options, Printed, push_folded};
+use trac_views::{Printed, push_folded};
 
 /// Why a trace broke off.
 #[derive(Debug, Drop, Error)]

@@ -9,7 +9,7 @@ ghost use Rattle.trac_views.specs.Shown.{begin_of_tail, end_of_head, goes_on, sh
 ghost use Rattle.trac_views.specs.Shown.{step_on, turns_direction};
 
 use crate::lines::{push, push_byte};
-use std::alloc::{AllocError, Global};
+use std::alloc::{AllocError, Allocator, Global};
 use std::str;
 use trac_core::Cell;
 use trac_space::{Mode, character_of};
@@ -97,7 +97,7 @@ fn fits(width: usize, len: usize) -> bool
 
 /// Adds a text: visible ASCII and whole characters of UTF-8 as they are, except control characters.
 /// Escapes each other byte, as in the lines of steps. Fails only if memory runs out.
-pub fn push_text(line: &mut Vec<u8>, bytes: &[u8]) -> Result<(), AllocError>
+pub fn push_text<A: Allocator>(line: &mut Vec<u8, A>, bytes: &[u8]) -> Result<(), AllocError>
     ensures { OnOk result (line.new.items ≡ line.old.items ++ shown_text bytes.now) }
 {
     let mut left = 0;
@@ -123,7 +123,7 @@ fn left_at(left: u32, bytes: &[u8]) -> u32
 }
 
 // Adds a byte: as it is inside a whole character, else escaped.
-fn push_shown(line: &mut Vec<u8>, byte: u8, left: u32) -> Result<(), AllocError>
+fn push_shown<A: Allocator>(line: &mut Vec<u8, A>, byte: u8, left: u32) -> Result<(), AllocError>
     ensures { OnOk result (line.new.items ≡ line.old.items ++ shown_byte left byte) }
 {
     if left == 0 {

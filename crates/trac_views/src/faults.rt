@@ -10,7 +10,7 @@ ghost use Rattle.trac_views.specs.Told.{open_line, parts_text, place_text, skip_
 use crate::escapes::{opening, push_cells_cut};
 use crate::largest::push_largest_forms;
 use crate::lines::{push, push_number};
-use std::alloc::{AllocError, Global};
+use std::alloc::{AllocError, Allocator, Global};
 use trac_core::{Cell, Fate, Machine};
 use trac_events::Place;
 use trac_space::Mode;
@@ -59,7 +59,7 @@ fn push_where(lines: &mut Vec<u8>, step: u64, string: Place) -> Result<(), Alloc
 }
 
 /// Adds a place in the input. Fails only if memory runs out.
-pub fn push_place(lines: &mut Vec<u8>, place: Place) -> Result<(), AllocError>
+pub fn push_place<A: Allocator>(lines: &mut Vec<u8, A>, place: Place) -> Result<(), AllocError>
     ensures { OnOk result (lines.new.items ≡ lines.old.items ++ place_text place) }
 {
     push(lines, b"line ")?;

@@ -21,4 +21,4 @@ pub use faults::{is_fault, push_fault, push_place};
 pub use forms::{push_form, push_forms};
 pub use lines::{Step, head, push, push_byte, push_end, push_folded, push_number};
 pub use printed::Printed;
-pub use views::{MOST_LAST, MOST_WIDTH, Options, Views};
+pub use views::{MOST_LAST, MOST_WIDTH, Views};

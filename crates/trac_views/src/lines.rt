@@ -7,7 +7,7 @@ ghost use Rattle.trac_views.specs.Lines.{is_short, printed_text, step_text, stri
 
 use crate::views::Views;
 use itoa::Buffer;
-use std::alloc::AllocError;
+use std::alloc::{AllocError, Allocator};
 use trac_core::{Cell, Fate, Report, ScanningRule};
 use trac_space::Mode;
 
@@ -139,7 +139,7 @@ fn is_folded(byte: u8, at: u32, columns: u32) -> bool
 }
 
 /// Adds the last line, on how the run ended. Fails only if memory runs out.
-pub fn push_end(line: &mut Vec<u8>, report: &Report) -> Result<(), AllocError>
+pub fn push_end<A: Allocator>(line: &mut Vec<u8, A>, report: &Report) -> Result<(), AllocError>
     ensures { OnOk result (line.new.items ≡ line.old.items
         ++ end_text report.now.fate report.now.steps report.now.peak) }
 {
@@ -183,14 +183,14 @@ fn name(rule: ScanningRule) -> &'static [u8]
 }
 
 /// Adds a text. Fails only if memory runs out.
-pub fn push(line: &mut Vec<u8>, text: &[u8]) -> Result<(), AllocError>
+pub fn push<A: Allocator>(line: &mut Vec<u8, A>, text: &[u8]) -> Result<(), AllocError>
     ensures { OnOk result (line.new.items ≡ line.old.items ++ text.now) }
 {
     line.extend_from_slice(text)
 }
 
 /// Adds a number. Fails only if memory runs out.
-pub fn push_number(line: &mut Vec<u8>, n: u64) -> Result<(), AllocError>
+pub fn push_number<A: Allocator>(line: &mut Vec<u8, A>, n: u64) -> Result<(), AllocError>
     ensures { OnOk result (line.new.items ≡ line.old.items ++ decimal n) }
 {
     line.extend_from_slice(Buffer::new().format(n).as_bytes())
@@ -265,7 +265,7 @@ fn push_bytes(line: &mut Vec<u8>, bytes: &[u8]) -> Result<(), AllocError>
 
 /// Adds a byte: layout and the reverse solidus behind a reverse solidus, and a byte that is no
 /// visible character by its number. Fails only if memory runs out.
-pub fn push_byte(line: &mut Vec<u8>, byte: u8) -> Result<(), AllocError>
+pub fn push_byte<A: Allocator>(line: &mut Vec<u8, A>, byte: u8) -> Result<(), AllocError>
     ensures { OnOk result (line.new.items ≡ line.old.items ++ byte_text byte) }
 {
     match byte {
@@ -279,7 +279,7 @@ pub fn push_byte(line: &mut Vec<u8>, byte: u8) -> Result<(), AllocError>
 }
 
 // Adds the number of a byte, in base 16.
-fn push_number_16(line: &mut Vec<u8>, byte: u8) -> Result<(), AllocError>
+fn push_number_16<A: Allocator>(line: &mut Vec<u8, A>, byte: u8) -> Result<(), AllocError>
     ensures { OnOk result (line.new.items ≡ line.old.items ++ number_16 byte) }
 {
     let high = DIGITS[usize::from(byte / 16)];

@@ -2,8 +2,6 @@
 ghost use Rattle.std.specs.Prelude.{◌≡◌, ◌&&◌, ◌+◌, ◌-◌, ◌^◌, max, min, nat_le, false};
 ghost use Rattle.trac_views.specs.Told.{has_steps, has_strings};
 
-use trac_words::Settings;
-
 /// The most steps before the end that `--last` can show, this processor's own choice.
 pub const MOST_LAST: u64 = 1_000_000;
 /// The widest that `--width` can make a text, and `--columns` a line, this processor's own choice.
@@ -28,13 +26,6 @@ pub struct Views {
     pub forms: bool,
     /// Only what is suspicious is shown.
     pub warn: bool,
-}
-
-/// What the words of the program give: the settings of the run, and what is shown of it.
-#[derive(Clone, Copy)]
-pub struct Options {
-    pub settings: Settings,
-    pub views: Views,
 }
 
 impl Views {

@@ -5,19 +5,19 @@ use Rattle.std.specs.Prelude.{Err, Ok, OnOk, Result}
 use Rattle.trac_warnings.specs.Watched.{Adds, Kept, said}
 use Rattle.trac_warnings.specs.declared.warning.Warning.{Warning}
 
-pub kept_same : (a b : List Warning) → b ≡ a → Kept a b
+pub kept_same : {A : Type 0} (a b : List (Warning A)) → b ≡ a → Kept a b
 unfolding Kept
 kept_same a b is = ([], is ∙ sym (append-nil a))
 
-pub kept_more : (a b c : List Warning) → Kept a b → Kept b c → Kept a c
+pub kept_more : {A : Type 0} (a b c : List (Warning A)) → Kept a b → Kept b c → Kept a c
 unfolding Kept
-kept_more a b c k l = (k.0 ++ l.0, l.1 ∙ ap (λ (x : List Warning). x ++ l.0) k.1 ∙ append_assoc a k.0 l.0)
+kept_more {A} a b c k l = (k.0 ++ l.0, l.1 ∙ ap (λ (x : List (Warning A)). x ++ l.0) k.1 ∙ append_assoc a k.0 l.0)
 
-pub kept_pushed : (a b : List Warning) (x : Warning) → b ≡ a ++ x ∷ [] → Kept a b
+pub kept_pushed : {A : Type 0} (a b : List (Warning A)) (x : Warning A) → b ≡ a ++ x ∷ [] → Kept a b
 unfolding Kept
 kept_pushed a b x is = (x ∷ [], is)
 
-pub said_pushed : (a b : List Warning) (x : Warning) → b ≡ a ++ x ∷ [] → Adds a b (said x)
+pub said_pushed : {A : Type 0} (a b : List (Warning A)) (x : Warning A) → b ≡ a ++ x ∷ [] → Adds a b (said x)
 said_pushed a b x is = ap (map said) is ∙ map-append said a (x ∷ [])
 
 pub on_ok : {A E : Type 0} (r : Result A E) (P Q : Type 0) → (P → Q) → OnOk r P → OnOk r Q

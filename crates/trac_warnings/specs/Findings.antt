@@ -2,7 +2,7 @@
 use Rattle.std.specs.Prelude.{ℕ, ◌&&◌, Bool, true, false, List, map, Option, None, Some}
 use Rattle.std.specs.BTreeSet.{BTreeSet, contains_by, insert_key}
 use Rattle.std.specs.Cmp.Lexicographic.{slice_cmp}
-use Rattle.std.specs.Global.{Vec}
+use Rattle.std.specs.declared.vec.Vec.{Vec}
 use Rattle.std.specs.Ordering.{nat_cmp}
 use Rattle.trac_warnings.specs.Origins.{more}
 use Rattle.trac_warnings.specs.declared.warning.Suspicion.{Suspicion}
@@ -20,15 +20,15 @@ is_no_form NoForm = true
 is_no_form _ = false
 
 -- whether a text is among these
-abbrev pub is_among : List ℕ → BTreeSet (Vec ℕ) → Bool
+abbrev pub is_among : {A : Type 0} → List ℕ → BTreeSet (Vec ℕ A) → Bool
 is_among text texts = contains_by (λ other. slice_cmp nat_cmp text other.items) texts
 
 -- whether a warning says that no form has a name, and the name is among these
-abbrev pub is_repeated : Warning → BTreeSet (Vec ℕ) → Bool
+abbrev pub is_repeated : {A : Type 0} → Warning A → BTreeSet (Vec ℕ A) → Bool
 is_repeated warning missing = is_no_form warning.suspicion && is_among warning.text.items missing
 
 -- the texts, in order
-abbrev pub texts_of : BTreeSet (Vec ℕ) → List (List ℕ)
+abbrev pub texts_of : {A : Type 0} → BTreeSet (Vec ℕ A) → List (List ℕ)
 texts_of texts = map (λ text. text.items) texts.keys
 
 -- the texts, with one at its place in the order unless it is there

@@ -24,11 +24,11 @@ use Rattle.trac_warnings.specs.declared.watch.OpenString.{OpenString}
 use Rattle.trac_warnings.specs.declared.watch.Watch.{Watch}
 
 -- where the first character of the active string was written, and where it is read next where nothing is active
-abbrev pub place_of : Watch → Origin
+abbrev pub place_of : {A : Type 0} → Watch A → Origin
 place_of watch = origin_at watch.read (first_origin (reverse watch.runs.items))
 
 -- the string that was read last, of those that are being scanned
-abbrev pub open_string : Watch → Option OpenString
+abbrev pub open_string : {A : Type 0} → Watch A → Option OpenString
 open_string watch = slice_get watch.strings.items (length watch.strings.items - 1)
 
 -- whether a right parenthesis stands in a string, and so many open calls hold none of that string
@@ -37,15 +37,15 @@ is_outside None active calls = false
 is_outside (Some string) active calls = nat_lt string.rest active && nat_le calls string.depth
 
 -- whether the right parenthesis before so many cells of the active string ends no call of its string
-abbrev pub is_stray : Watch → ℕ → Bool
+abbrev pub is_stray : {A : Type 0} → Watch A → ℕ → Bool
 is_stray watch active = is_outside (open_string watch) active (length watch.calls.items)
 
 -- the warning of that parenthesis
-abbrev pub stray_warnings : Watch → ℕ → List Said
+abbrev pub stray_warnings : {A : Type 0} → Watch A → ℕ → List Said
 stray_warnings watch active = where_so (is_stray watch active) NoCall (place_of watch) []
 
 -- where the innermost call was written, and where its right parenthesis was, if the call isn't known
-abbrev pub begin_of : Watch → Origin
+abbrev pub begin_of : {A : Type 0} → Watch A → Origin
 begin_of watch = unwrap_or (slice_get watch.calls.items (length watch.calls.items - 1)) (place_of watch)
 
 -- how many calls were open when a string was read
@@ -59,7 +59,7 @@ is_beside None begin = false
 is_beside (Some outer) begin = option_eq nat_eq outer.form begin.form
 
 -- whether the innermost call, which was written here, stands in another one of its string and of its text
-abbrev pub is_inside : Watch → Origin → Bool
+abbrev pub is_inside : {A : Type 0} → Watch A → Origin → Bool
 is_inside watch begin =
     nat_lt (more (depth_of (open_string watch)) 1) (length watch.calls.items)
     && is_beside (slice_get watch.calls.items (length watch.calls.items - 2)) begin
@@ -76,7 +76,8 @@ around_of (Some outer) neutral mark = behind_mark (take mark neutral) outer.plac
 -- a call before it is performed, whose mark stands at a place of a neutral string, and the call around it has
 -- its mark at another one
 pub record IsEnding
-    (watch : Watch) (neutral : List Cell) (outer : Option CallMark) (mark : ℕ) (known : List ℕ) (ending : Ending)
+    {A : Type 0} (watch : Watch A) (neutral : List Cell) (outer : Option CallMark) (mark : ℕ) (known : List ℕ)
+    (ending : Ending)
     : Type 0 where
   pub arguments_are : ending.arguments.now ≡ behind_mark neutral mark
   pub begin_is : ending.begin ≡ begin_of watch
@@ -86,28 +87,32 @@ pub record IsEnding
   pub input_is : ending.input.now ≡ known
 
 -- the warnings are added of a call whose mark stands at this place
-abbrev pub LooksAtMark : ℕ → Watch → MachineState → List ℕ → (old new : List Warning) → Type 0
+abbrev pub LooksAtMark :
+    {A : Type 0} → ℕ → Watch A → MachineState → List ℕ → (old new : List (Warning A)) → Type 0
 LooksAtMark mark watch m input old new =
     (neutral : List Cell) × ((ending : Ending) × ((neutral_of neutral ≡ neutral_in m.memory)
     × (IsEnding watch neutral (mark_of 1 (neutral_in m.memory)) mark input ending
     × Warns old new (call_warnings m.memory.forms ending))))
 
 -- the same, where such a mark stands
-abbrev pub LooksAtCall : Option CallMark → Watch → MachineState → List ℕ → (old new : List Warning) → Type 0
+abbrev pub LooksAtCall :
+    {A : Type 0} → Option CallMark → Watch A → MachineState → List ℕ → (old new : List (Warning A)) → Type 0
 LooksAtCall None watch m input old new = new ≡ old
 LooksAtCall (Some mark) watch m input old new = LooksAtMark mark.place watch m input old new
 
 -- the warning is added of a right parenthesis, and then those of the call that it ends
-abbrev pub LooksAtEnd : Watch → MachineState → List ℕ → (old new : List Warning) → Type 0
-LooksAtEnd watch m input old new =
-    (stray : List Warning) × (Warns old stray (stray_warnings watch (length m.memory.active))
+abbrev pub LooksAtEnd :
+    {A : Type 0} → Watch A → MachineState → List ℕ → (old new : List (Warning A)) → Type 0
+LooksAtEnd {A} watch m input old new =
+    (stray : List (Warning A)) × (Warns old stray (stray_warnings watch (length m.memory.active))
     × LooksAtCall (mark_of 0 (neutral_in m.memory)) watch m input stray new)
 
 -- by the rule of a step, these are the warnings before it
-abbrev pub LooksBy : ScanningRule → Watch → MachineState → List ℕ → List Warning → Type 0
+abbrev pub LooksBy :
+    {A : Type 0} → ScanningRule → Watch A → MachineState → List ℕ → List (Warning A) → Type 0
 LooksBy row.EndOfCall watch m input new = LooksAtEnd watch m input [] new
 LooksBy _ watch m input new = new ≡ []
 
 -- the warnings before a step of a machine, of whose input these bytes are known
-abbrev pub Looks : Watch → MachineState → List ℕ → List Warning → Type 0
+abbrev pub Looks : {A : Type 0} → Watch A → MachineState → List ℕ → List (Warning A) → Type 0
 Looks watch m input new = LooksBy (row_of (rule m.memory.active)) watch m input new

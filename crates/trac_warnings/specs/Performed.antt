@@ -228,5 +228,5 @@ abbrev pub call_warnings : List Form → Ending → List Said
 call_warnings forms ending = function_warnings (function_of ending.arguments.now) forms ending
 
 -- warnings are added, which say this
-abbrev pub Warns : List Warning → List Warning → List Said → Type 0
+abbrev pub Warns : {A : Type 0} → List (Warning A) → List (Warning A) → List Said → Type 0
 Warns old new more = map said new ≡ map said old ++ more

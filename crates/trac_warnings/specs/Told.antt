@@ -35,7 +35,7 @@ rest_of None = 0
 rest_of (Some string) = string.rest
 
 -- the warning of the characters that a step drops, up to the end of the string that is scanned
-abbrev pub drop_warnings : Watch → Before → List Said
+abbrev pub drop_warnings : {A : Type 0} → Watch A → Before → List Said
 drop_warnings watch before =
     if before.drops == 0 then []
     else record {
@@ -57,23 +57,23 @@ is_arithmetic _ = false
 
 -- whether the call that a step performed gives no default value and has a null value: behind the step the
 -- strings have so many cells
-abbrev pub is_null : Watch → Before → (active neutral : ℕ) → Bool
+abbrev pub is_null : {A : Type 0} → Watch A → Before → (active neutral : ℕ) → Bool
 is_null watch before active neutral =
     (length (argument_of watch.arguments.items 3) == 0)
     && (nat_lt active before.active && nat_le neutral (watch.neutral - length watch.arguments.items - 1))
 
 -- where the innermost call was written, and else where its value was
-abbrev pub call_place : Watch → Origin
+abbrev pub call_place : {A : Type 0} → Watch A → Origin
 call_place watch = unwrap_or (slice_get watch.calls.items (length watch.calls.items - 1)) watch.value
 
 -- the warning of a call of arithmetic that has no result
-abbrev pub result_warnings : Watch → Before → (active neutral : ℕ) → List Said
+abbrev pub result_warnings : {A : Type 0} → Watch A → Before → (active neutral : ℕ) → List Said
 result_warnings watch before active neutral =
     where_so (is_arithmetic (function_of watch.arguments.items) && is_null watch before active neutral)
     NoResult (call_place watch) (argument_of watch.arguments.items 0)
 
 -- the warnings of what a step did, by its rule
-abbrev pub rule_warnings : ScanningRule → Watch → Before → (active neutral : ℕ) → List Said
+abbrev pub rule_warnings : {A : Type 0} → ScanningRule → Watch A → Before → (active neutral : ℕ) → List Said
 rule_warnings row.Protection watch before active neutral = drop_warnings watch before
 rule_warnings row.EndOfCall watch before active neutral = result_warnings watch before active neutral
 rule_warnings _ watch before active neutral = []
@@ -83,7 +83,7 @@ abbrev pub without_last : {A : Type 0} → List A → List A
 without_last items = take (length items - 1) items
 
 -- where the calls were written that are open behind a step by a rule
-abbrev pub calls_behind : ScanningRule → Watch → List Origin
+abbrev pub calls_behind : {A : Type 0} → ScanningRule → Watch A → List Origin
 calls_behind row.Idling watch = []
 calls_behind row.ActiveCall watch = watch.calls.items ++ place_of watch ∷ []
 calls_behind row.NeutralCall watch = watch.calls.items ++ place_of watch ∷ []
@@ -96,7 +96,7 @@ lowered depth [] = []
 lowered depth (string ∷ strings) = record string { depth = min string.depth depth } ∷ strings
 
 -- the strings that are scanned behind a step by a rule, the last first
-abbrev pub strings_behind : ScanningRule → Watch → List OpenString
+abbrev pub strings_behind : {A : Type 0} → ScanningRule → Watch A → List OpenString
 strings_behind row.Idling watch = []
 strings_behind row.EndOfCall watch =
     lowered (length (without_last watch.calls.items)) (reverse watch.strings.items)
@@ -192,14 +192,14 @@ not_ended active (string ∷ strings) =
     if nat_lt string.rest active then string ∷ strings else not_ended active strings
 
 -- the strings that are scanned behind a step, the last first, before those leave that end
-abbrev pub strings_scanned : Before → List ℕ → (len active : ℕ) → Watch → List OpenString
+abbrev pub strings_scanned : {A : Type 0} → Before → List ℕ → (len active : ℕ) → Watch A → List OpenString
 strings_scanned before input len active watch =
     strings_read before.awaits before input watch.read len active
     (length (calls_behind before.rule watch)) (strings_behind before.rule watch)
 
 -- all that is said behind a step that was done, whose value has so many characters, and behind which the
 -- strings have so many cells
-abbrev pub told_behind : Before → List ℕ → (len active neutral : ℕ) → Watch → List Said
+abbrev pub told_behind : {A : Type 0} → Before → List ℕ → (len active neutral : ℕ) → Watch A → List Said
 told_behind before input len active neutral watch =
     ended before.rule active (place_of watch) (calls_behind before.rule watch)
     (map said watch.warnings.items ++ rule_warnings before.rule watch before active neutral
@@ -207,7 +207,7 @@ told_behind before input len active neutral watch =
     (strings_scanned before input len active watch)
 
 -- a step was done: its warnings are added, and the calls and the strings are those that are open then
-abbrev pub TellsAll : Before → MachineState → List ℕ → (old new : Watch) → Type 0
+abbrev pub TellsAll : {A : Type 0} → Before → MachineState → List ℕ → (old new : Watch A) → Type 0
 TellsAll before m input old new =
     (value : List Cell) × ((neutral : List Cell) × (SeesValue m before.call before.active value
     × ((neutral_of neutral ≡ neutral_in m.memory)

@@ -17,7 +17,7 @@ use Rattle.trac_warnings.specs.declared.warning.Warning.{Warning}
 use Rattle.trac_warnings.specs.declared.watch.Watch.{Watch}
 
 -- nothing was seen yet
-abbrev pub IsFresh : Watch → Type 0
+abbrev pub IsFresh : {A : Type 0} → Watch A → Type 0
 IsFresh watch = (watch.warnings.items ≡ []) × (watch.read ≡ 0) × (watch.runs.items ≡ [])
     × (watch.strings.items ≡ []) × (watch.calls.items ≡ []) × (watch.commas.items ≡ [])
 
@@ -28,24 +28,24 @@ pub record Said : Type 0 where
   pub count : ℕ
   pub text : Text
 
-abbrev pub said : Warning → Said
+abbrev pub said : {A : Type 0} → Warning A → Said
 said w = record { origin = w.origin; suspicion = w.suspicion; count = w.count; text = w.text.items }
 
 -- another warning is added, which says this
-abbrev pub Adds : List Warning → List Warning → Said → Type 0
+abbrev pub Adds : {A : Type 0} → List (Warning A) → List (Warning A) → Said → Type 0
 Adds old new more = map said new ≡ map said old ++ more ∷ []
 
 -- the earlier warnings stay, in front of others
-unfoldable pub Kept : List Warning → List Warning → Type 0
-Kept old new = (more : List Warning) × (new ≡ old ++ more)
+unfoldable pub Kept : {A : Type 0} → List (Warning A) → List (Warning A) → Type 0
+Kept {A} old new = (more : List (Warning A)) × (new ≡ old ++ more)
 
 -- a step that was not done leaves no warning, and all places as they were
-abbrev pub Stays : Watch → Watch → Type 0
+abbrev pub Stays : {A : Type 0} → Watch A → Watch A → Type 0
 Stays old new = (new.warnings.items ≡ []) × (new.runs.items ≡ old.runs.items) × (new.read ≡ old.read)
     × (new.calls.items ≡ old.calls.items)
 
 -- what was seen of the run before stays: what it read, what it scans, and which forms it defined
-abbrev pub KeepsPlaces : Watch → Watch → Type 0
+abbrev pub KeepsPlaces : {A : Type 0} → Watch A → Watch A → Type 0
 KeepsPlaces old new = new ≡ record old {
   warnings = new.warnings;
   arguments = new.arguments;
@@ -54,15 +54,15 @@ KeepsPlaces old new = new ≡ record old {
 }
 
 -- another form may be known, and all else stays
-abbrev pub KeepsNames : Watch → Watch → Type 0
+abbrev pub KeepsNames : {A : Type 0} → Watch A → Watch A → Type 0
 KeepsNames old new = new ≡ record old { names = new.names; written = new.written }
 
 -- another warning may be there, and all else stays
-abbrev pub KeepsRun : Watch → Watch → Type 0
+abbrev pub KeepsRun : {A : Type 0} → Watch A → Watch A → Type 0
 KeepsRun old new = new ≡ record old { warnings = new.warnings }
 
 -- a step moves the origins of the active string; what it reads was written where the input was read
-abbrev pub Moves : Before → MachineState → Watch → Watch → Type 0
+abbrev pub Moves : {A : Type 0} → Before → MachineState → Watch A → Watch A → Type 0
 Moves before m old new = (value : Origin)
     × ((reads before.awaits ≡ true → value ≡ in_input old.read)
     × (reverse new.runs.items ≡ moved before.rule before.active (length m.memory.active) value

@@ -5,21 +5,21 @@ ghost use Rattle.trac_warnings.specs.Findings.{is_among, is_no_form, is_repeated
 ghost use Rattle.trac_warnings.specs.Findings.{texts_of, with_text};
 
 use crate::warning::{Suspicion, Warning};
-use std::alloc::{AllocError, Global};
+use std::alloc::{AllocError, Allocator};
 use std::collections::{BTreeMap, BTreeSet};
 
 /// Warnings, each kept once.
 #[derive(Drop)]
-pub struct Findings {
+pub struct Findings<A: Allocator> {
     // How often each warning was given, in the order of the places.
-    counts: BTreeMap<Warning, u64>,
+    counts: BTreeMap<Warning<A>, u64, A>,
     // The names that no form has and that a warning was kept of.
-    missing: BTreeSet<Vec<u8>>,
+    missing: BTreeSet<Vec<u8, A>, A>,
 }
 
-impl Findings {
+impl<A: Allocator + Copy> Findings<A> {
     /// No warning yet.
-    pub fn new(alloc: Global) -> Findings
+    pub fn new(alloc: A) -> Findings<A>
         ensures { result.counts.entries ≡ [] }
     {
         Findings {
@@ -30,12 +30,12 @@ impl Findings {
 
     /// Adds a warning. Of a name that no form has only the first warning is kept, wherever the
     /// others stand. Fails only if memory runs out.
-    pub fn add(&mut self, warning: Warning) -> Result<(), AllocError>
+    pub fn add(&mut self, warning: Warning<A>) -> Result<(), AllocError>
         ensures repeated { is_repeated warning self.old.missing ≡ true →
             self.new.counts.entries ≡ self.old.counts.entries }
         ensures counted { is_repeated warning self.old.missing ≡ false →
-            OnOk result (self.new.counts.entries ≡ insert_entry ⟦<Warning as Ord>⟧.cmp self.old.counts.entries
-            warning (once_more (get ⟦<Warning as Ord>⟧.cmp self.old.counts warning))) }
+            OnOk result (self.new.counts.entries ≡ insert_entry ⟦<Warning<A> as Ord>⟧.cmp self.old.counts.entries
+            warning (once_more (get ⟦<Warning<A> as Ord>⟧.cmp self.old.counts warning))) }
         ensures others { is_no_form warning.suspicion ≡ false → self.new.missing ≡ self.old.missing }
         ensures missing { is_no_form warning.suspicion ≡ true → OnOk result (texts_of self.new.missing ≡
             with_text warning.text.items (texts_of self.old.missing)) }
@@ -61,7 +61,7 @@ impl Findings {
     }
 
     /// Each warning with how often it was given, in the order of their places.
-    pub fn counts(&self) -> &BTreeMap<Warning, u64>
+    pub fn counts(&self) -> &BTreeMap<Warning<A>, u64, A>
         ensures { result.now ≡ self.now.counts }
     {
         &self.counts
@@ -69,7 +69,10 @@ impl Findings {
 }
 
 // Adds a name. False if it was there before.
-fn note_name(names: &mut BTreeSet<Vec<u8>>, name: &Vec<u8>) -> Result<bool, AllocError>
+fn note_name<A: Allocator + Copy>(
+    names: &mut BTreeSet<Vec<u8, A>, A>,
+    name: &Vec<u8, A>,
+) -> Result<bool, AllocError>
     ensures value { IfOk result (λ is_new. is_new ≡ not (is_among name.now.items names.old)) }
     ensures noted { OnOk result (texts_of names.new ≡ with_text name.now.items (texts_of names.old)) }
 {
@@ -78,9 +81,13 @@ fn note_name(names: &mut BTreeSet<Vec<u8>>, name: &Vec<u8>) -> Result<bool, Allo
 }
 
 // Counts a warning once more.
-fn count(counts: &mut BTreeMap<Warning, u64>, warning: Warning) -> Result<(), AllocError>
-    ensures { OnOk result (counts.new.entries ≡ insert_entry ⟦<Warning as Ord>⟧.cmp counts.old.entries
-        warning (once_more (get ⟦<Warning as Ord>⟧.cmp counts.old warning))) }
+#[tactic(auto, using(crate::proofs::Noted::with_one))]
+fn count<A: Allocator + Copy>(
+    counts: &mut BTreeMap<Warning<A>, u64, A>,
+    warning: Warning<A>,
+) -> Result<(), AllocError>
+    ensures { OnOk result (counts.new.entries ≡ insert_entry ⟦<Warning<A> as Ord>⟧.cmp counts.old.entries
+        warning (once_more (get ⟦<Warning<A> as Ord>⟧.cmp counts.old warning))) }
 {
     let times = counts.entry(warning)?.or_insert(0);
     *times = times.saturating_add(1);

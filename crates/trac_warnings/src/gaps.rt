@@ -4,7 +4,7 @@ ghost use Rattle.trac_space.specs.Texts.{text_of_cells};
 ghost use Rattle.trac_warnings.specs.Gaps.{begins, begins_in_name, behind_opening, ends_name};
 ghost use Rattle.trac_warnings.specs.Gaps.{is_character, stands_in_name};
 
-use std::alloc::{AllocError, Global};
+use std::alloc::{AllocError, Allocator};
 use trac_core::{Item, StoredForm};
 use trac_space::{Cell, character_of};
 
@@ -88,7 +88,7 @@ fn ends_name(item: &Item) -> bool
 }
 
 /// The body of a form. Fails only if memory runs out.
-pub fn body_of(alloc: Global, form: &StoredForm) -> Result<Vec<Item>, AllocError>
+pub fn body_of<A: Allocator>(alloc: A, form: &StoredForm) -> Result<Vec<Item, A>, AllocError>
     ensures { IfOk result (λ items. items.items ≡ form.now.body) }
 {
     let mut items = Vec::new(alloc);

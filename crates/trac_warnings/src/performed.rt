@@ -14,7 +14,7 @@ use crate::gaps::{body_of, stands_in_name};
 use crate::names::{is_written, suspicion_of_name};
 use crate::origin::Origin;
 use crate::warning::{Suspicion, Warning};
-use std::alloc::{AllocError, Global};
+use std::alloc::{AllocError, Allocator};
 use trac_core::{Item, Machine, StoredForm};
 use trac_events::{argument, find_form, needs_form};
 use trac_functions::function::function_named;
@@ -39,9 +39,9 @@ pub struct Ending<'a> {
 
 /// Adds what is suspicious in a call that a machine is about to perform. An error means that memory ran out.
 #[tactic(auto, using(crate::proofs::Keeping::keeping))]
-pub fn look_at_call(
-    warnings: &mut Vec<Warning>,
-    alloc: Global,
+pub fn look_at_call<A: Allocator + Copy>(
+    warnings: &mut Vec<Warning<A>, A>,
+    alloc: A,
     machine: &Machine,
     ending: &Ending,
 ) -> Result<(), AllocError>
@@ -78,9 +78,9 @@ fn suspicion_of_call(machine: &Machine, name: &[Cell]) -> Option<Suspicion>
 // Looks at the first argument that a function ignores, if it isn't null and was written in the same text as
 // the call.
 #[tactic(auto, using(crate::proofs::Keeping::keeping))]
-fn look_at_ignored(
-    warnings: &mut Vec<Warning>,
-    alloc: Global,
+fn look_at_ignored<A: Allocator + Copy>(
+    warnings: &mut Vec<Warning<A>, A>,
+    alloc: A,
     function: Function,
     ending: &Ending,
 ) -> Result<(), AllocError>
@@ -114,9 +114,9 @@ fn ignored_place(most: u32, ending: &Ending) -> Option<Origin>
 
 // Looks at what the call around it makes of a call that ends the run or reads.
 #[tactic(auto, using(crate::proofs::Keeping::keeping))]
-fn look_at_nesting(
-    warnings: &mut Vec<Warning>,
-    alloc: Global,
+fn look_at_nesting<A: Allocator + Copy>(
+    warnings: &mut Vec<Warning<A>, A>,
+    alloc: A,
     function: Function,
     ending: &Ending,
 ) -> Result<(), AllocError>
@@ -180,9 +180,9 @@ pub fn commas_in(cells: &[Cell]) -> u32
 
 // Looks at the form that a call names.
 #[tactic(auto, using(crate::proofs::Keeping::keeping))]
-fn look_at_form(
-    warnings: &mut Vec<Warning>,
-    alloc: Global,
+fn look_at_form<A: Allocator + Copy>(
+    warnings: &mut Vec<Warning<A>, A>,
+    alloc: A,
     machine: &Machine,
     function: Function,
     ending: &Ending,
@@ -246,9 +246,9 @@ fn is_passed(arguments: &[Cell]) -> bool
 
 // Looks at the form whose body a call takes apart or segments.
 #[tactic(auto, using(crate::proofs::Keeping::keeping))]
-fn look_at_body(
-    warnings: &mut Vec<Warning>,
-    alloc: Global,
+fn look_at_body<A: Allocator + Copy>(
+    warnings: &mut Vec<Warning<A>, A>,
+    alloc: A,
     function: Function,
     form: &StoredForm,
     ending: &Ending,
@@ -297,9 +297,9 @@ fn takes_part(function: Function) -> bool
 
 // Looks at the texts of a call of `ss`, whose form has these items.
 #[tactic(auto, using(crate::proofs::Keeping::keeping))]
-fn look_at_texts(
-    warnings: &mut Vec<Warning>,
-    alloc: Global,
+fn look_at_texts<A: Allocator + Copy>(
+    warnings: &mut Vec<Warning<A>, A>,
+    alloc: A,
     items: &[Item],
     ending: &Ending,
 ) -> Result<(), AllocError>
@@ -317,9 +317,9 @@ fn look_at_texts(
 // Looks at the text behind a cell of the arguments, where argument `k` stands before it. Gives the argument that
 // stands behind the cell.
 #[tactic(auto, using(crate::proofs::Keeping::keeping))]
-fn look_at_text(
-    warnings: &mut Vec<Warning>,
-    alloc: Global,
+fn look_at_text<A: Allocator + Copy>(
+    warnings: &mut Vec<Warning<A>, A>,
+    alloc: A,
     items: &[Item],
     ending: &Ending,
     cell: &Cell,
@@ -343,9 +343,9 @@ fn look_at_text(
 
 /// Adds a warning. An error means that memory ran out.
 #[tactic(auto, using(crate::proofs::Keeping::saying))]
-pub fn warn(
-    warnings: &mut Vec<Warning>,
-    alloc: Global,
+pub fn warn<A: Allocator + Copy>(
+    warnings: &mut Vec<Warning<A>, A>,
+    alloc: A,
     suspicion: Suspicion,
     origin: Origin,
     cells: &[Cell],
@@ -369,7 +369,7 @@ pub fn warn(
 }
 
 /// The characters of cells. An error means that memory ran out.
-pub fn characters_of(alloc: Global, cells: &[Cell]) -> Result<Vec<u8>, AllocError>
+pub fn characters_of<A: Allocator>(alloc: A, cells: &[Cell]) -> Result<Vec<u8, A>, AllocError>
     ensures { IfOk result (λ text. text.items ≡ text_of_cells cells.now) }
 {
     let mut text = Vec::new(alloc);

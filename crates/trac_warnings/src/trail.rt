@@ -3,7 +3,7 @@ ghost use Rattle.std.specs.Prelude.{◌≡◌, OnOk, OnErr, reverse};
 ghost use Rattle.trac_warnings.specs.Origins.{first_origin, pushed, shortened, taken};
 
 use crate::origin::Origin;
-use std::alloc::AllocError;
+use std::alloc::{AllocError, Allocator};
 
 /// Characters that stand side by side in the active string and were written side by side.
 #[derive(Clone, Copy, Debug, PartialEq, Eq)]
@@ -37,7 +37,11 @@ pub fn first_origin(runs: &[Run]) -> Option<Origin>
 }
 
 /// Puts characters in front. An error means that memory ran out; then nothing has changed.
-pub fn push_run(runs: &mut Vec<Run>, origin: Origin, len: usize) -> Result<(), AllocError>
+pub fn push_run<A: Allocator>(
+    runs: &mut Vec<Run, A>,
+    origin: Origin,
+    len: usize,
+) -> Result<(), AllocError>
     ensures ok { OnOk result (reverse runs.new.items ≡ pushed origin len (reverse runs.old.items)) }
     ensures err { OnErr result (runs.new.items ≡ runs.old.items) }
 {
@@ -49,7 +53,7 @@ pub fn push_run(runs: &mut Vec<Run>, origin: Origin, len: usize) -> Result<(), A
 }
 
 /// Removes the first characters, or all if there are fewer. An error means that memory ran out.
-pub fn take_run(runs: &mut Vec<Run>, count: usize) -> Result<(), AllocError>
+pub fn take_run<A: Allocator>(runs: &mut Vec<Run, A>, count: usize) -> Result<(), AllocError>
     ensures { OnOk result (reverse runs.new.items ≡ taken count (reverse runs.old.items)) }
 {
     let mut left = count;

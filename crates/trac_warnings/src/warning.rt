@@ -3,6 +3,7 @@ ghost use Rattle.std.specs.Prelude.{◌≡◌};
 ghost use Rattle.trac_warnings.specs.Suspicions.{sentence_of};
 
 use crate::origin::Origin;
+use std::alloc::Allocator;
 
 /// What is suspicious.
 #[derive(Clone, Copy, Debug, PartialEq, Eq, PartialOrd, Ord)]
@@ -57,15 +58,16 @@ pub enum Suspicion {
 }
 
 /// A warning. Warnings are in the order of their places.
-#[derive(Debug, Drop, PartialEq, Eq, PartialOrd, Ord)]
-pub struct Warning {
+#[derive(Drop)]
+#[derive_where(Debug, PartialEq, Eq, PartialOrd, Ord)]
+pub struct Warning<A: Allocator> {
     /// Where what it warns of was written.
     pub origin: Origin,
     pub suspicion: Suspicion,
     /// How many characters it warns of, 0 if none.
     pub count: usize,
     /// The name or the text that it warns of, null if there is none.
-    pub text: Vec<u8>,
+    pub text: Vec<u8, A>,
 }
 
 impl Suspicion {

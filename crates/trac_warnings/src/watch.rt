@@ -24,7 +24,7 @@ use crate::performed::{Ending, characters_of, commas_in, look_at_call, warn};
 use crate::strings::layout_len;
 use crate::trail::{Run, first_origin, push_run, take_run};
 use crate::warning::{Suspicion, Warning};
-use std::alloc::{AllocError, Global};
+use std::alloc::{AllocError, Allocator};
 use std::collections::BTreeMap;
 use trac_core::{Awaits, CallMark, Machine, ScanningRule};
 use trac_events::{Before, argument, arguments_of, is_same, pointer_of};
@@ -58,34 +58,34 @@ struct Written {
 /// are then those of that step. It keeps the origins of the active string, the open calls, and the
 /// names of the forms that were defined.
 #[derive(Drop)]
-pub struct Watch {
-    alloc: Global,
+pub struct Watch<A: Allocator> {
+    alloc: A,
     // The warnings of the last step that it saw.
-    warnings: Vec<Warning>,
+    warnings: Vec<Warning<A>, A>,
     // The bytes of the input that were read.
     read: usize,
     // The origins of the active string, its first characters last.
-    runs: Vec<Run>,
+    runs: Vec<Run, A>,
     // The strings that are being scanned, the one that was read last at the end.
-    strings: Vec<OpenString>,
+    strings: Vec<OpenString, A>,
     // Where each open call was written, the innermost at the end, and where each argument of them was.
-    calls: Vec<Origin>,
-    commas: Vec<Origin>,
+    calls: Vec<Origin, A>,
+    commas: Vec<Origin, A>,
     // The names of the forms that were defined, by their number, and what is known by a name.
-    names: Vec<Vec<u8>>,
-    written: BTreeMap<Vec<u8>, Written>,
+    names: Vec<Vec<u8, A>, A>,
+    written: BTreeMap<Vec<u8, A>, Written, A>,
     // The arguments of the call that the step performs, and where its value was written, unless it is
     // one of them.
-    arguments: Vec<Cell>,
+    arguments: Vec<Cell, A>,
     value: Origin,
     // How long the neutral string was before the step.
     neutral: usize,
 }
 
 #[tactic(auto, using(crate::proofs::Keeping::keeping))]
-impl Watch {
+impl<A: Allocator + Copy> Watch<A> {
     /// A watch before the first step.
-    pub fn new(alloc: Global) -> Watch
+    pub fn new(alloc: A) -> Watch<A>
         ensures { IsFresh result }
     {
         Watch {
@@ -105,14 +105,14 @@ impl Watch {
     }
 
     /// The warnings of the last step that it saw.
-    pub fn warnings(&self) -> &[Warning]
+    pub fn warnings(&self) -> &[Warning<A>]
         ensures { result.now ≡ self.now.warnings.items }
     {
         self.warnings.as_slice()
     }
 
     /// Takes the last of these warnings away. None if none is left.
-    pub fn take_warning(&mut self) -> Option<Warning>
+    pub fn take_warning(&mut self) -> Option<Warning<A>>
         ensures left { self.old.warnings.items ≡ self.new.warnings.items ++ option_to_list result }
         ensures some { IsSome result ↔ (0 < length self.old.warnings.items) }
     {
@@ -765,9 +765,9 @@ impl Watch {
 
 // Warns of calls that are still open.
 #[tactic(auto, using(crate::proofs::Keeping::keeping))]
-fn tell_open_calls(
-    warnings: &mut Vec<Warning>,
-    alloc: Global,
+fn tell_open_calls<A: Allocator + Copy>(
+    warnings: &mut Vec<Warning<A>, A>,
+    alloc: A,
     calls: &[Origin],
 ) -> Result<(), AllocError>
     ensures kept { Kept warnings.old.items warnings.new.items }

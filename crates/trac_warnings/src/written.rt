@@ -11,7 +11,7 @@ use crate::origin::Origin;
 use crate::spelling::{names_function, spelling_of};
 use crate::strings::begins_with_mark;
 use crate::warning::{Suspicion, Warning};
-use std::alloc::{AllocError, Global};
+use std::alloc::{AllocError, Allocator};
 use trac_core::is_layout;
 
 // From this many numbered lines on there is a warning.
@@ -19,9 +19,9 @@ const FEW_LINES: usize = 3;
 
 /// Adds what is suspicious in how a script is written. Fails only if memory runs out.
 #[tactic(auto, using(crate::proofs::Keeping::keeping))]
-pub fn look_at_script(
-    warnings: &mut Vec<Warning>,
-    alloc: Global,
+pub fn look_at_script<A: Allocator + Copy>(
+    warnings: &mut Vec<Warning<A>, A>,
+    alloc: A,
     input: &[u8],
 ) -> Result<(), AllocError>
     ensures kept { Kept warnings.old.items warnings.new.items }
@@ -60,7 +60,11 @@ fn other_meta(input: &[u8]) -> Option<(usize, u8)>
 
 // Looks for numbers at the heads of lines.
 #[tactic(auto, using(crate::proofs::Keeping::keeping))]
-fn look_at_lines(warnings: &mut Vec<Warning>, alloc: Global, input: &[u8]) -> Result<(), AllocError>
+fn look_at_lines<A: Allocator + Copy>(
+    warnings: &mut Vec<Warning<A>, A>,
+    alloc: A,
+    input: &[u8],
+) -> Result<(), AllocError>
     ensures kept { Kept warnings.old.items warnings.new.items }
     ensures said { OnOk result (Warns warnings.old.items warnings.new.items
         (numbered_lines None 0 true 0 input.now)) }
@@ -105,9 +109,9 @@ fn behind_digits(line: &[u8]) -> &[u8]
 
 // Looks for what is nearly the beginning of a call. Each parenthesis gets one warning at most.
 #[tactic(auto, using(crate::proofs::Keeping::keeping))]
-fn look_at_spelling(
-    warnings: &mut Vec<Warning>,
-    alloc: Global,
+fn look_at_spelling<A: Allocator + Copy>(
+    warnings: &mut Vec<Warning<A>, A>,
+    alloc: A,
     input: &[u8],
 ) -> Result<(), AllocError>
     ensures kept { Kept warnings.old.items warnings.new.items }
@@ -134,9 +138,9 @@ fn look_at_spelling(
 // of, and `is_behind_sign` whether a number sign stands before the text. Answers whether the next parenthesis
 // behind the head was warned of.
 #[tactic(auto, using(crate::proofs::Keeping::keeping))]
-fn look_at_place(
-    warnings: &mut Vec<Warning>,
-    alloc: Global,
+fn look_at_place<A: Allocator + Copy>(
+    warnings: &mut Vec<Warning<A>, A>,
+    alloc: A,
     place: usize,
     text: &[u8],
     is_told: bool,
@@ -168,9 +172,9 @@ fn look_at_place(
 
 // Adds a warning of a place of the input.
 #[tactic(auto, using(crate::proofs::Keeping::saying))]
-fn warn_at(
-    warnings: &mut Vec<Warning>,
-    alloc: Global,
+fn warn_at<A: Allocator + Copy>(
+    warnings: &mut Vec<Warning<A>, A>,
+    alloc: A,
     suspicion: Suspicion,
     place: usize,
     bytes: &[u8],

@@ -7,7 +7,7 @@ use Rattle.trac_warnings.proofs.Noted.{map_insert}
 use Rattle.trac_warnings.proofs.findings.note_name.Goals as goal
 
 pub returns-clause-noted : goal.returns-clause-noted
-returns-clause-noted c =
+returns-clause-noted g c =
     let same : c.in_ok-name.name.items ≡ c.args.name.now.items = same_from_all_zip _ c.args.name.now.items c.in_ok-name.name.items c.in_ok-name.ensures.cases.0 (λ x y e. e) in
     ap (map (λ text. text.items)) c.in_ok-insert.ensures.keys
     ∙ map_insert (λ text. text.items) _ (slice_cmp nat_cmp) (λ a b. refl) c.args.names.now.keys c.in_ok-name.name

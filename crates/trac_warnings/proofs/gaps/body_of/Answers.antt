@@ -4,7 +4,7 @@ use Rattle.trac_warnings.proofs.gaps.body_of.Goals as goal
 use Rattle.trac_warnings.proofs.gaps.body_of.Goals.{in-Some+in_ok-push, in_default}
 
 pub loop-place-preserved : goal.loop-place-preserved
-loop-place-preserved c =
+loop-place-preserved g c =
     let body = c.args.form.now.body in
     let place = c.loop-place.place in
     let less = c.loop-place-test.true in

@@ -4,4 +4,4 @@ use Rattle.trac_warnings.proofs.performed.characters_of.Given as goal
 
 -- the characters so far
 abbrev pub invariant-loop-cell : goal.invariant-loop-cell
-invariant-loop-cell l = l.text.items ≡ text_of_cells (take l.cell-index l.cells)
+invariant-loop-cell g l = l.text.items ≡ text_of_cells (take l.cell-index l.cells)

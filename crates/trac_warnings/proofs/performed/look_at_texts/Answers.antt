@@ -3,7 +3,7 @@ use Rattle.trac_warnings.proofs.Said.{next_gaps}
 use Rattle.trac_warnings.proofs.performed.look_at_texts.Goals as goal
 
 pub loop-cell-preserved : goal.loop-cell-preserved
-loop-cell-preserved c =
+loop-cell-preserved g c =
     let i = c.loop-cell.invariant in
     record {
       kept = kept_more _ _ _ i.kept c.look_at_text.ensures.kept;

@@ -5,7 +5,7 @@ use Rattle.trac_warnings.proofs.trail.take_run.Given as goal
 
 -- what is left to take from the runs that are left gives what is wanted
 abbrev pub invariant-loop : goal.invariant-loop
-invariant-loop l =
+invariant-loop g l =
     record {
       runs : taken l.left (reverse l.runs.items) ≡ taken l.count (reverse l.initial.runs.items);
       len : length l.runs.items + l.counter ≡ length l.initial.runs.items;

@@ -3,7 +3,7 @@ use Rattle.trac_warnings.proofs.Said.{next_open}
 use Rattle.trac_warnings.proofs.watch.tell_open_calls.Goals as goal
 
 pub loop-call-preserved : goal.loop-call-preserved
-loop-call-preserved c =
+loop-call-preserved g c =
     let i = c.loop-call.invariant in
     record {
       kept = kept_more _ _ _ i.kept c.warn.ensures.kept;

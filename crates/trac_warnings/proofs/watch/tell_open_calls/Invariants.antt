@@ -5,7 +5,7 @@ use Rattle.trac_warnings.proofs.watch.tell_open_calls.Given as goal
 
 -- the earlier warnings stay; those so far, and those of the calls that are left, are all
 abbrev pub invariant-loop-call : goal.invariant-loop-call
-invariant-loop-call l =
+invariant-loop-call g l =
     record {
       kept : Kept l.initial.warnings.items l.warnings.items;
       said : map said l.warnings.items ++ open_warnings (drop l.call-index l.calls)

@@ -4,5 +4,5 @@ use Rattle.trac_warnings.proofs.written.look_at_lines.Given as goal
 
 -- the lines so far, and those that are left, are all
 abbrev pub invariant-loop-place : goal.invariant-loop-place
-invariant-loop-place l =
+invariant-loop-place g l =
     numbered_lines l.first l.count l.is_head l.place (drop l.place l.input) ≡ numbered_lines None 0 true 0 l.input

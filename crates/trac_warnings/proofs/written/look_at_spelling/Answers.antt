@@ -3,7 +3,7 @@ use Rattle.trac_warnings.proofs.Said.{next_spelled}
 use Rattle.trac_warnings.proofs.written.look_at_spelling.Goals as goal
 
 pub loop-place-preserved : goal.loop-place-preserved
-loop-place-preserved c =
+loop-place-preserved g c =
     let i = c.loop-place.invariant in
     record {
       kept = kept_more _ _ _ i.kept c.look_at_place.ensures.kept;

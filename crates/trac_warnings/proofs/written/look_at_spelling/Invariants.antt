@@ -5,7 +5,7 @@ use Rattle.trac_warnings.proofs.written.look_at_spelling.Given as goal
 
 -- the earlier warnings stay; those so far, and those of the bytes that are left, are all
 abbrev pub invariant-loop-place : goal.invariant-loop-place
-invariant-loop-place l =
+invariant-loop-place g l =
     record {
       kept : Kept l.initial.warnings.items l.warnings.items;
       said : map said l.warnings.items ++ spelled l.is_told l.is_behind_sign l.place (drop l.place l.input)

@@ -4,7 +4,7 @@ use Rattle.trac_warnings.specs.Looked.{LooksAtEnd, LooksBy}
 use Rattle.trac_warnings.proofs.watch.Watch.look.Goals as goal
 
 pub returns-in_ok-look_at_end_of_call-clause-looks : goal.returns-in_ok-look_at_end_of_call-clause-looks
-returns-in_ok-look_at_end_of_call-clause-looks c =
+returns-in_ok-look_at_end_of_call-clause-looks g c =
     let watch = c.args.self.now in
     let m = c.args.machine.now in
     let input = c.args.input.now in

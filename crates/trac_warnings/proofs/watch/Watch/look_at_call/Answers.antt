@@ -4,7 +4,7 @@ use Rattle.trac_warnings.specs.Looked.{around_of, is_inside, places_of}
 use Rattle.trac_warnings.proofs.watch.Watch.look_at_call.Goals as goal
 
 pub returns-clause-looks : goal.returns-clause-looks
-returns-clause-looks c =
+returns-clause-looks g c =
     let neutral = c.neutral-neutral.result.now in
     let given = c.arguments_of-arguments.ensures in
     let begin = c.begin-begin.ensures in

@@ -9,14 +9,14 @@ use Rattle.trac_warnings.specs.declared.watch.Watch.{Watch}
 use Rattle.trac_warnings.proofs.watch.Watch.tell_ends.Goals as goal
 
 pub loop-preserved : goal.loop-preserved
-loop-preserved c =
+loop-preserved g c =
     let i = c.loop.invariant in
     let told = c.in_ok-tell_end.ensures in
     let less : nat_lt c.in-Some.string.rest c.args.active ≡ false = le-ltb _ _ (omega (arith, c.if-active-string.false)) in
-    let runs : c.tell_end.new.self.runs.items ≡ c.loop.self.runs.items = ap (λ (w : Watch). w.runs.items) told.stays in
-    let read : c.tell_end.new.self.read ≡ c.loop.self.read = ap (λ (w : Watch). w.read) told.stays in
-    let calls : c.tell_end.new.self.calls.items ≡ c.loop.self.calls.items = ap (λ (w : Watch). w.calls.items) told.stays in
-    let left = ap (λ (w : Watch). w.strings.items) told.stays in
+    let runs : c.tell_end.new.self.runs.items ≡ c.loop.self.runs.items = ap (λ (w : Watch g.row.A.Denot). w.runs.items) told.stays in
+    let read : c.tell_end.new.self.read ≡ c.loop.self.read = ap (λ (w : Watch g.row.A.Denot). w.read) told.stays in
+    let calls : c.tell_end.new.self.calls.items ≡ c.loop.self.calls.items = ap (λ (w : Watch g.row.A.Denot). w.calls.items) told.stays in
+    let left = ap (λ (w : Watch g.row.A.Denot). w.strings.items) told.stays in
     record {
       runs = runs ∙ i.runs;
       read = read ∙ i.read;

@@ -6,7 +6,7 @@ use Rattle.trac_warnings.proofs.watch.Watch.tell_ends.Given as goal
 
 -- the places and the earlier warnings stay; what is said of the strings that are left is said of all
 abbrev pub invariant-loop : goal.invariant-loop
-invariant-loop l =
+invariant-loop g l =
     record {
       runs : l.self.runs.items ≡ l.initial.self.runs.items;
       read : l.self.read ≡ l.initial.self.read;

@@ -1,0 +1,87 @@
+-- The lines of warnings.
+use Rattle.std.specs.Prelude.{ℕ, ◌+◌, ◌^◌, ◌-◌, ◌==◌, List, [], ◌++◌, Option, Some, None, codes}
+use Rattle.std.specs.Prelude.{Bool, decimal, map, min, slice_get, take}
+use Rattle.std.specs.declared.vec.Vec.{Vec}
+use Rattle.std.specs.Prelude.{nat_lt, if◌then◌else◌}
+use Rattle.trac_events.specs.declared.place.Place.{Place}
+use Rattle.trac_events.specs.Places.{behind_text, first_place}
+use Rattle.trac_warnings.specs.declared.origin.Origin.{Origin}
+use Rattle.trac_warnings.specs.declared.warning.Warning.{Warning}
+use Rattle.trac_warnings.specs.Suspicions.{sentence_of}
+use Rattle.trac_warnings.specs.Watched.{Said, said}
+use Rattle.trac_language.specs.Text.{Text}
+use Rattle.trac_language.specs.declared.report.Report.{Report}
+use Rattle.trac_views.specs.Lines.{end_text}
+use Rattle.trac_views.specs.Shown.{shown_text}
+use Rattle.trac_views.specs.Told.{place_text}
+
+-- a column, from 0, of the value of a form of this name
+abbrev pub column_of_value : ℕ → List ℕ → List ℕ
+column_of_value column form =
+    codes "in the value of " ++ shown_text form ++ codes ", column "
+    ++ decimal (min (column + 1) (2 ^ 64 - 1)) ++ codes ": "
+
+-- the same, where it is in one
+abbrev pub value_in : Option ℕ → ℕ → List ℕ → List ℕ
+value_in None column form = []
+value_in (Some number) column form = column_of_value column form
+
+-- the same of an origin
+abbrev pub value_text : Origin → List ℕ → List ℕ
+value_text origin form = value_in origin.form origin.column form
+
+-- of how many characters it is, where it is of some
+abbrev pub count_text : ℕ → List ℕ
+count_text count = if count == 0 then [] else decimal count
+
+-- how often it was given, where that is more than once
+abbrev pub times_text : ℕ → List ℕ
+times_text times =
+    if nat_lt times 2 then [] else (codes " (" ++ decimal times ++ codes " times)")
+
+-- what is said: the sentence, the name or the text, and of how many characters it is
+abbrev pub said_text : Said → List ℕ
+said_text s = sentence_of s.suspicion ++ shown_text s.text ++ count_text s.count
+
+-- the line of a warning
+abbrev pub warning_text : Said → Place → List ℕ → ℕ → List ℕ
+warning_text s place form times =
+    place_text place ++ codes ": " ++ value_text s.origin form ++ said_text s
+    ++ times_text times ++ codes "\n"
+
+-- the null name where there is none
+abbrev pub name_in : Option Text → Text
+name_in None = []
+name_in (Some name) = name
+
+-- the name of the form in whose value a warning is
+abbrev pub form_named : List Text → Option ℕ → Text
+form_named names None = []
+form_named names (Some number) = name_in (slice_get names number)
+
+-- the line of a warning that was given so many times, behind a text, with its place in the input
+abbrev pub warning_line : List ℕ → List ℕ → List Text → Said × ℕ → List ℕ
+warning_line head input names found =
+    head ++ warning_text found.0 (behind_text first_place (take found.0.origin.offset input))
+    (form_named names found.0.origin.form) found.1
+
+-- what warnings say, and how often each was given
+abbrev pub found_of : {A : Type 0} → List (Warning A × ℕ) → List (Said × ℕ)
+found_of counts = map (λ counted. (said counted.0, counted.1)) counts
+
+-- the characters of names
+abbrev pub names_of : {A : Type 0} → List (Vec ℕ A) → List Text
+names_of names = map (λ name. name.items) names
+
+-- the line on how a run ended
+abbrev pub ended : Report → List ℕ
+ended report = end_text report.fate report.steps report.peak
+
+-- the same, where it ended by a fault
+abbrev pub fault_end : Bool → Report → List ℕ
+fault_end is_fault report = if is_fault then ended report else []
+
+-- the line of a file of this name with so many warnings, and how its run ended
+abbrev pub summary_text : List ℕ → ℕ → Report → List ℕ
+summary_text name count report =
+    name ++ codes ": warnings " ++ decimal count ++ codes "; " ++ ended report

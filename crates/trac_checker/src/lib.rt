@@ -1,0 +1,11 @@
+//! Runs that are watched from start to end, and the lines on what is suspicious in them. The form of these lines is
+//! this processor's own choice.
+#![tactic(auto)]
+
+mod lines;
+mod run;
+mod unkept;
+
+pub use lines::push_warning;
+pub use run::{WatchedRun, watched};
+pub use unkept::Unkept;

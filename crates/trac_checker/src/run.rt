@@ -1,0 +1,187 @@
+//! A run that is watched from its first step to its last.
+ghost use Rattle.std.specs.Prelude.{◌≡◌, ◌++◌, ◌+◌, ◌-◌, ◌^◌, ◌<◌, ◌≤◌, IfOk, OnOk, length, take};
+ghost use Rattle.std.specs.List.{flat_map};
+ghost use Rattle.trac_core.specs.Machine.{reported_input_failures};
+ghost use Rattle.trac_events.specs.Places.{behind_text, first_place};
+ghost use Rattle.trac_views.specs.Told.{is_fault};
+ghost use Rattle.trac_checker.specs.Warned.{fault_end, form_named, found_of, names_of, summary_text};
+ghost use Rattle.trac_checker.specs.Warned.{warning_line, warning_text};
+ghost use Rattle.trac_warnings.specs.Watched.{said};
+
+use crate::lines::push_warning;
+use crate::unkept::Unkept;
+use std::alloc::{AllocError, Allocator};
+use trac_core::{Cell, Machine, Report, Source};
+use trac_events::Place;
+use trac_views::{is_fault, push, push_end, push_number};
+use trac_warnings::{Findings, Warning, Watch, look_at_script};
+
+/// A run that was watched, and what was found.
+#[derive(Drop)]
+pub struct WatchedRun<A: Allocator> {
+    watch: Watch<A>,
+    findings: Findings<A>,
+    /// How it ended, with its steps and its peak.
+    pub report: Report,
+}
+
+/// Runs the script that the source gives, in a block of cells and with at most `steps` steps, and keeps what is
+/// suspicious, but not what is printed. `input` is the whole input. Fails only if memory runs out.
+pub fn watched<A: Allocator + Copy, I: Source>(
+    alloc: A,
+    block: &mut [Cell],
+    steps: u64,
+    input: &[u8],
+    source: &mut I,
+) -> Result<WatchedRun<A>, AllocError>
+    requires room { length block.old ≤ 16777216 }
+    requires source_counts { I.failure_count source.old < 2 ^ 64 - 1 }
+    ensures input_failed { IfOk result (λ watched. I.failure_count source.new ≡
+        I.failure_count source.old + reported_input_failures watched.report.fate) }
+    ensures steps { IfOk result (λ watched. watched.report.steps ≤ steps) }
+    ensures peak { IfOk result (λ watched. watched.report.peak ≤ length block.old) }
+{
+    let mut machine = Machine::over(block, steps);
+    let mut unkept = Unkept {};
+    let mut watch = Watch::new(alloc);
+    let mut findings = of_script(alloc, input)?;
+    loop {
+        let before = watch.look(&machine, input)?;
+        let fate = machine.step(source, &mut unkept);
+        watch.tell(&before, &machine, input)?;
+        keep_warnings(&mut watch, &mut findings)?;
+        if let Some(fate) = fate {
+            let report = Report {
+                fate,
+                steps: machine.steps(),
+                peak: machine.peak(),
+            };
+            return Ok(WatchedRun {
+                watch,
+                findings,
+                report,
+            });
+        }
+    }
+}
+
+// What is suspicious in how a script is written.
+fn of_script<A: Allocator + Copy>(alloc: A, input: &[u8]) -> Result<Findings<A>, AllocError> {
+    let mut findings = Findings::new(alloc);
+    let mut warnings = Vec::new(alloc);
+    look_at_script(&mut warnings, alloc, input)?;
+    for warning in warnings {
+        findings.add(warning)?;
+    }
+    Ok(findings)
+}
+
+// Keeps the warnings of a step.
+fn keep_warnings<A: Allocator + Copy>(
+    watch: &mut Watch<A>,
+    findings: &mut Findings<A>,
+) -> Result<(), AllocError> {
+    for _ in 0..watch.warnings().len() {
+        if let Some(warning) = watch.take_warning() {
+            findings.add(warning)?;
+        }
+    }
+    Ok(())
+}
+
+impl<A: Allocator + Copy> WatchedRun<A> {
+    /// How many warnings there are.
+    pub fn len(&self) -> usize
+        ensures { result ≡ length self.now.findings.counts.entries }
+    {
+        self.findings.len()
+    }
+
+    /// Adds a line for each warning, behind a text, in the order of their places in the input.
+    /// Fails only if memory runs out.
+    pub fn push_warnings(
+        &self,
+        lines: &mut Vec<u8, A>,
+        head: &[u8],
+        input: &[u8],
+    ) -> Result<(), AllocError>
+        ensures { let names = names_of self.now.watch.names.items in OnOk result (lines.new.items ≡ lines.old.items
+            ++ flat_map (warning_line head.now input.now names) (found_of self.now.findings.counts.entries)) }
+    {
+        let mut read: usize = 0;
+        let mut place = Place::first();
+        for (warning, times) in self.findings.counts() {
+            place = place_behind(input, read, place, warning.origin.offset);
+            read = warning.origin.offset;
+            self.push_line(lines, head, warning, place, *times)?;
+        }
+        Ok(())
+    }
+
+    // Adds the line of a warning at this place, behind a text.
+    fn push_line(
+        &self,
+        lines: &mut Vec<u8, A>,
+        head: &[u8],
+        warning: &Warning<A>,
+        place: Place,
+        times: u64,
+    ) -> Result<(), AllocError>
+        ensures { let form = form_named (names_of self.now.watch.names.items) warning.now.origin.form in
+            OnOk result (lines.new.items ≡
+            lines.old.items ++ head.now ++ warning_text (said warning.now) place form times) }
+    {
+        push(lines, head)?;
+        push_warning(lines, warning, place, self.form(warning), times)
+    }
+
+    // The name of the form in whose value a warning is; null if it is in none.
+    #[tactic(auto, using(crate::proofs::Named::named))]
+    fn form(&self, warning: &Warning<A>) -> &[u8]
+        ensures { result.now ≡ form_named (names_of self.now.watch.names.items) warning.now.origin.form }
+    {
+        match warning.origin.form {
+            Some(number) => self.watch.name(number),
+            None => &[],
+        }
+    }
+
+    /// Adds the line on how the run ended, if by a fault. Fails only if memory runs out.
+    pub fn push_fault(&self, lines: &mut Vec<u8, A>) -> Result<(), AllocError>
+        ensures { OnOk result (lines.new.items ≡
+            lines.old.items ++ fault_end (is_fault self.now.report.fate) self.now.report) }
+    {
+        if is_fault(self.report.fate) {
+            push_end(lines, &self.report)
+        } else {
+            Ok(())
+        }
+    }
+
+    /// Adds the line of a file of this name: how many warnings there are, and how the run ended.
+    /// Fails only if memory runs out.
+    pub fn push_summary(&self, lines: &mut Vec<u8, A>, name: &[u8]) -> Result<(), AllocError>
+        ensures { OnOk result (lines.new.items ≡ lines.old.items
+            ++ summary_text name.now (length self.now.findings.counts.entries) self.now.report) }
+    {
+        push(lines, name)?;
+        push(lines, b": warnings ")?;
+        push_number(lines, self.findings.len() as u64)?;
+        push(lines, b"; ")?;
+        push_end(lines, &self.report)
+    }
+}
+
+// The place behind the first `offset` bytes of the input. `place` is that behind the first `read`, which aren't
+// read again unless `offset` is less.
+fn place_behind(input: &[u8], read: usize, place: Place, offset: usize) -> Place
+    requires { place ≡ behind_text first_place (take read input.now) }
+    ensures { result ≡ behind_text first_place (take offset input.now) }
+{
+    let from = read.min(input.len());
+    let to = offset.min(input.len());
+    if to < from {
+        return Place::first().behind_bytes(&input[..to]);
+    }
+    place.behind_bytes(&input[from..to])
+}
