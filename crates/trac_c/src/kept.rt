@@ -84,3 +84,22 @@ fn begin_again(machine: &mut Machine<'static>, steps: u64)
 {
     machine.again(steps);
 }
+
+/// The peak of the machine at a place, in cells, which then counts from 0 again: called after each step it
+/// tells what that step needed.
+#[unsafe(no_mangle)]
+pub unsafe extern "C" fn trac_engine_take_peak(machine: *mut u64) -> u32
+    ghost held: { MachineState }
+    requires* { sem 𝓛 (machine_at machine held) }
+    ensures* { sem 𝓛 (machine_at machine (record held { peak = 0 })) ∗ ⌜ result ≡ held.peak ⌝ }
+{
+    take_peak(&mut *(machine as *mut Machine<'static>))
+}
+
+/// Does so with a machine that is lent.
+fn take_peak(machine: &mut Machine<'static>) -> u32
+    ensures peak { result ≡ machine.old.peak }
+    ensures after { machine.new ≡ record machine.old { peak = 0 } }
+{
+    machine.take_peak()
+}

@@ -13,7 +13,10 @@ mod strings;
 mod turn;
 mod view;
 
-pub use kept::{trac_engine_again, trac_engine_machine_size, trac_engine_open, trac_engine_turn};
+pub use kept::{
+    trac_engine_again, trac_engine_machine_size, trac_engine_open, trac_engine_take_peak,
+    trac_engine_turn,
+};
 pub use report::TracReport;
 pub use run::trac_engine_run;
 pub use view::{
