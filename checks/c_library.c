@@ -74,8 +74,37 @@ static int is_refused(trac_machine *machine) {
            !trac_active(machine, &code, 1) && trac_rule(machine) == TRAC_REFUSED &&
            !trac_neutral_part(machine, 0, &code, 1) && !trac_active_part(machine, 0, &code, 1) &&
            !trac_calls(machine, &code, 1) && !trac_takes(machine) && !trac_drops(machine) &&
-           !trac_steps_to_call(machine, 9) &&
+           !trac_steps_to_call(machine, 9) && !trac_take_peak(machine) &&
            !trac_part(machine, TRAC_PART_FREE) && trac_meta(machine) == 256 && trac_awaits(machine) == TRAC_REFUSED;
+}
+
+/* Whether a check tells what is suspicious, as much as there is room for, with lists at any place, says where memory is
+ * missing, and refuses what can't be used. */
+static int checks(void) {
+    static const char script[] = "#(pss,a)'", line[] = "line 1, column 1: no function has the name pss\n";
+    static char memory[65536];
+    trac_cell cells[64];
+    const size_t length = sizeof script - 1, whole = sizeof line - 1;
+    char lines[100];
+    for (size_t from = 0; from < 17; from++)
+        for (size_t room = 0; room < sizeof lines; room += 33) {
+            memset(lines, '?', sizeof lines);
+            const trac_report told = trac_check(cells, 64, 999, script, length, memory + from, sizeof memory - from,
+                                                lines, room);
+            const size_t fits = room < whole ? room : whole;
+            if (told.fate != TRAC_INPUT_ENDED || told.wanted != whole || told.written != fits || told.consumed ||
+                memcmp(lines, line, fits) || lines[fits] != '?')
+                return 1;
+        }
+    for (size_t size = 0; size < 300; size++)
+        if (trac_check(cells, 64, 999, script, length, memory, size, lines, 0).fate != TRAC_NO_MEMORY)
+            return 2;
+    return trac_check(cells, 64, 999, script, length, NULL, 0, lines, 0).fate != TRAC_NO_MEMORY ||
+           trac_check(cells, 64, 999, script, length, NULL, 99, lines, 0).fate != TRAC_REFUSED ||
+           trac_check(cells, 64, 999, NULL, length, memory, 99, lines, 0).fate != TRAC_REFUSED ||
+           trac_check(cells, 64, 999, script, length, memory, sizeof memory, NULL, 9).fate != TRAC_REFUSED ||
+           trac_check(cells, TRAC_MOST_CELLS + 1, 9, script, length, memory, sizeof memory, lines, 9).fate !=
+               TRAC_REFUSED;
 }
 
 static int pointers(void) {
@@ -121,11 +150,16 @@ static int pointers(void) {
     if (trac_next_form(&other, &form) || trac_again(&machine, 99) || trac_form_name(&form, byte, 4) ||
         trac_next_form(&machine, &form))
         return 8;
+    if (trac_turn(&machine, byte, 0, 1, NULL, 0, 1).fate != TRAC_GOING || trac_take_peak(&machine) != 15 ||
+        trac_take_peak(&machine))
+        return 9;
+    if (checks())
+        return 10;
     return sizeof cells != 512 || !trac_abi(TRAC_VERSION_NUMBER, sizeof machine, sizeof(trac_report)) ||
            trac_abi(TRAC_VERSION_NUMBER + 1000, sizeof machine, sizeof(trac_report)) ||
            trac_abi(TRAC_VERSION_NUMBER, sizeof form - 1, sizeof(trac_report)) ||
            strcmp(trac_version(), TRAC_VERSION) || strcmp(trac_fate_name(TRAC_REFUSED), "refused") ||
-           strcmp(trac_fate_name(10), "?") || strcmp(trac_rule_name(TRAC_RULE_CHARACTER), "character")
+           strcmp(trac_fate_name(TRAC_NO_MEMORY), "no memory") || strcmp(trac_fate_name(11), "?") || strcmp(trac_rule_name(TRAC_RULE_CHARACTER), "character")
                ? 3
                : 0;
 }

@@ -98,6 +98,30 @@ def test_an_output_that_is_larger_than_the_workspace(trac_t64):
 # ---- Sessions.
 
 
+def test_what_is_suspicious(trac_t64):
+    scripts = sorted(pathlib.Path(TOP, 'examples', 'broken').glob('*.trac'))
+    assert len(scripts) > 15
+    for script in scripts:
+        told = script.with_suffix('.warnings').read_text('utf-8').splitlines()
+        made = trac_t64.check(script.read_bytes())
+        assert [f'line {line}, column {column}: {text}' for line, column, text in made.suspicions] == [
+            line for line in told if line.startswith('line ')], script
+        assert account(made) == account(trac_t64.run(script.read_bytes())), script
+
+
+def test_many_suspicions(trac_t64):
+    script = ''.join(f'#(no{number})' for number in range(20000)) + "'"
+    made = trac_t64.check(script)
+    assert [each.text for each in made.suspicions] == [
+        f'no function has the name no{number}' for number in range(20000)]
+    assert trac_t64.check(LOOP, steps=5000) == trac_t64.Check([], trac_t64.Fate.STEPS, 5000, 33)
+    for refused, words in (({'cells': 0}, 'cells must be from 1'), ({'steps': 0}, 'steps must be from 1')):
+        with pytest.raises(ValueError, match=words):
+            trac_t64.check('', **refused)
+    with pytest.raises(TypeError, match='script must be str or bytes'):
+        trac_t64.check(12)
+
+
 def test_a_session_keeps_its_forms(trac_t64):
     with trac_t64.Session(200, 1000) as session:
         assert session.feed(GREET) == b''
@@ -116,7 +140,7 @@ def test_a_session_keeps_its_forms(trac_t64):
 def test_the_steps_of_the_manual(trac_t64):
     with open(os.path.join(TOP, 'docs', 'LANGUAGE.md'), encoding='utf-8') as page:
         block = re.search(r"```trace\n  step .*?\n(.*?)```", page.read(), re.DOTALL)[1]
-    rows = re.findall(r'^ +(\d+)  (.{13}) +(\d+) +\d+  (.*)$', block, re.MULTILINE)
+    rows = re.findall(r'^ +(\d+)  (.{13}) +(\d+) +(\d+)  (.*)$', block, re.MULTILINE)
     session = trac_t64.Session()
     session.feed(HELLO, most=0)
     session.end(most=0)
@@ -126,7 +150,7 @@ def test_the_steps_of_the_manual(trac_t64):
         if (step := session.step()) is None:
             break
         strings = f'{trac_t64.shown(session.neutral)}|{trac_t64.shown(session.active)}'
-        made.append((str(step.number), f'{step.rule:13}', str(size), strings))
+        made.append((str(step.number), f'{step.rule:13}', str(size), str(session.take_peak()), strings))
         assert step.output == (b'hello' if step.number == 19 else b'')
     # what the workspace holds behind the last step is not promised
     assert made[:-1] == rows[:-1] and len(made) == len(rows) == 29

@@ -1,11 +1,12 @@
 // What trac.mjs does with input that can't be used, with loads that fail, with texts that are cut, and
 // with memory that can't be had: prints it as JSON.
-import { readFileSync } from 'node:fs';
+import { readdirSync, readFileSync } from 'node:fs';
 import { pathToFileURL } from 'node:url';
 
 const place = pathToFileURL(process.argv[2]);
-const { provide, run, Session } = await import(place);
+const { check, provide, run, Session } = await import(place);
 const wasm = readFileSync(new URL('trac.wasm', place));
+const broken = new URL('../../examples/broken/', import.meta.url);
 
 /** The name of the error of a call, with its words; null where it ends well. */
 async function errorOf(call) {
@@ -26,6 +27,7 @@ for (const [name, call] of Object.entries({
     cellsRange: () => run('', { cells: 0 }),
     stepsRange: () => Session.open({ steps: 2n ** 64n }),
     option: () => run('', { cell: 10 }),
+    checked: () => check(12),
     bytes: () => provide('text'),
     input: async () => (await Session.open()).turn(null),
     how: async () => (await Session.open()).turn('', { end: true }),
@@ -93,6 +95,23 @@ async function wrongLooks(script) {
 
 const looks = await wrongLooks("#(ps,a##(eq,b,(c,(d)),#(ad,1))))'((lost");
 
+/** What each script with mistakes is said to have, by its name. */
+const suspicions = {};
+for (const name of readdirSync(broken).filter((each) => each.endsWith('.trac'))) {
+    const { warnings } = await check(readFileSync(new URL(name, broken)));
+    suspicions[name] = warnings.map(({ line, column, text }) => `line ${line}, column ${column}: ${text}`);
+}
+const endless = await check("#(ds,L,(#(cl,L)))#(cl,L)'", { steps: 500 });
+const many = await check(`${Array.from({ length: 20000 }, (_, number) => `#(no${number})`).join('')}'`);
+const needs = [];
+const needing = await Session.open();
+for (let [given, fate] = ["#(ps,hello)'", 'going']; fate === 'going';) {
+    const told = needing.turn(given, { ended: true, most: 1 });
+    ({ fate } = told);
+    given = given.slice(told.consumed);
+    needs.push(needing.takePeak());
+}
+
 const long = 3000000;
 const hundred = `#(ds,a,${'x'.repeat(1000)})#(ds,b,(#(ps,${'##(cl,a)'.repeat(100)})))`;
 const large = await run(`${hundred}${'#(cl,b)'.repeat(long / 100000)}'`,
@@ -103,6 +122,6 @@ const other = await Session.open({ cells: 10 });
 other.turn('abc', { ended: true });
 before.restore(other.save());
 console.log(JSON.stringify({
-    errors, looks, failed, again, kept, buffer, mark, parts, large: large.output.length, json,
+    errors, looks, suspicions, endless, many: many.warnings.length, needs, failed, again, kept, buffer, mark, parts, large: large.output.length, json,
     shown: Object.keys(before),
 }));

@@ -29,7 +29,7 @@ class Npm(unittest.TestCase):
             'script': 'TypeError: script', 'scriptArray': 'TypeError: script', 'cells': 'TypeError: cells',
             'cellsText': 'TypeError: cells', 'cellsRange': 'RangeError: cells',
             'stepsRange': 'RangeError: steps', 'option': 'TypeError: there is no option cell',
-            'bytes': 'TypeError: bytes', 'input': 'TypeError: input',
+            'checked': 'TypeError: script', 'bytes': 'TypeError: bytes', 'input': 'TypeError: input',
             'how': 'TypeError: there is no option end', 'most': 'RangeError: most',
             'from': 'RangeError: from', 'saved': 'TypeError: saved', 'savedPages': 'TypeError: saved'}
         self.assertEqual(set(self.told['errors']), set(wanted))
@@ -39,6 +39,19 @@ class Npm(unittest.TestCase):
 
     def test_what_comes_next(self):
         self.assertEqual(self.told['looks'], {'wrong': [], 'dropped': 7})
+
+    def test_what_is_suspicious(self):
+        folder = os.path.join(TOP, 'examples', 'broken')
+        self.assertGreater(len(self.told['suspicions']), 15)
+        for name, lines in self.told['suspicions'].items():
+            with self.subTest(script=name), open(os.path.join(folder, name[:-4] + 'warnings'), encoding='utf-8') as told:
+                self.assertEqual(lines, [line for line in told.read().splitlines() if line.startswith('line ')])
+        self.assertEqual(self.told['endless'], {'fate': 'steps', 'steps': 500, 'peak': 33, 'warnings': []})
+        self.assertEqual(self.told['many'], 20000)
+
+    def test_what_each_step_needs(self):
+        with open(os.path.join(TOP, 'crates', 'trac_trace', 'stdout'), encoding='utf-8') as trace:
+            self.assertEqual(self.told['needs'], [int(line[27:33]) for line in trace if line[:6].strip().isdigit()])
 
     def test_a_load_that_failed_can_be_tried_again(self):
         self.assertTrue(self.told['failed'].startswith('CompileError'), self.told['failed'])

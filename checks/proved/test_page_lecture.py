@@ -135,6 +135,50 @@ class Places(Lecture):
         self.assertGreater(self.script("return document.getElementById('script').scrollTop"), 3000)
 
 
+class Suspicious(Lecture):
+    def warnings(self):
+        return self.script("return Array.from(document.querySelectorAll('#warnings li'), (item) => item.textContent)")
+
+    def listed(self, script, more='', **limits):
+        self.run_script(script, more, **limits)
+        self.wait(lambda: self.is_shown('suspicions'))
+        return self.warnings()
+
+    def test_the_scripts_with_mistakes(self):
+        folder = os.path.join(TOP, 'examples', 'broken')
+        scripts = sorted(name for name in os.listdir(folder) if name.endswith('.trac'))
+        self.assertGreater(len(scripts), 15)
+        for name in scripts:
+            with self.subTest(script=name):
+                told, script = (read(os.path.join(folder, name[:-4] + end)) for end in ('warnings', 'trac'))
+                wanted = re.sub(r'^line (\d+, column \d+):', r'Line \1', told, flags=re.MULTILINE).splitlines()
+                # the line on how the run ended stands above the list
+                wanted = [line for line in wanted if line.startswith('Line ')]
+                self.assertEqual(self.listed(script), wanted)
+
+    def test_a_place(self):
+        more = 'x#(nothing)'
+        self.assertEqual(self.listed("#(ds,ü😀,a)\n#(zz)#(rs)'", more),
+                         ['Line 2, column 1 no function has the name zz',
+                          'Line 2, column 13 no function has the name nothing',
+                          'Line 2, column 12 no meta character ends the string'])
+        buttons = browser.find_elements(By.CSS_SELECTOR, '#warnings button')
+        for button, box, place in zip(buttons, ('script', 'input'), (12, 1)):
+            button.click()
+            self.assertEqual(self.script(
+                'const box = document.getElementById(arguments[0]);'
+                'return [document.activeElement.id, box.selectionStart, box.selectionEnd]', box),
+                [box, place, place + 1])
+        self.find('script').send_keys('x')
+        self.assertEqual(self.script("return document.querySelectorAll('#warnings button').length"), 0)
+        self.run_script("#(ps,a)'")
+        self.assertFalse(self.is_shown('suspicions'))
+
+    def test_a_long_run_is_looked_at_in_part(self):
+        self.listed("#(zz)#(ds,L,(#(cl,L)))#(cl,L)'", steps=3000000)
+        self.assertEqual(self.text('suspicions-told'), 'The first 100,000 steps were looked at.')
+
+
 class Kept(Lecture):
     def test_an_example_keeps_what_was_typed(self):
         self.type('typed')
@@ -582,7 +626,8 @@ class Files(Lecture):
         script = example('factorial.trac')
         self.run_script(script.decode())
         lines = self.saved('save-trace', 'trace.txt').decode().splitlines()[1:]
-        wanted = [f'{number:6}  {rule:13}{size:6}  {neutral}|{active}' for number, rule, size, _, neutral, active in
+        wanted = [f'{number:6}  {rule:13}{size:6}{need:6}  {neutral}|{active}'
+                  for number, rule, size, need, neutral, active in
                   traced(whole_trace(script, '--steps', '1000000')[0])]
         self.assertEqual(lines, wanted)
 

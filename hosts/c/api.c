@@ -48,6 +48,9 @@ static void *found(const trac_form *form) {
 
 static const trac_report refused = {TRAC_REFUSED, 0, 0, 0, 0, 0};
 
+/* The lists of a check stand in units of so many bytes, which are aligned to them. */
+enum { UNIT = 16 };
+
 /* What stands in the place of a null pointer of length 0, and is never written. */
 static const uint32_t NOTHING = 0;
 
@@ -68,7 +71,8 @@ const char *trac_kind(void) { return TRAC_KIND; }
 
 const char *trac_fate_name(uint32_t fate) {
     static const char names[][16] = {"going",        "halted",        "input ended", "workspace",    "steps",
-                                        "input failed", "output failed", "wants input", "wants output", "refused"};
+                                        "input failed", "output failed", "wants input", "wants output", "refused",
+                                        "no memory"};
     return fate < sizeof names / sizeof *names ? names[fate] : "?";
 }
 
@@ -86,6 +90,23 @@ trac_report trac_run(trac_cell *block, size_t cells, uint64_t steps, const void 
     return trac_engine_run(block ? block : &no_cell, cells, steps, read_from(script), script_length,
                            written_to(output), output_length);
 }
+
+#ifndef TRAC_WITHOUT_CHECK
+trac_report trac_check(trac_cell *block, size_t cells, uint64_t steps, const void *script, size_t script_length,
+                       void *memory, size_t memory_length, void *lines, size_t lines_length) {
+    static const trac_report no_memory = {TRAC_NO_MEMORY, 0, 0, 0, 0, 0};
+    const size_t before = (size_t)(0 - (uintptr_t)memory) % UNIT;
+    trac_cell no_cell;
+    if (!is_block(block, cells) || !are_bytes(script, script_length) || !are_bytes(memory, memory_length) ||
+        !are_bytes(lines, lines_length))
+        return refused;
+    if (memory_length < before + UNIT)
+        return no_memory;
+    return trac_engine_check(block ? block : &no_cell, cells, steps, read_from(script), script_length,
+                             (char *)memory + before, (memory_length - before) / UNIT, written_to(lines),
+                             lines_length);
+}
+#endif
 
 uint32_t trac_open(trac_machine *machine, trac_cell *block, size_t cells, uint64_t steps) {
     if (!is_place(machine))
@@ -114,6 +135,10 @@ uint32_t trac_again(trac_machine *machine, uint64_t steps) {
     machine->words[CHANGES]++;
     trac_engine_again(machine, steps);
     return 0;
+}
+
+uint32_t trac_take_peak(trac_machine *machine) {
+    return is_opened(machine) ? trac_engine_take_peak(machine) : 0;
 }
 
 size_t trac_form_count(const trac_machine *machine) {

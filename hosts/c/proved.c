@@ -6,11 +6,14 @@
 
 trac_report trac_engine_run(void *block, size_t cells, uint64_t steps, const uint8_t *script, size_t script_length,
                             uint8_t *output, size_t output_length);
+trac_report trac_engine_check(void *block, size_t cells, uint64_t steps, const uint8_t *script, size_t script_length,
+                              void *memory, size_t units, uint8_t *to, size_t to_length);
 size_t trac_engine_machine_size(void);
 uint32_t trac_engine_open(void *machine, void *block, size_t cells, uint64_t steps);
 trac_report trac_engine_turn(void *machine, const uint8_t *input, size_t input_length, uint8_t *output,
                              size_t output_length, uint32_t ended, uint64_t most);
 void trac_engine_again(void *machine, uint64_t steps);
+uint32_t trac_engine_take_peak(void *machine);
 size_t trac_engine_form_count(void *machine);
 size_t trac_engine_form_name(void *machine, size_t k, uint8_t *to, size_t room);
 size_t trac_engine_form_text(void *machine, size_t k, uint8_t *to, size_t room);

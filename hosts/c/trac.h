@@ -61,6 +61,7 @@ typedef struct {
 #define TRAC_WANTS_INPUT 7u   /* of a turn: the next step reads more than there is; it wasn't done */
 #define TRAC_WANTS_OUTPUT 8u  /* of a turn: the next step prints more than there is room for; it wasn't done */
 #define TRAC_REFUSED 9u       /* too many cells, a pointer that can't be used, or no opened machine: nothing done */
+#define TRAC_NO_MEMORY 10u    /* of trac_check: the memory is too small for its lists; nothing was written */
 
 /* What stands in a string beside bytes, which are 0 to 255: the codes of trac_neutral. */
 #define TRAC_ACTIVE_CALL 256u  /* the mark of an active call */
@@ -97,7 +98,8 @@ typedef struct {
     uint64_t steps;  /* the steps done */
     size_t written;  /* the bytes written, from the front of the output */
     size_t consumed; /* the bytes consumed, from the front of the input */
-    size_t wanted;   /* with TRAC_WANTS_OUTPUT: the bytes that the next step prints; else 0 */
+    size_t wanted;   /* with TRAC_WANTS_OUTPUT: the bytes that the next step prints; of trac_check: those of all its
+                      * lines; else 0 */
 } trac_report;
 
 /* ---- The library. */
@@ -128,6 +130,15 @@ const char *trac_rule_name(uint32_t rule);
 trac_report trac_run(trac_cell *block, size_t cells, uint64_t steps, const void *script, size_t script_length,
                      void *output, size_t output_length);
 
+/* Runs a script as trac_run does, and puts what is suspicious in it to the front of `lines`, as much as fits: a line for
+ * each place, as "line 2, column 5: no function has the name pss", in the order of their places, and behind them the
+ * line of the fault, if one ended the run. These are the lines of `trac_trace --warn`. What the script prints is
+ * dropped, and `consumed` is 0. The lists that this needs stand in `memory`, of which nothing is used afterwards; a
+ * megabyte is enough for most scripts. A program in C that never calls this can leave it out of the engine by
+ * -DTRAC_WITHOUT_CHECK. */
+trac_report trac_check(trac_cell *block, size_t cells, uint64_t steps, const void *script, size_t script_length,
+                       void *memory, size_t memory_length, void *lines, size_t lines_length);
+
 /* Makes a machine without forms over a block of so many cells, with an allowance of so many steps. Gives 0, and the
  * block is then the machine's until it is used no more; or TRAC_REFUSED, and the block wasn't touched. */
 uint32_t trac_open(trac_machine *machine, trac_cell *block, size_t cells, uint64_t steps);
@@ -149,6 +160,10 @@ trac_report trac_turn(trac_machine *machine, const void *input, size_t input_len
  * steps: the steps and the peak count from 0. The forms with their pointers and the meta character stay. Gives 0, or
  * TRAC_REFUSED. */
 uint32_t trac_again(trac_machine *machine, uint64_t steps);
+
+/* The peak of a machine, in cells, which then counts from 0 again: called after each step it tells what that step
+ * needed. 0 where the machine can't be used. */
+uint32_t trac_take_peak(trac_machine *machine);
 
 /* ---- What a machine shows of itself. None of these functions changes it.
  *

@@ -23,6 +23,12 @@ const REPORT_SIZE = 40;
 const LARGEST = 2n ** 64n - 1n;
 const REFUSED = 9;
 const WANTS_OUTPUT = 8;
+const NO_MEMORY = 10;
+/** The bytes of a unit of the memory for the lists of a check, and those that are tried first. */
+const LIST_UNIT = 16;
+const LEAST_LISTS = 2 ** 20;
+const LEAST_LINES = 2 ** 16;
+const WARNING = /^line (\d+), column (\d+): (.*)$/s;
 /** The fates of a turn after which its run goes on. */
 const ON_ITS_WAY = new Set(['going', 'wants input', 'wants output']);
 const FATE_NAMES = ['going', 'halted', 'input ended', 'workspace', 'steps', 'input failed',
@@ -239,6 +245,19 @@ function reportAt(buffer, place) {
 }
 
 /**
+ * The limits of a run.
+ * @param {{cells?: number, steps?: number | bigint}} limits
+ */
+function limitsOf(limits) {
+    known(limits, ['cells', 'steps']);
+    const { cells = 65536, steps = 1000000 } = limits;
+    return {
+        room: whole('cells', cells, 1n, BigInt(MOST_CELLS)),
+        allowed: whole('steps', steps, 1n, LARGEST),
+    };
+}
+
+/**
  * Runs a script to its end.
  * @param {string | Uint8Array | ArrayBuffer} script the script; of a string, its bytes in UTF-8
  * @param {object} [limits]
@@ -263,6 +282,80 @@ export async function run(script, limits = {}) {
             return withJson({ fate, peak, steps, output, text: textOf(output), consumed: from });
         }
     }
+}
+
+/**
+ * Something suspicious in a script.
+ * @typedef {object} Warning
+ * @property {number} line where it stands, from 1
+ * @property {number} column from 1, in characters
+ * @property {string} text what is said of it; of what is in the value of a form, its place there too
+ */
+
+/**
+ * What a check came to: how the run ended, as in a `Report`, and what is suspicious.
+ * @typedef {object} CheckReport
+ * @property {Report['fate']} fate
+ * @property {bigint} steps
+ * @property {number} peak
+ * @property {Warning[]} warnings in the order of their places
+ */
+
+/**
+ * Runs a script to its end, and tells what is suspicious in it, by the rules of `trac_trace --warn`:
+ * names that are no function, parentheses that end no call, and so on. What it prints isn't kept.
+ * @param {string | Uint8Array | ArrayBuffer} script the script; of a string, its bytes in UTF-8
+ * @param {object} [limits]
+ * @param {number} [limits.cells] cells of the workspace, from 1 to 16777216; 65536 if left out
+ * @param {number | bigint} [limits.steps] the steps allowed, from 1 to 2^64 - 1; 1000000 if left out
+ * @returns {Promise<CheckReport>}
+ * @throws {TypeError} where the script is no text, a limit no whole number, or an option unknown
+ * @throws {RangeError} where a limit is out of its range, or the memory can't be had
+ */
+export async function check(script, limits = {}) {
+    const bytes = bytesOf('script', script);
+    const { room, allowed } = limitsOf(limits);
+    const compiledEngine = await engine();
+    for (let [lists, lines] = [LEAST_LISTS, LEAST_LINES]; ;) {
+        const told = checked(await WebAssembly.instantiate(compiledEngine, {}), bytes, room, allowed, lists, lines);
+        if (told.fate === NO_MEMORY) lists *= 4;
+        else if (told.wanted > told.written) lines = told.wanted;
+        else return withJson(checkReport(told));
+    }
+}
+
+/**
+ * What the engine wrote of a check, and its lines.
+ * @param {WebAssembly.Instance} instance a fresh one
+ * @param {Uint8Array} script
+ * @param {bigint} room
+ * @param {bigint} allowed
+ * @param {number} lists the bytes for its lists
+ * @param {number} lines the bytes for its lines
+ */
+function checked(instance, script, room, allowed, lists, lines) {
+    const memory = new Room(instance);
+    const [report, block, input, listed, written] = [
+        REPORT_SIZE, Number(room) * CELL_SIZE, script.length, lists, lines].map((size) => memory.take(size));
+    memory.reserve();
+    const { exports } = memory;
+    new Uint8Array(exports.memory.buffer, Number(input), script.length).set(script);
+    exports.trac_engine_check(report, block, room, allowed, input, BigInt(script.length),
+        listed, BigInt(Math.floor(lists / LIST_UNIT)), written, BigInt(lines));
+    const told = reportAt(exports.memory.buffer, report);
+    const text = textOf(new Uint8Array(exports.memory.buffer, Number(written), told.written).slice());
+    return { ...told, text };
+}
+
+/**
+ * The report of a check.
+ * @param {ReturnType<typeof checked>} told
+ * @returns {CheckReport}
+ */
+function checkReport({ fate, steps, peak, text }) {
+    const warnings = text.split('\n').map((each) => WARNING.exec(each)).filter((found) => found !== null)
+        .map(([, line, column, words]) => ({ line: Number(line), column: Number(column), text: words }));
+    return { fate: /** @type {Report['fate']} */ (FATE_NAMES[fate]), steps, peak, warnings };
 }
 
 /**
@@ -420,10 +513,7 @@ export class Session {
      * @throws {RangeError} where a limit is out of its range, or the memory can't be had
      */
     static async open(limits = {}) {
-        known(limits, ['cells', 'steps']);
-        const { cells = 65536, steps = 1000000 } = limits;
-        const room = whole('cells', cells, 1n, BigInt(MOST_CELLS));
-        const allowed = whole('steps', steps, 1n, LARGEST);
+        const { room, allowed } = limitsOf(limits);
         return new Session(await WebAssembly.instantiate(await engine(), {}), room, allowed);
     }
 
@@ -515,6 +605,15 @@ export class Session {
     again(steps = 1000000) {
         this.#engine.trac_engine_again(this.#machine, whole('steps', steps, 1n, LARGEST));
         this.#steps = 0n;
+    }
+
+    /**
+     * The peak, in cells, which then counts from 0 again: called after each step it tells what that step
+     * needed.
+     * @returns {number}
+     */
+    takePeak() {
+        return this.#engine.trac_engine_take_peak(this.#machine);
     }
 
     /** How many forms there are. */

@@ -14,6 +14,7 @@ import { Stepper } from './stepper.js';
 import { traceOf } from './trace.js';
 import { CallTree } from './tree.js';
 import { View, isFault } from './view.js';
+import { Warnings } from './warnings.js';
 
 const MOST_STEPS = 1000000000000;
 const LOOK = 'trac-t64-look';
@@ -130,6 +131,7 @@ class Page {
         this.view = new View();
         this.stepper = new Stepper(this.view);
         this.tree = new CallTree((step) => this.stepper.go(step));
+        this.warnings = new Warnings((place) => this.selectCharacter(place));
         this.stepper.onStep = () => this.showAround();
         this.listen();
     }
@@ -149,7 +151,7 @@ class Page {
         for (const id of ['run', 'through']) find(id).setAttribute('aria-disabled', String(isRunning));
         // how far a run is gone is not said aloud, but how it ends
         find('fate').setAttribute('aria-live', isRunning ? 'off' : 'polite');
-        for (const id of ['machine', 'printed']) {
+        for (const id of ['machine', 'printed', 'suspicions']) {
             find(id).setAttribute('aria-busy', String(isRunning));
             find(id).classList.toggle('stale', state.kind === 'stale');
         }
@@ -161,6 +163,7 @@ class Page {
     /** Takes note that the script isn't any more the one whose run is shown or made. */
     outdate() {
         find('place').hidden = true;
+        this.warnings.outdate();
         this.marked = '';
         if (this.state.kind === 'shown') this.become({ kind: 'stale', run: this.state.run });
     }
@@ -192,6 +195,7 @@ class Page {
     leave() {
         this.stepper.close();
         this.tree.close();
+        this.warnings.close();
         this.boxes.mark(null);
         find('verdict').textContent = '';
         find('place').hidden = true;
@@ -231,6 +235,19 @@ class Page {
         if (step !== null) this.bringMachine();
         this.showFate(run);
         this.lessons.check(plainText(run.output));
+        if (isSame) this.lookAround(run);
+    }
+
+    /**
+     * Lists what is suspicious in the script of a run.
+     * @param {Run} run
+     */
+    async lookAround({ texts, input, history }) {
+        try {
+            await this.warnings.look(texts.script + texts.input, input, history.limits);
+        } catch {
+            // a list that finds no memory is left away: the run itself is shown
+        }
     }
 
     /** Scrolls to the steps where they are not in view, as below the script on a phone. */
@@ -281,6 +298,16 @@ class Page {
         const { run } = this.state;
         this.stepper.go(run.history.end.step);
         const part = stringPart(run, run.history.end.step);
+        this.boxes.mark({ ...part, isFault: true });
+        this.boxes.select(part);
+    }
+
+    /**
+     * Selects a character of the texts, and marks it.
+     * @param {number} place
+     */
+    selectCharacter(place) {
+        const part = { from: place, to: place + 1 };
         this.boxes.mark({ ...part, isFault: true });
         this.boxes.select(part);
     }

@@ -30,8 +30,9 @@ function line(walker, cells) {
     const { session } = walker;
     const [rule, size] = [session.rule(), cells - session.parts().free];
     walker.advance(1);
+    const need = session.takePeak();
     const number = String(walker.state.step).padStart(6);
-    return `${number}  ${rule.padEnd(13)}${String(size).padStart(6)}  ${
+    return `${number}  ${rule.padEnd(13)}${String(size).padStart(6)}${String(need).padStart(6)}  ${
         written(session.neutral())}|${written(session.active())}\n`;
 }
 
@@ -44,7 +45,7 @@ function line(walker, cells) {
 export async function traceOf(input, limits, last) {
     const walker = new Walker(await Session.open(limits), input);
     const goal = Math.min(last, MOST_TRACED);
-    const lines = ['  step  rule           size  neutral string|active string\n'];
+    const lines = ['  step  rule           size  need  neutral string|active string\n'];
     let letters = 0;
     let until = performance.now() + SLICE;
     while (walker.state.step < goal && letters < MOST_LETTERS) {

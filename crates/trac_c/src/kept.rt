@@ -98,8 +98,7 @@ pub unsafe extern "C" fn trac_engine_take_peak(machine: *mut u64) -> u32
 
 /// Does so with a machine that is lent.
 fn take_peak(machine: &mut Machine<'static>) -> u32
-    ensures peak { result ≡ machine.old.peak }
-    ensures after { machine.new ≡ record machine.old { peak = 0 } }
+    ensures { (result ≡ machine.old.peak) × (machine.new ≡ record machine.old { peak = 0 }) }
 {
     machine.take_peak()
 }

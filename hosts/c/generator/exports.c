@@ -47,6 +47,17 @@ static trac_report trac_engine_run(void *block, size_t cells, uint64_t steps, co
     return told(&report);
 }
 
+#ifndef TRAC_WITHOUT_CHECK
+static trac_report trac_engine_check(void *block, size_t cells, uint64_t steps, const uint8_t *script,
+                                     size_t script_len, void *memory, size_t units, uint8_t *to, size_t to_len) {
+    struct lent lent;
+    struct engine_report report;
+    engine_check(lend(&lent), address_of(&report), address_of(block), cells, steps, address_of(script), script_len,
+                 address_of(memory), units, address_of(to), to_len);
+    return told(&report);
+}
+#endif
+
 static size_t trac_engine_machine_size(void) {
     struct lent lent;
     return (size_t)engine_machine_size(lend(&lent));
@@ -69,6 +80,11 @@ static trac_report trac_engine_turn(void *machine, const uint8_t *input, size_t 
 static void trac_engine_again(void *machine, uint64_t steps) {
     struct lent lent;
     engine_again(lend(&lent), address_of(machine), steps);
+}
+
+static uint32_t trac_engine_take_peak(void *machine) {
+    struct lent lent;
+    return engine_take_peak(lend(&lent), address_of(machine));
 }
 
 static size_t trac_engine_form_count(void *machine) {

@@ -515,6 +515,77 @@ static PyObject *machine_parts(machine_object *self, PyObject *nothing) {
                          cells[TRAC_PART_ACTIVE]);
 }
 
+static PyObject *machine_take_peak(machine_object *self, PyObject *nothing) {
+    (void)nothing;
+    return is_usable(self) ? PyLong_FromUnsignedLong(trac_take_peak(&self->machine)) : NULL;
+}
+
+/* ---- What is suspicious in a script. */
+
+/* The bytes for the lists of a check, and those for its lines, that are tried first. */
+enum { LEAST_LISTS = 1 << 20, LEAST_LINES = 1 << 16 };
+
+/* What a check takes and gives. */
+typedef struct {
+    Py_buffer script;
+    trac_cell *block;
+    size_t cells;
+    uint64_t steps;
+    void *lists, *lines;
+    trac_report report;
+} checking;
+
+/* Has other memory at a place, which holds nothing. Gives 0 where there is none. */
+static int remade(void **place, size_t length) {
+    free(*place);
+    *place = malloc(length);
+    return *place != NULL;
+}
+
+/* Checks with memory for so many bytes of lists and of lines, or for more where it has to. Gives 0 where there is no
+ * memory. */
+static int checked(checking *of, size_t lists, size_t lines) {
+    int is_made = remade(&of->lists, lists) && remade(&of->lines, lines);
+    while (is_made) {
+        of->report = trac_check(of->block, of->cells, of->steps, of->script.buf, (size_t)of->script.len, of->lists,
+                                lists, of->lines, lines);
+        if (of->report.fate == TRAC_NO_MEMORY)
+            is_made = lists <= SIZE_MAX / 4 && remade(&of->lists, lists *= 4);
+        else if (of->report.wanted > of->report.written)
+            is_made = remade(&of->lines, lines = of->report.wanted);
+        else
+            return 1;
+    }
+    return 0;
+}
+
+static PyObject *engine_check(PyObject *module, PyObject *args) {
+    checking of = {0};
+    Py_ssize_t cells;
+    unsigned long long steps;
+    PyObject *result = NULL;
+    int is_made = 0;
+    (void)module;
+    if (!PyArg_ParseTuple(args, "y*nK", &of.script, &cells, &steps))
+        return NULL;
+    of.cells = (size_t)cells;
+    of.steps = steps;
+    Py_BEGIN_ALLOW_THREADS;
+    of.block = (trac_cell *)malloc(of.cells * sizeof(trac_cell));
+    is_made = of.block && checked(&of, LEAST_LISTS, LEAST_LINES);
+    Py_END_ALLOW_THREADS;
+    if (is_made)
+        result = Py_BuildValue("sKky#", trac_fate_name(of.report.fate), (unsigned long long)of.report.steps,
+                               (unsigned long)of.report.peak, of.lines, (Py_ssize_t)of.report.written);
+    else
+        PyErr_NoMemory();
+    free(of.block);
+    free(of.lists);
+    free(of.lines);
+    PyBuffer_Release(&of.script);
+    return result;
+}
+
 /* ---- The module. */
 
 #define METHOD(name, takes, says) {#name, (PyCFunction)(void (*)(void))machine_##name, takes, says}
@@ -527,6 +598,7 @@ static PyMethodDef machine_methods[] = {
     METHOD(go, METH_VARARGS, "Makes at most so many steps, up to the next print where the second argument is true."),
     METHOD(take, METH_NOARGS, "Takes what was printed."),
     METHOD(again, METH_O, "Begins a new run with an allowance of so many steps; drops the input."),
+    METHOD(take_peak, METH_NOARGS, "The peak in cells, which then counts from 0 again."),
     METHOD(report, METH_NOARGS, "The fate in words, the steps, the peak in cells, and the bytes consumed."),
     METHOD(unread, METH_NOARGS, "The input that wasn't read."),
     METHOD(has_ended, METH_NOARGS, "Whether the input has ended."),
@@ -569,7 +641,12 @@ static int fill_module(PyObject *module) {
 
 static PyModuleDef_Slot module_slots[] = {{Py_mod_exec, (void *)fill_module}, {0, NULL}};
 
+static PyMethodDef module_functions[] = {
+    {"check", engine_check, METH_VARARGS, "The fate of a script, its steps, its peak, and lines on what is suspicious."},
+    {NULL, NULL, 0, NULL},
+};
+
 static PyModuleDef module_definition = {
-    PyModuleDef_HEAD_INIT, "_engine", "Machines of trac.h.", 0, NULL, module_slots, NULL, NULL, NULL};
+    PyModuleDef_HEAD_INIT, "_engine", "Machines of trac.h.", 0, module_functions, module_slots, NULL, NULL, NULL};
 
 PyMODINIT_FUNC PyInit__engine(void) { return PyModuleDef_Init(&module_definition); }

@@ -4,11 +4,13 @@ from __future__ import annotations
 import enum
 import itertools
 import operator
+import re
 from collections.abc import Iterable, Iterator
 from dataclasses import dataclass
 from types import TracebackType
 from typing import NamedTuple, SupportsIndex, TypeAlias
 
+from . import _engine
 from ._engine import MOST_CELLS, Machine
 
 # A script or a piece of input. A str stands for its bytes in UTF-8.
@@ -66,6 +68,31 @@ class Report:
     def text(self) -> str:
         """The output, read as UTF-8; bytes that are none become U+FFFD."""
         return self.output.decode(errors='replace')
+
+
+class Suspicion(NamedTuple):
+    """Something suspicious in a script."""
+
+    line: int
+    """Where it stands, from 1."""
+    column: int
+    """From 1, in characters."""
+    text: str
+    """What is said of it; of what is in the value of a form, its place there too."""
+
+
+@dataclass(frozen=True)
+class Check:
+    """What a check of a script came to."""
+
+    suspicions: list[Suspicion]
+    """What is suspicious, in the order of the places."""
+    fate: Fate
+    """How the run ended."""
+    steps: int
+    """The steps that were made."""
+    peak: int
+    """The greatest need of a step, in cells."""
 
 
 class Step(NamedTuple):
@@ -167,6 +194,22 @@ def run(script: Text, cells: SupportsIndex = DEFAULT_CELLS, steps: SupportsIndex
         return Report(output, session.fate, session.steps, session.peak, session.consumed)
 
 
+_SUSPICION = re.compile(r'line (\d+), column (\d+): (.*)', re.DOTALL)
+
+
+def check(script: Text, cells: SupportsIndex = DEFAULT_CELLS, steps: SupportsIndex = DEFAULT_STEPS) -> Check:
+    """Runs a script to its end, as `run` does, and tells what is suspicious in it, by the rules of
+    `trac_trace --warn`: names that are no function, parentheses that end no call, and so on. What it prints
+    isn't kept. Other threads run meanwhile.
+
+    Raises TypeError or ValueError, which name the argument, for what can't be used, and MemoryError.
+    """
+    fate, made, peak, lines = _engine.check(
+        _bytes_of('script', script), _whole('cells', cells, 1, MOST_CELLS), _whole('steps', steps, 1, MOST_STEPS))
+    found = map(_SUSPICION.fullmatch, lines.decode(errors='replace').split('\n'))
+    return Check([Suspicion(int(each[1]), int(each[2]), each[3]) for each in found if each], Fate(fate), made, peak)
+
+
 class Session:
     """A machine that is kept. Input is fed to it in pieces, and its forms and its meta character stay
     from one run to the next.
@@ -262,6 +305,11 @@ class Session:
         strings are cleared, with the calls that are open, and so is the input; the steps and the peak count
         from 0. The forms with their pointers and the meta character stay."""
         self._machine.again(self._steps if steps is None else _whole('steps', steps, 1, MOST_STEPS))
+
+    def take_peak(self) -> int:
+        """The greatest need of a step, in cells, since this was asked last, or since the run began: asked
+        after each step it tells what that step needed."""
+        return self._machine.take_peak()
 
     # ---- What a session shows of itself.
 

@@ -1,0 +1,82 @@
+/**
+ * The list of what is suspicious in a script, each with a button that shows its place.
+ * @module
+ */
+
+import { check } from '../js/trac.mjs';
+import { several } from './codes.js';
+import { button, element, find } from './dom.js';
+
+/** So many steps are looked at, which takes a tenth of a second at most. */
+const MOST_CHECKED = 100000;
+const MOST_PLACES = 200;
+
+/**
+ * Where a place stands in a text, in the units of a string.
+ * @param {string} text
+ * @param {number} line from 1
+ * @param {number} column from 1, in characters
+ */
+function placeIn(text, line, column) {
+    let from = 0;
+    for (let left = line; left > 1; left -= 1) from = text.indexOf('\n', from) + 1;
+    const end = text.indexOf('\n', from);
+    const front = [...text.slice(from, end < 0 ? text.length : end)].slice(0, column - 1);
+    return from + front.join('').length;
+}
+
+/** The list, which is made when a run is shown. */
+export class Warnings {
+    /** @param {(place: number) => void} onPlace called with the place in the texts that is to be shown */
+    constructor(onPlace) {
+        this.onPlace = onPlace;
+        /** Which look is the last that was asked for. */
+        this.looks = 0;
+    }
+
+    /** Shows nothing. */
+    close() {
+        this.looks += 1;
+        find('suspicions').hidden = true;
+        find('warnings').replaceChildren();
+    }
+
+    /**
+     * Lists what is suspicious.
+     * @param {string} text the script and the further input
+     * @param {Uint8Array} input the same as bytes
+     * @param {{cells: number, steps: number}} limits
+     */
+    async look(text, input, { cells, steps }) {
+        this.close();
+        const look = this.looks;
+        const most = Math.min(steps, MOST_CHECKED);
+        const found = await check(input, { cells, steps: most });
+        if (look !== this.looks || !found.warnings.length) return;
+        const isPart = steps > most && found.fate === 'steps';
+        find('warnings').replaceChildren(
+            ...found.warnings.slice(0, MOST_PLACES).map((warning) => this.item(text, warning)));
+        find('suspicions-told').textContent = [
+            found.warnings.length > MOST_PLACES && `The first ${MOST_PLACES} of ${found.warnings.length}.`,
+            isPart && `The first ${several(most, 'step')} were looked at.`,
+        ].filter(Boolean).join(' ');
+        find('suspicions').hidden = false;
+    }
+
+    /**
+     * @param {string} text
+     * @param {import('../js/trac.mjs').Warning} warning
+     */
+    item(text, { line, column, text: words }) {
+        return element('li', '', button(`Line ${line}, column ${column}`, () => {
+            this.onPlace(placeIn(text, line, column));
+        }), ` ${words}`);
+    }
+
+    /** Takes the buttons away, where the texts aren't those any more that were looked at. */
+    outdate() {
+        for (const each of find('warnings').querySelectorAll('button')) {
+            each.replaceWith(element('span', '', each.textContent ?? ''));
+        }
+    }
+}
