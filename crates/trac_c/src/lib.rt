@@ -3,6 +3,7 @@
 //! processor's own choice.
 #![tactic(auto)]
 
+mod check;
 mod devices;
 mod filling;
 mod forms;
@@ -13,6 +14,7 @@ mod strings;
 mod turn;
 mod view;
 
+pub use check::trac_engine_check;
 pub use kept::{
     trac_engine_again, trac_engine_machine_size, trac_engine_open, trac_engine_take_peak,
     trac_engine_turn,

@@ -1,5 +1,6 @@
 //! What C is told of a run.
 ghost use Rattle.std.specs.Prelude.{◌≡◌};
+ghost use Rattle.trac_c.specs.Checked.{no_memory};
 ghost use Rattle.trac_c.specs.Told.{number, refused};
 
 use trac_core::Fate;
@@ -7,11 +8,15 @@ use trac_core::Fate;
 /// More cells than a machine may have: nothing was touched.
 pub(crate) const REFUSED: u32 = 9;
 
+/// The memory that was lent for lists ran out.
+pub(crate) const NO_MEMORY: u32 = 10;
+
 /// What a run came to, as C reads it.
 #[repr(C)]
 #[derive(Drop)]
 pub struct TracReport {
-    /// How it ended: the number of a fate, or 9 where the number of cells was refused.
+    /// How it ended: the number of a fate, 9 where the number of cells was refused, or 10 where the memory of a
+    /// check ran out.
     pub fate: u32,
     /// The greatest need of a step, in cells.
     pub peak: u32,
@@ -21,7 +26,8 @@ pub struct TracReport {
     pub written: usize,
     /// The bytes of the script that were consumed, from its front.
     pub consumed: usize,
-    /// The bytes that the next step prints, where it waits for room in the output.
+    /// The bytes that the next step prints, where it waits for room in the output. After a check those of all
+    /// lines.
     pub wanted: usize,
 }
 
@@ -45,6 +51,20 @@ pub(crate) fn refused() -> TracReport
 {
     TracReport {
         fate: REFUSED,
+        peak: 0,
+        steps: 0,
+        written: 0,
+        consumed: 0,
+        wanted: 0,
+    }
+}
+
+/// The report where the memory of a check ran out.
+pub(crate) fn no_memory() -> TracReport
+    ensures { result ≡ no_memory }
+{
+    TracReport {
+        fate: NO_MEMORY,
         peak: 0,
         steps: 0,
         written: 0,
