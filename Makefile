@@ -20,6 +20,8 @@ PYTEST = $(PYTHON) -m pytest -q -n auto --dist loadfile
 TERMINAL = hosts/c/terminal.c hosts/c/calls.c hosts/c/saving.c hosts/c/texts.c hosts/c/typing.c
 # Lines are edited by libedit, where it is there.
 EDITING = -DWITH_LIBEDIT -ledit
+# The engine in two parts, of which the programs need the first: the check takes longer to compile than all else.
+OBJECTS = build/TRAC_WITHOUT_CHECK.o build/TRAC_CHECK_ALONE.o
 
 all: build/trac build/trac_terminal
 
@@ -27,12 +29,12 @@ help:
 	@sed -n 's/^## //p' Makefile
 
 ## make            the programs in C, build/trac and build/trac_terminal: any C compiler, some seconds
-build/trac: hosts/c/trac.c hosts/c/words.h build/libtrac.a
-	$(CC) -std=c11 $(CFLAGS) -o $@ hosts/c/trac.c build/libtrac.a
+build/trac: hosts/c/trac.c hosts/c/words.h build/TRAC_WITHOUT_CHECK.o
+	$(CC) -std=c11 $(CFLAGS) -o $@ hosts/c/trac.c build/TRAC_WITHOUT_CHECK.o
 
-build/trac_terminal: $(TERMINAL) hosts/c/terminal.h hosts/c/words.h build/libtrac.a
-	$(CC) -std=c11 $(CFLAGS) -o $@ $(TERMINAL) build/libtrac.a $(EDITING) 2>/dev/null || \
-	    $(CC) -std=c11 $(CFLAGS) -o $@ $(TERMINAL) build/libtrac.a
+build/trac_terminal: $(TERMINAL) hosts/c/terminal.h hosts/c/words.h build/TRAC_WITHOUT_CHECK.o
+	$(CC) -std=c11 $(CFLAGS) -o $@ $(TERMINAL) build/TRAC_WITHOUT_CHECK.o $(EDITING) 2>/dev/null || \
+	    $(CC) -std=c11 $(CFLAGS) -o $@ $(TERMINAL) build/TRAC_WITHOUT_CHECK.o
 
 ## make prove      the proved program, crates/trac_cli/out/trac_cli: proves all that it stands on
 prove: crates/trac_cli/out/trac_cli
@@ -139,13 +141,15 @@ types:
 dist/trac.html: dist/trac.wasm $(PAGE) VERSION
 	$(PYTHON) hosts/page/make.py dist/trac.wasm $(VERSION) $@
 
-build/libtrac.a: hosts/c/trac_engine.c hosts/c/trac.h
+$(OBJECTS): hosts/c/trac_engine.c hosts/c/trac.h
 	mkdir -p build
-	$(CC) -std=c11 $(CFLAGS) -fPIC -ffunction-sections -c -o build/trac_engine.o hosts/c/trac_engine.c
-	rm -f $@ && ar rcs $@ build/trac_engine.o
+	$(CC) -std=c11 $(CFLAGS) -fPIC -ffunction-sections -D$(@F:.o=) -c -o $@ hosts/c/trac_engine.c
+
+build/libtrac.a: $(OBJECTS)
+	rm -f $@ && ar rcs $@ $(OBJECTS)
 
 build/libtrac.so.0: build/libtrac.a
-	$(CC) -shared -Wl,-soname,libtrac.so.0 -o $@ build/trac_engine.o
+	$(CC) -shared -Wl,-soname,libtrac.so.0 -o $@ $(OBJECTS)
 
 ## make install    puts what is built below PREFIX (~/.local); make uninstall takes it away again
 install: all build/libtrac.so.0

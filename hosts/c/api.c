@@ -1,6 +1,44 @@
 /* The functions of trac.h, around the exports of the engine. They test what can be tested of pointers and machines, and
  * hand the exports pointers that are never null. Written by hand, and tested. TRAC_KIND is "proved" or "generated". */
 
+static int is_aligned(const void *place, size_t bytes) { return (uintptr_t)place % bytes == 0; }
+
+static int is_block(const trac_cell *block, size_t cells) {
+    return block ? is_aligned(block, sizeof(uint32_t)) : cells == 0;
+}
+
+static int are_bytes(const void *bytes, size_t length) { return bytes || !length; }
+
+static const trac_report refused = {TRAC_REFUSED, 0, 0, 0, 0, 0};
+
+/* What stands in the place of a null pointer of length 0, and is never written. */
+static const uint32_t NOTHING = 0;
+
+static const uint8_t *read_from(const void *bytes) { return (const uint8_t *)(bytes ? bytes : &NOTHING); }
+
+static uint8_t *written_to(void *bytes) { return bytes ? (uint8_t *)bytes : (uint8_t *)(uintptr_t)&NOTHING; }
+
+#ifndef TRAC_WITHOUT_CHECK
+/* The lists of a check stand in units of so many bytes, which are aligned to them. */
+enum { UNIT = 16 };
+
+trac_report trac_check(trac_cell *block, size_t cells, uint64_t steps, const void *script, size_t script_length,
+                       void *memory, size_t memory_length, void *lines, size_t lines_length) {
+    static const trac_report no_memory = {TRAC_NO_MEMORY, 0, 0, 0, 0, 0};
+    const size_t before = (size_t)(0 - (uintptr_t)memory) % UNIT;
+    trac_cell no_cell;
+    if (!is_block(block, cells) || !are_bytes(script, script_length) || !are_bytes(memory, memory_length) ||
+        !are_bytes(lines, lines_length))
+        return refused;
+    if (memory_length < before + UNIT)
+        return no_memory;
+    return trac_engine_check(block ? block : &no_cell, cells, steps, read_from(script), script_length,
+                             (char *)memory + before, (memory_length - before) / UNIT, written_to(lines),
+                             lines_length);
+}
+#endif
+
+#ifndef TRAC_CHECK_ALONE
 /* The words of a machine: the engine's, a mark of one that was opened, and how often it was changed. */
 enum { ENGINE_WORDS = 11, MARK = 11, CHANGES = 12 };
 static const uint64_t OPENED = UINT64_C(0x74726163743634A7);
@@ -15,14 +53,6 @@ struct aligned_machine {
 };
 
 static uint64_t number_of(const void *place) { return (uint64_t)(uintptr_t)place; }
-
-static int is_aligned(const void *place, size_t bytes) { return (uintptr_t)place % bytes == 0; }
-
-static int is_block(const trac_cell *block, size_t cells) {
-    return block ? is_aligned(block, sizeof(uint32_t)) : cells == 0;
-}
-
-static int are_bytes(const void *bytes, size_t length) { return bytes || !length; }
 
 static int are_codes(const uint32_t *codes, size_t room) {
     return codes ? is_aligned(codes, sizeof(uint32_t)) : room == 0;
@@ -45,18 +75,6 @@ static void *found(const trac_form *form) {
     machine = (const trac_machine *)(uintptr_t)form->words[OF_MACHINE];
     return is_opened(machine) && machine->words[CHANGES] == form->words[OF_CHANGES] ? (void *)(uintptr_t)form : NULL;
 }
-
-static const trac_report refused = {TRAC_REFUSED, 0, 0, 0, 0, 0};
-
-/* The lists of a check stand in units of so many bytes, which are aligned to them. */
-enum { UNIT = 16 };
-
-/* What stands in the place of a null pointer of length 0, and is never written. */
-static const uint32_t NOTHING = 0;
-
-static const uint8_t *read_from(const void *bytes) { return (const uint8_t *)(bytes ? bytes : &NOTHING); }
-
-static uint8_t *written_to(void *bytes) { return bytes ? (uint8_t *)bytes : (uint8_t *)(uintptr_t)&NOTHING; }
 
 static uint32_t *laid_to(uint32_t *codes) { return codes ? codes : (uint32_t *)(uintptr_t)&NOTHING; }
 
@@ -90,23 +108,6 @@ trac_report trac_run(trac_cell *block, size_t cells, uint64_t steps, const void 
     return trac_engine_run(block ? block : &no_cell, cells, steps, read_from(script), script_length,
                            written_to(output), output_length);
 }
-
-#ifndef TRAC_WITHOUT_CHECK
-trac_report trac_check(trac_cell *block, size_t cells, uint64_t steps, const void *script, size_t script_length,
-                       void *memory, size_t memory_length, void *lines, size_t lines_length) {
-    static const trac_report no_memory = {TRAC_NO_MEMORY, 0, 0, 0, 0, 0};
-    const size_t before = (size_t)(0 - (uintptr_t)memory) % UNIT;
-    trac_cell no_cell;
-    if (!is_block(block, cells) || !are_bytes(script, script_length) || !are_bytes(memory, memory_length) ||
-        !are_bytes(lines, lines_length))
-        return refused;
-    if (memory_length < before + UNIT)
-        return no_memory;
-    return trac_engine_check(block ? block : &no_cell, cells, steps, read_from(script), script_length,
-                             (char *)memory + before, (memory_length - before) / UNIT, written_to(lines),
-                             lines_length);
-}
-#endif
 
 uint32_t trac_open(trac_machine *machine, trac_cell *block, size_t cells, uint64_t steps) {
     if (!is_place(machine))
@@ -239,3 +240,4 @@ uint32_t trac_meta(const trac_machine *machine) {
 uint32_t trac_awaits(const trac_machine *machine) {
     return is_opened(machine) ? trac_engine_awaits(seen(machine)) : TRAC_REFUSED;
 }
+#endif

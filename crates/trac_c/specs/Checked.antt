@@ -1,11 +1,8 @@
 -- What C is told of a check.
-use Rattle.std.specs.Prelude.{◌≡◌, ℕ, ◌<◌, ◌≤◌, ◌⊎◌, ◌++◌, List, [], length, min}
-use Rattle.std.specs.List.{flat_map}
+use Rattle.std.specs.Prelude.{◌≡◌, ℕ, ◌<◌, ◌≤◌, ◌⊎◌, List, length, min}
 use Rattle.trac_language.specs.Text.{Text}
 use Rattle.trac_language.specs.declared.report.Report.{Report}
-use Rattle.trac_warnings.specs.Watched.{Said}
-use Rattle.trac_views.specs.Told.{is_fault}
-use Rattle.trac_checker.specs.Warned.{fault_end, warning_line}
+use Rattle.trac_checker.specs.Warned.{Found, lines_of}
 use Rattle.trac_c.specs.Laid.{laid}
 use Rattle.trac_c.specs.Told.{number, refused}
 use Rattle.trac_c.specs.declared.report.TracReport.{TracReport}
@@ -13,11 +10,6 @@ use Rattle.trac_c.specs.declared.report.TracReport.{TracReport}
 -- the report where the memory ran out
 abbrev pub no_memory : TracReport
 no_memory = record { fate = 10; peak = 0; steps = 0; written = 0; consumed = 0; wanted = 0 }
-
--- the lines of what was found in a script, by the names of forms, and that on a fault
-abbrev pub lines_of : Text → List Text → List (Said × ℕ) → Report → Text
-lines_of script names found report =
-    flat_map (warning_line [] script names) found ++ fault_end (is_fault report.fate) report
 
 -- in numbers, the report of a run in so many cells with this allowance, whose lines stand at the front of a buffer
 pub record Finds (room allowance : ℕ) (lines old_buffer buffer : Text) (told : TracReport) (report : Report)
@@ -33,7 +25,7 @@ pub record Finds (room allowance : ℕ) (lines old_buffer buffer : Text) (told :
 -- the report tells what was found in such a run
 abbrev pub Findings : (room allowance : ℕ) → (script old_buffer buffer : Text) → TracReport → Type 0
 Findings room allowance script old_buffer buffer told =
-    (names : List Text) × ((found : List (Said × ℕ)) × ((report : Report) ×
+    (names : List Text) × ((found : Found) × ((report : Report) ×
     Finds room allowance (lines_of script names found report) old_buffer buffer told report))
 
 -- the same, or the memory ran out, and the buffer stays as it is

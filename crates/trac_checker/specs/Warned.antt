@@ -1,6 +1,7 @@
 -- The lines of warnings.
 use Rattle.std.specs.Prelude.{ℕ, ◌+◌, ◌^◌, ◌-◌, ◌==◌, List, [], ◌++◌, Option, Some, None, codes}
 use Rattle.std.specs.Prelude.{Bool, decimal, map, min, slice_get, take}
+use Rattle.std.specs.List.{flat_map}
 use Rattle.std.specs.declared.vec.Vec.{Vec}
 use Rattle.std.specs.Prelude.{nat_lt, if◌then◌else◌}
 use Rattle.trac_events.specs.declared.place.Place.{Place}
@@ -13,7 +14,7 @@ use Rattle.trac_language.specs.Text.{Text}
 use Rattle.trac_language.specs.declared.report.Report.{Report}
 use Rattle.trac_views.specs.Lines.{end_text}
 use Rattle.trac_views.specs.Shown.{shown_text}
-use Rattle.trac_views.specs.Told.{place_text}
+use Rattle.trac_views.specs.Told.{is_fault, place_text}
 
 -- a column, from 0, of the value of a form of this name
 abbrev pub column_of_value : ℕ → List ℕ → List ℕ
@@ -85,3 +86,12 @@ fault_end is_fault report = if is_fault then ended report else []
 abbrev pub summary_text : List ℕ → ℕ → Report → List ℕ
 summary_text name count report =
     name ++ codes ": warnings " ++ decimal count ++ codes "; " ++ ended report
+
+-- what was found in a script, and how often each
+abbrev pub Found : Type 0
+Found = List (Said × ℕ)
+
+-- the lines of what was found in a script, by the names of forms, and that on a fault
+abbrev pub lines_of : Text → List Text → Found → Report → Text
+lines_of script names found report =
+    flat_map (warning_line [] script names) found ++ fault_end (is_fault report.fate) report

@@ -3,16 +3,12 @@
 
 /* The bytes of that stack, beside what the functions above take of C's: what the deepest calls can take, the 16 bytes
  * that the engine keeps free, and what is lost where it is aligned. */
-enum { STACK = DEEPEST_STACK + 16 + 16 };
-
-struct lent {
-    u8 stack[STACK];
-};
+enum { SPARE = 16 + 16, STACK = DEEPEST_STACK + SPARE, STACK_OF_CHECK = CHECK_STACK + SPARE };
 
 static u64 address_of(const void *place) { return (u64)(uintptr_t)place; }
 
 /* The end of a stack, a multiple of 16: what a function takes of it lies before the end that it is handed. */
-static u64 lend(struct lent *to) { return address_of(to->stack + STACK) & ~(u64)15; }
+static u64 end_of(const u8 *stack, size_t size) { return address_of(stack + size) & ~(u64)15; }
 
 /* A report as the engine writes it. */
 struct engine_report {
@@ -31,6 +27,24 @@ static trac_report told(const struct engine_report *report) {
     return given;
 }
 
+#ifndef TRAC_WITHOUT_CHECK
+static trac_report trac_engine_check(void *block, size_t cells, uint64_t steps, const uint8_t *script,
+                                     size_t script_len, void *memory, size_t units, uint8_t *to, size_t to_len) {
+    u8 stack[STACK_OF_CHECK];
+    struct engine_report report;
+    engine_check(end_of(stack, sizeof stack), address_of(&report), address_of(block), cells, steps,
+                 address_of(script), script_len, address_of(memory), units, address_of(to), to_len);
+    return told(&report);
+}
+#endif
+
+#ifndef TRAC_CHECK_ALONE
+struct lent {
+    u8 stack[STACK];
+};
+
+static u64 lend(struct lent *to) { return end_of(to->stack, STACK); }
+
 /* Puts the codes that were laid into the order of bytes of this machine. */
 static size_t in_order(u32 *codes, size_t room, u64 count) {
     for (size_t i = 0; i < count && i < room; i++)
@@ -46,17 +60,6 @@ static trac_report trac_engine_run(void *block, size_t cells, uint64_t steps, co
                address_of(output), output_len);
     return told(&report);
 }
-
-#ifndef TRAC_WITHOUT_CHECK
-static trac_report trac_engine_check(void *block, size_t cells, uint64_t steps, const uint8_t *script,
-                                     size_t script_len, void *memory, size_t units, uint8_t *to, size_t to_len) {
-    struct lent lent;
-    struct engine_report report;
-    engine_check(lend(&lent), address_of(&report), address_of(block), cells, steps, address_of(script), script_len,
-                 address_of(memory), units, address_of(to), to_len);
-    return told(&report);
-}
-#endif
 
 static size_t trac_engine_machine_size(void) {
     struct lent lent;
@@ -161,3 +164,4 @@ static uint32_t trac_engine_awaits(void *machine) {
     struct lent lent;
     return engine_awaits(lend(&lent), address_of(machine));
 }
+#endif

@@ -21,6 +21,10 @@ STACK = '$__stack_pointer'
 # So many lines in C are short, and so many short enough for a function that is called at so few places.
 SHORT, MIDDLE, FEW = 80, 200, 3
 # What each export does around its work, which keeps a caller of its own from calling it from within: none here can.
+# The export that C may leave out, with what it alone needs, or have alone. It has maps: a tree of them is taken apart by calls that go
+# in a circle, one for each level, and each level has six times as many places as the one above it.
+CHECK = '$trac_engine_check'
+TREE, LEVELS = 'btree::node::Node::destroy', 25
 GUARD = '$__rattle_enter'
 GUARDS = [[['call', GUARD], ['if'], ['unreachable'], ['end']], [['i32.const', '0'], ['global.set', '$in_call']]]
 ESCAPES = {'t': 9, 'n': 10, 'r': 13, '"': 34, "'": 39, '\\': 92}
@@ -306,13 +310,14 @@ class Function:
         value = self.pop(1)[0].text if action == 'store' else ''
         [place] = self.pop(1)
         offset = next((word[7:] for word in words if word.startswith('offset=')), '0')
+        is_address = '@' in offset and int(offset[1:]) in self.module.addresses
         offset = self.module.address(offset) if '@' in offset else f'{offset}u'
         where = bare(place.text) if offset == '0u' else f'{place.text} + {offset}'
         if action == 'store':
             self.settle_all('memory')
             self.say(f'store{bits}({where}, {cast(f"u{bits}", value) if narrow else bare(value)});')
         else:
-            widened = f'({TYPES[kind]})(i{kind[1:]})(i{bits})' if sign == '_s' else ''
+            widened = 'TABLES + ' if is_address else f'({TYPES[kind]})(i{kind[1:]})(i{bits})' if sign == '_s' else ''
             self.stack.append(self.settle(Value(f'{widened}load{bits}({where})', kind)))
 
     def number(self, kind, action, sign='', words=()):
@@ -326,6 +331,8 @@ class Function:
 
     def constant(self, kind, word):
         if '@' in word:
+            if int(word[1:]) in self.module.addresses:
+                raise SystemExit(f'wasm_to_c.py: {word[1:]} is where an address stands')
             return f'({self.module.address(word)})'
         return f"{int(word) % (1 << int(kind[1:]))}u{'ll' if kind == 'i64' else ''}"
 
@@ -368,7 +375,7 @@ class Function:
     def unary(self, kind, action, sign):
         [a] = self.pop(1)
         texts = {'eqz': f'({a.text} == 0)', 'wrap_i64': cast('u32', a.text), 'extend_i32_u': cast('u64', a.text),
-                 'extend_i32_s': f'(u64)(i64){cast("i32", a.text)}', 'clz': f'clz{kind[1:]}({a.text})'}
+                 'extend8_s': f'((({a.text} & 255u) ^ 128u) - 128u)', 'extend_i32_s': f'(u64)(i64){cast("i32", a.text)}', 'clz': f'clz{kind[1:]}({a.text})'}
         name = f'{action}_{sign}' if sign else action
         if name not in texts:
             raise SystemExit(f'wasm_to_c.py: no translation of {kind}.{name}')
@@ -416,7 +423,7 @@ class Module:
 
     def __init__(self, lines):
         self.types, self.heads, self.names, self.starts = {}, {}, {}, {}
-        self.functions, self.data = [], []
+        self.functions, self.exports, self.data, self.addresses = [], [], [], {}
         body = None
         for line in lines:
             text = re.sub(r'\s*;;.*', '', line.strip())
@@ -439,6 +446,8 @@ class Module:
             self.types[re.search(r';(\d+);', text)[1]] = Head(text)
         elif word == '(func':
             return self.function(text)
+        elif word == '(export' and '(func ' in text:
+            self.exports.append(re.search(r'\(func (\S+?)\)', text)[1])
         elif word == '(global':
             name, start = re.match(r'\(global (\S+) .* \(i\d\d.const @?(\d+)\)', text).groups()
             self.starts[name] = int(start)
@@ -476,10 +485,25 @@ class Module:
             raise SystemExit(f'wasm_to_c.py: {text} is no address of the tables')
         return f'TABLES + {at}u'
 
+    def find_addresses(self, same):
+        """Finds the words of the tables that are addresses of tables: those that differ in the same module at another
+        place. Each is loaded from the place of its row, behind the row's own address."""
+        for (at, held), (_, other) in zip(self.data, same.data):
+            for word in range(-at % 8, len(held), 8):
+                one, another = (int.from_bytes(data[word:word + 8], 'little') for data in (held, other))
+                if one != another:
+                    self.addresses[at + word] = one
+            unlike = sum(a != b for a, b in zip(held, other))
+            if unlike > sum(at <= place < at + len(held) for place in self.addresses):
+                raise SystemExit(f'wasm_to_c.py: the modules differ in the data at {at} by more than addresses')
+
     def table(self):
+        """The bytes of the tables. What is an address there is how far that lies behind their beginning."""
         table = bytearray(self.last - self.first)
         for at, held in self.data:
             table[at - self.first:at - self.first + len(held)] = held
+        for at, address in self.addresses.items():
+            table[at - self.first:at - self.first + 8] = (address - self.first).to_bytes(8, 'little')
         return table
 
 
@@ -500,17 +524,36 @@ def frame_of(body):
                and third[0] in ('i64.add', 'i64.sub'))
 
 
-def deepest(module):
-    """The bytes of the stack that the calls of any export take at the most. No call goes in a circle."""
+def calls_of(module):
+    """Which functions each one calls."""
+    return {name: {words[1] for words in body if words[0] == 'call'} for name, _, body in module.functions}
+
+
+def deepest(module, exports):
+    """The bytes of the stack that the calls of these exports take at the most. No call goes in a circle, but for those
+    that take a map's tree apart, one for each level."""
     frames = {name: frame_of(body) for name, _, body in module.functions}
-    calls = {name: {words[1] for words in body if words[0] == 'call'} for name, _, body in module.functions}
+    calls = calls_of(module)
 
     @functools.cache
     def depth(name, above=()):
         if name in above:
             raise SystemExit(f'wasm_to_c.py: {name} calls itself')
-        return frames[name] + max((depth(callee, (*above, name)) for callee in calls[name]), default=0)
-    return max(map(depth, module.heads))
+        levels = LEVELS if TREE in name and name in calls[name] else 1
+        below = calls[name] - {name} if levels > 1 else calls[name]
+        return levels * frames[name] + max((depth(callee, (*above, name)) for callee in below), default=0)
+    return max(map(depth, exports))
+
+
+def reached(module, exports):
+    """The functions that these exports call, and they themselves."""
+    calls, found, left = calls_of(module), set(), list(exports)
+    while left:
+        name = left.pop()
+        if name not in found:
+            found.add(name)
+            left += calls[name]
+    return found
 
 
 def lines_of(path):
@@ -527,17 +570,18 @@ def marked(line, same):
     return re.sub(r'(i64.const |offset=)(\d+)', r'\1@\2', line)
 
 
-def print_table(module):
+def print_table(module, others):
     table = module.table()
-    print(f'enum {{ DEEPEST_STACK = {deepest(module)} }};\n')
+    print(f'enum {{ DEEPEST_STACK = {deepest(module, others)}, CHECK_STACK = {deepest(module, [CHECK])} }};\n')
     print(f'static const u8 tables[{len(table)}] = {{')
     for i in range(0, len(table), 24):
         print('    ' + ', '.join(map(str, table[i:i + 24])) + ',')
     print('};\n')
 
 
-def print_functions(module):
-    heads, bodies, _ = {}, {}, module.heads.pop(GUARD)
+def print_functions(module, others):
+    heads, bodies = {}, {}
+    of_check, of_others = reached(module, [CHECK]), reached(module, others)
     functions = [function for function in module.functions if function[0] in module.heads]
     calls = Counter(words[1] for _, _, body in functions for words in body if words[0] == 'call')
     for name, kinds, body in functions:
@@ -549,9 +593,18 @@ def print_functions(module):
         params = ''.join(f', {TYPES[kind]} l{i}' for i, kind in enumerate(head.params))
         result = TYPES[head.results[0]] if head.results else 'void'
         heads[name] = f'static {"INLINE " if small else ""}{result} {module.names[name]}(u64 stack{params})'
+    print_bodies([name for name in bodies if name in of_check & of_others], heads, bodies)
+    for left_out, names in (('TRAC_CHECK_ALONE', of_others - of_check), ('TRAC_WITHOUT_CHECK', of_check - of_others)):
+        print(f'\n#ifndef {left_out}')
+        print_bodies([name for name in bodies if name in names], heads, bodies)
+        print('#endif')
+
+
+def print_bodies(names, heads, bodies):
+    for name in names:
         print(heads[name] + ';')
-    for name, lines in bodies.items():
-        print(f'\n{heads[name]} {{', *lines, '}', sep='\n')
+    for name in names:
+        print(f'\n{heads[name]} {{', *bodies[name], '}', sep='\n')
 
 
 def main(path, other):
@@ -559,8 +612,11 @@ def main(path, other):
     if len(lines) != len(others):
         raise SystemExit('wasm_to_c.py: the modules differ in their lengths')
     module = Module([marked(line, same) for line, same in zip(lines, others)])
-    print_table(module)
-    print_functions(module)
+    module.find_addresses(Module(others))
+    module.heads.pop(GUARD)
+    others = [name for name in module.exports if name != CHECK]
+    print_table(module, others)
+    print_functions(module, others)
 
 
 if __name__ == '__main__':
