@@ -82,11 +82,11 @@ generate:
 	hosts/c/generate
 
 ## make dist       what is handed out, in dist/: programs, libraries, the page, the manual
-dist: programs all build/libtrac.so.0 dist/libtrac.a dist/trac.h dist/trac.html dist/npm/package.json \
+dist: programs all build/libtrac.so.0 dist/libtrac.a dist/trac.html dist/npm/package.json \
     dist/trac_t64-$(VERSION).tar.gz dist/trac.pdf
 	cp -p crates/trac_trace/out/trac_trace build/trac_terminal dist
 	cp -p crates/trac_cli/out/trac_cli dist/trac
-	cp docs/*.[0-9] hosts/c/trac.c hosts/c/words.h hosts/c/trac_engine.c dist
+	cp docs/*.[0-9] hosts/c/trac.h hosts/c/trac.c hosts/c/words.h hosts/c/trac_engine.c dist
 	@stage=$$(mktemp -d) && trap 'rm -rf "$$stage"' EXIT && hosts/system/stage "$$stage/all" /usr/local lib && \
 	    rm -rf dist/doc && cp -R "$$stage/all/share/doc/trac-t64" dist/doc
 	sed 's/@VERSION@/$(VERSION)/' hosts/system/README.in >dist/README
@@ -99,10 +99,6 @@ dist/libtrac.a: $(SOURCES) hosts/c/proved.c hosts/c/api.c hosts/c/trac.h
 	ld -r -o build/libtrac.o build/proved.o --whole-archive crates/trac_c/out/libtrac_c.a
 	objcopy -w --keep-global-symbol='trac_[!e]*' build/libtrac.o
 	rm -f $@ && ar rcs $@ build/libtrac.o
-
-dist/trac.h: hosts/c/trac.h
-	mkdir -p dist
-	cp hosts/c/trac.h $@
 
 dist/trac.wasm: $(SOURCES)
 	mkdir -p build dist

@@ -51,7 +51,7 @@ def traced(row):
 class Library(Engine, unittest.TestCase):
     @classmethod
     def setUpClass(cls):
-        make('dist/libtrac.a', 'dist/trac.h')
+        make('dist/libtrac.a')
         cls.folder = tempfile.mkdtemp()
         cls.addClassCleanup(shutil.rmtree, cls.folder)
         kinds = (('gcc', STRICT), ('clang', STRICT), ('gcc', SANITIZED), ('g++', AS_CPP))

@@ -2,6 +2,7 @@
 page's own, the examples and the exercises stand inside; a policy in its head forbids every connection."""
 import base64
 import glob
+import gzip
 import hashlib
 import json
 import os
@@ -90,7 +91,7 @@ def page(module, version):
     style, script = read('hosts', 'page', 'style.css'), code(version)
     parts = {
         'STYLE': style, 'CODE': script, 'LESSONS': lessons(), 'VERSION': version,
-        'ENGINE': base64.b64encode(module).decode(),
+        'ENGINE': base64.b64encode(gzip.compress(module, 9, mtime=0)).decode(),
         'POLICY': "default-src 'none'; base-uri 'none'; form-action 'none'; "
                   f"script-src {hashed(script)} 'wasm-unsafe-eval'; style-src {hashed(style)}",
     }

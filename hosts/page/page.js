@@ -120,12 +120,24 @@ function placeWords(run) {
         counted(column)}${inScript ? '' : ' of the further input'}.`;
 }
 
+/** Unpacks the engine that stands in the page. */
+async function unpackEngine() {
+    const packed = Uint8Array.from(atob(find('engine').textContent), (letter) => letter.charCodeAt(0));
+    const stream = new Blob([packed]).stream().pipeThrough(new DecompressionStream('gzip'));
+    provide(await new Response(stream).arrayBuffer());
+}
+
 /** The page. */
 class Page {
     constructor() {
         /** @type {State} */
         this.state = { kind: 'idle' };
         this.marked = '';
+        /**
+         * Done when the engine is unpacked.
+         * @type {Promise<void> | undefined}
+         */
+        this.unpacked = undefined;
         this.boxes = new Boxes(() => this.outdate());
         this.lessons = new Lessons((texts) => this.boxes.fill(texts));
         this.view = new View();
@@ -210,6 +222,7 @@ class Page {
     async make(limits, signal, step) {
         const { texts } = this.boxes;
         const input = bytesOfText(texts.script + texts.input);
+        await this.unpacked;
         const history = await History.of(input, limits);
         await history.run(signal, (done) => {
             find('fate').textContent = `Running: ${several(done, 'step')} …`;
@@ -413,13 +426,11 @@ class Page {
 
     /** Fills the boxes for the first time. */
     begin() {
-        if (typeof WebAssembly === 'undefined') {
+        if (typeof WebAssembly === 'undefined' || typeof DecompressionStream === 'undefined') {
             for (const id of ['run', 'through']) find(id).disabled = true;
-            find('fate').textContent = 'This browser has no WebAssembly, so it can’t run scripts here; '
-                + 'they can be written, opened, saved and linked.';
-        } else {
-            provide(Uint8Array.from(atob(find('engine').textContent), (letter) => letter.charCodeAt(0)));
-        }
+            find('fate').textContent = 'This browser has no WebAssembly, or can’t unpack the engine, so it can’t '
+                + 'run scripts here; they can be written, opened, saved and linked.';
+        } else this.unpacked = unpackEngine();
         const isEmbedded = new URLSearchParams(window.location.search).has('embed');
         document.documentElement.classList.toggle('embed', isEmbedded);
         if (this.boxes.load()) this.lessons.recognise(this.boxes.texts);
