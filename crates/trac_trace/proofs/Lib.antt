@@ -1,3 +1,5 @@
 pub mod Failures
 pub mod Command
 pub mod Placed
+pub mod Framing
+pub mod Tracing
