@@ -5,7 +5,9 @@
 //! and the exit statuses are this processor's own choice.
 #![tactic(auto)]
 
-ghost use Rattle.std.specs.Prelude.{◌≡◌};
+ghost use Rattle.std.specs.Prelude.{◌≡◌, ◌++◌, vec_len, IfErr, IfOk, IfNone, IfSome, MatchOption};
+ghost use Rattle.std.specs.Io.{StartsWith, appended_bytes};
+ghost use Rattle.std.specs.Io.KnownBytes.{Consumes, IsAtEnd};
 ghost use Rattle.trac_trace.specs.Statuses.{traced_status, warned_status};
 
 mod check;
@@ -137,7 +139,16 @@ fn show_warnings<W: Write>(
 
 // Reads the whole input, and gives the place at which reading failed, if it did. Fails only if
 // memory runs out.
-fn read_all<R: Read>(reader: &mut R, input: &mut Vec<u8>) -> Result<Option<u64>, TraceError> {
+fn read_all<R: Read>(reader: &mut R, input: &mut Vec<u8>) -> Result<Option<u64>, TraceError>
+    ensures begins { StartsWith input.new.items input.old.items }
+    ensures consumes { Consumes (R.remaining reader.old) (R.remaining reader.new)
+        (appended_bytes input.old.items input.new.items) }
+    ensures all { IfOk result (λ fails_at. IfNone fails_at (IfSome (R.remaining reader.old)
+        (λ bytes. input.new.items ≡ input.old.items ++ bytes))) }
+    ensures end { IfOk result (λ fails_at. MatchOption fails_at (IsAtEnd (R.remaining reader.new))
+        (λ place. place ≡ vec_len input.new)) }
+    ensures memory { IfErr result (λ error. error ≡ TraceError.NoMemory) }
+{
     match reader.read_to_end(input) {
         Ok(_) => Ok(None),
         Err(error) if error.kind() == ErrorKind::OutOfMemory => Err(TraceError::NoMemory),

@@ -1,2 +1,4 @@
 pub mod Last
 pub mod Odd
+pub mod Recorded
+pub mod ShownRuns

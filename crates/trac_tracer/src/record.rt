@@ -1,7 +1,8 @@
 //! A reader that keeps what it reads.
-ghost use Rattle.std.specs.Prelude.{◌≡◌, [], true};
+ghost use Rattle.std.specs.Prelude.{◌≡◌, [], MatchResult, take, true};
 ghost use Rattle.std.specs.Io.{ReadsAtMost};
 ghost use Rattle.std.specs.Io.KnownBytes.{ReadConsumes};
+ghost use Rattle.trac_tracer.specs.Recorded.{KeepsRead};
 
 use std::alloc::Global;
 use std::io;
@@ -43,6 +44,11 @@ impl<R: Read> Read for Recording<'_, R> {
         ensures bound { ReadsAtMost result buf.new }
         ensures bytes { ReadConsumes (R.remaining self.old.reader) (R.remaining self.new.reader)
             result buf.new }
+        // what was read is kept, unless memory runs out, which is then told
+        ensures kept { MatchResult result
+            (λ count. KeepsRead (take count buf.new) self.old.record.now self.new.record.now)
+            (λ _. self.new.record.now ≡ self.old.record.now) }
+        ensures same_record { self.new.record.ghost_name ≡ self.old.record.ghost_name }
     {
         let count = self.reader.read(buf)?;
         let is_kept = self.record.bytes.extend_from_slice(&buf[..count]).is_ok();

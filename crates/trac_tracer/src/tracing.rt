@@ -1,8 +1,12 @@
 //! A run that is shown step by step.
-ghost use Rattle.std.specs.Prelude.{◌≡◌, ◌+◌, ◌-◌, ◌^◌, ◌<◌, ◌++◌, [], IfOk, OnOk};
+ghost use Rattle.std.specs.Prelude.{◌≡◌, ◌+◌, ◌-◌, ◌^◌, ◌<◌, ◌≤◌, ℕ, List, IfOk, OnOk, IsSome};
+ghost use Rattle.std.specs.Prelude.{min, true, false};
 ghost use Rattle.std.specs.Io.KnownBytes.{Appends};
 ghost use Rattle.trac_core.specs.Machine.{reported_input_failures};
-ghost use Rattle.trac_views.specs.Lines.{output_text};
+ghost use Rattle.trac_views.specs.Lines.{folded_text};
+ghost use Rattle.trac_views.specs.Told.{has_steps};
+ghost use Rattle.trac_devices.specs.Devices.{Stream, told_stream};
+ghost use Rattle.trac_tracer.specs.ShownRuns.{ShowsRun, all_steps, views_from};
 
 use crate::last::LastSteps;
 use crate::options::Options;
@@ -44,7 +48,8 @@ pub struct Traced {
 }
 
 /// Runs the script that the source gives, in a workspace of the options' cells and with the steps
-/// that they allow, and writes what their views show of each step, and how the run ended.
+/// that they allow, and writes what their views show of each step, and how the run ended. Fails only if
+/// memory runs out or the output can't be written.
 pub fn trace<I: Source, W: Write>(
     alloc: Global,
     options: &Options,
@@ -54,6 +59,12 @@ pub fn trace<I: Source, W: Write>(
     requires source_counts { I.failure_count source.old < 2 ^ 64 - 1 }
     ensures input_failed { IfOk result (λ traced. I.failure_count source.new ≡
         I.failure_count source.old + reported_input_failures traced.fate) }
+    // what was written shows the definition's run, step by step
+    ensures shows { let views = options.now.views in let settings = options.now.settings in
+        I.tells source.old → IfOk result (λ traced. (text : List ℕ)
+        × (Appends (W.contents output.old) (W.contents output.new) text
+        × ShowsRun views settings.cells settings.steps (I.stream source.old) (I.stream source.new)
+        traced.fate traced.first text)) }
 {
     let mut block = make_block(alloc, options.settings.cells)?;
     let mut machine = Machine::over(&mut block, options.settings.steps);
@@ -82,13 +93,21 @@ pub fn trace<I: Source, W: Write>(
 /// show something of. The script is run twice: the first run finds the first of these steps and
 /// keeps what it reads, and the second reads that again. No lines are kept in between, since the
 /// strings of each step may be as long as the block. The second run ends as the first: it reads the
-/// same bytes, and fails where the first did.
+/// same bytes, and fails where the first did. Fails only if memory runs out or the output can't be
+/// written.
 pub fn trace_last<R: Read + Drop, W: Write>(
     alloc: Global,
     options: &Options,
     reader: R,
     output: &mut W,
-) -> Result<Traced, TraceError> {
+) -> Result<Traced, TraceError>
+    // what was written shows the definition's run over some bytes, from some step on
+    ensures { let settings = options.now.settings in IfOk result (λ traced.
+        (text : List ℕ) × ((bytes : List ℕ) × ((left : Stream) × ((first : ℕ)
+        × (Appends (W.contents output.old) (W.contents output.new) text
+        × ShowsRun (views_from first options.now.views) settings.cells settings.steps
+        (record { bytes = bytes; ended = false }) left traced.fate traced.first text))))) }
+{
     let mut record = Record::new(alloc);
     let once = run_once(alloc, options, reader, &mut record)?;
     if !record.is_whole {
@@ -113,7 +132,15 @@ fn run_once<R: Read + Drop>(
     options: &Options,
     reader: R,
     record: &mut Record,
-) -> Result<Traced, TraceError> {
+) -> Result<Traced, TraceError>
+    ensures views { let settings = options.now.settings in has_steps options.now.views ≡ false →
+        IsSome (R.remaining reader) → IfOk result (λ traced. (text : List ℕ) × ((left : Stream)
+        × ShowsRun (all_steps options.now.views) settings.cells settings.steps
+        (told_stream (R.remaining reader) false) left traced.fate traced.first text)) }
+    ensures steps { has_steps options.now.views ≡ true → IfOk result (λ traced.
+        (steps : ℕ) × ((steps ≤ options.now.settings.steps)
+        × (traced.first ≡ min (steps - options.now.views.last + 1) (2 ^ 64 - 1)))) }
+{
     let mut source = Input::new(Recording { reader, record });
     if !options.views.has_steps() {
         let views = options.views.of_all_steps();
@@ -135,7 +162,10 @@ fn write_folded<W: Write>(
     output: &mut W,
     text: &[u8],
     columns: u32,
-) -> Result<(), TraceError> {
+) -> Result<(), TraceError>
+    ensures { OnOk result (Appends (W.contents output.old) (W.contents output.new)
+        (folded_text columns 0 text.now)) }
+{
     if columns == 0 {
         return write(output, text);
     }

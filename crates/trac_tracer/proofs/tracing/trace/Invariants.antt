@@ -1,13 +1,28 @@
-use Rattle.std.proofs.Common.{◌≡◌, ◌-◌, None}
+use Rattle.std.proofs.Common.{◌≡◌, ◌-◌, [], None}
+use Rattle.trac_views.specs.Lines.{folded_text, head_text}
+use Rattle.trac_tracer.proofs.Tracing.{IsShown}
+use Rattle.trac_core.specs.Machine.{made}
 use Rattle.trac_tracer.proofs.tracing.trace.Given as goal
 
--- the run is not over, and no device has failed
+-- the run is not over, no device has failed, and the steps so far were shown
 abbrev pub invariant-loop-last : goal.invariant-loop-last
 invariant-loop-last g l =
     record {
       not_over : l.machine.fate ≡ None;
       source_failures : g.I.Source.failure_count l.source ≡ g.I.Source.failure_count l.initial.source;
       sink_failures : l.printed.failures ≡ 0;
+      empty : l.printed.bytes.items ≡ [];
+      no_peak : l.machine.peak ≡ 0;
+      room : l.machine.room ≡ l.options.settings.cells;
+      allowance : l.machine.allowance ≡ l.options.settings.steps;
+      views : l.shown.views ≡ l.options.views;
+      told : g.I.Source.tells l.initial.source → g.I.Source.tells l.source;
+      shows :
+          g.I.Source.tells l.initial.source →
+          IsShown l.options.views (made l.options.settings.cells l.options.settings.steps) (g.I.Source.stream l.initial.source)
+          (folded_text l.options.views.columns 0 (head_text l.options.views.calls l.options.views.forms))
+          (g.W.Write.contents l.fn.output) (g.W.Write.contents l.output)
+          l.shown.peak l.machine (g.I.Source.stream l.source) l.last;
     }
 
 -- the steps that are left
