@@ -5,7 +5,7 @@ use Rattle.trac_core.specs.Machine.{MachineState, made}
 use Rattle.trac_views.specs.Lines.{folded_text, head_text}
 use Rattle.trac_tracer.specs.Last.{with_step}
 use Rattle.trac_events.proofs.Failures.{last-failures}
-use Rattle.trac_tracer.proofs.Tracing.{are-lines, shown-first, shown-on, shown-over}
+use Rattle.trac_tracer.proofs.StepByStep.{are-lines, shown-first, shown-on, shown-over}
 use Rattle.trac_tracer.proofs.tracing.trace.Goals as goal
 
 pub loop-last-init : goal.loop-last-init

@@ -1,6 +1,6 @@
 use Rattle.std.proofs.Common.{◌≡◌, ◌-◌, [], None}
 use Rattle.trac_views.specs.Lines.{folded_text, head_text}
-use Rattle.trac_tracer.proofs.Tracing.{IsShown}
+use Rattle.trac_tracer.proofs.StepByStep.{IsShown}
 use Rattle.trac_core.specs.Machine.{made}
 use Rattle.trac_tracer.proofs.tracing.trace.Given as goal
 
