@@ -150,7 +150,7 @@ static int pointers(void) {
     if (trac_next_form(&other, &form) || trac_again(&machine, 99) || trac_form_name(&form, byte, 4) ||
         trac_next_form(&machine, &form))
         return 8;
-    if (trac_turn(&machine, byte, 0, 1, NULL, 0, 1).fate != TRAC_GOING || trac_take_peak(&machine) != 15 ||
+    if (trac_turn(&machine, byte, 0, 1, NULL, 0, 1).fate != TRAC_GOING || trac_take_peak(&machine) != 16 ||
         trac_take_peak(&machine))
         return 9;
     if (checks())

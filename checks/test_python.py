@@ -111,10 +111,10 @@ def test_what_is_suspicious(trac_t64):
 
 def test_many_suspicions(trac_t64):
     script = ''.join(f'#(no{number})' for number in range(20000)) + "'"
-    made = trac_t64.check(script)
+    made = trac_t64.check(script, cells=400000)
     assert [each.text for each in made.suspicions] == [
         f'no function has the name no{number}' for number in range(20000)]
-    assert trac_t64.check(LOOP, steps=5000) == trac_t64.Check([], trac_t64.Fate.STEPS, 5000, 33)
+    assert trac_t64.check(LOOP, steps=5000) == trac_t64.Check([], trac_t64.Fate.STEPS, 5000, 36)
     for refused, words in (({'cells': 0}, 'cells must be from 1'), ({'steps': 0}, 'steps must be from 1')):
         with pytest.raises(ValueError, match=words):
             trac_t64.check('', **refused)

@@ -102,7 +102,7 @@ for (const name of readdirSync(broken).filter((each) => each.endsWith('.trac')))
     suspicions[name] = warnings.map(({ line, column, text }) => `line ${line}, column ${column}: ${text}`);
 }
 const endless = await check("#(ds,L,(#(cl,L)))#(cl,L)'", { steps: 500 });
-const many = await check(`${Array.from({ length: 20000 }, (_, number) => `#(no${number})`).join('')}'`);
+const many = await check(`${Array.from({ length: 20000 }, (_, number) => `#(no${number})`).join('')}'`, { cells: 400000 });
 const needs = [];
 const needing = await Session.open();
 for (let [given, fate] = ["#(ps,hello)'", 'going']; fate === 'going';) {

@@ -160,10 +160,10 @@ class Suspicious(Lecture):
         more = 'x#(nothing)'
         self.assertEqual(self.listed("#(ds,ü😀,a)\n#(zz)#(rs)'", more),
                          ['Line 2, column 1 no function has the name zz',
-                          'Line 2, column 13 no function has the name nothing',
-                          'Line 2, column 12 no meta character ends the string'])
+                          'Line 2, column 12 no meta character ends the string',
+                          'Line 2, column 13 no function has the name nothing'])
         buttons = browser.find_elements(By.CSS_SELECTOR, '#warnings button')
-        for button, box, place in zip(buttons, ('script', 'input'), (12, 1)):
+        for button, box, place in zip(buttons, ('script', 'input', 'input'), (12, 0, 1)):
             button.click()
             self.assertEqual(self.script(
                 'const box = document.getElementById(arguments[0]);'

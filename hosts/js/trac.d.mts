@@ -22,6 +22,36 @@ export function run(script: string | Uint8Array | ArrayBuffer, limits?: {
     steps?: number | bigint;
 }): Promise<Report>;
 /**
+ * Something suspicious in a script.
+ * @typedef {object} Warning
+ * @property {number} line where it stands, from 1
+ * @property {number} column from 1, in characters
+ * @property {string} text what is said of it; of what is in the value of a form, its place there too
+ */
+/**
+ * What a check came to: how the run ended, as in a `Report`, and what is suspicious.
+ * @typedef {object} CheckReport
+ * @property {Report['fate']} fate
+ * @property {bigint} steps
+ * @property {number} peak
+ * @property {Warning[]} warnings in the order of their places
+ */
+/**
+ * Runs a script to its end, and tells what is suspicious in it, by the rules of `trac_trace --warn`:
+ * names that are no function, parentheses that end no call, and so on. What it prints isn't kept.
+ * @param {string | Uint8Array | ArrayBuffer} script the script; of a string, its bytes in UTF-8
+ * @param {object} [limits]
+ * @param {number} [limits.cells] cells of the workspace, from 1 to 16777216; 65536 if left out
+ * @param {number | bigint} [limits.steps] the steps allowed, from 1 to 2^64 - 1; 1000000 if left out
+ * @returns {Promise<CheckReport>}
+ * @throws {TypeError} where the script is no text, a limit no whole number, or an option unknown
+ * @throws {RangeError} where a limit is out of its range, or the memory can't be had
+ */
+export function check(script: string | Uint8Array | ArrayBuffer, limits?: {
+    cells?: number;
+    steps?: number | bigint;
+}): Promise<CheckReport>;
+/**
  * TRAC T-64 in WebAssembly, for browsers and Node. The file trac.wasm lies beside this one.
  *
  * The module is made from a library that is proved; this file, binaryen, which lowers the module to
@@ -117,6 +147,12 @@ export class Session {
      * @throws {RangeError} where the number is out of its range
      */
     again(steps?: number | bigint): void;
+    /**
+     * The peak, in cells, which then counts from 0 again: called after each step it tells what that step
+     * needed.
+     * @returns {number}
+     */
+    takePeak(): number;
     /** How many forms there are. */
     formCount(): number;
     /**
@@ -220,6 +256,35 @@ export class Session {
     restore(saved: Saved): void;
     #private;
 }
+/**
+ * Something suspicious in a script.
+ */
+export type Warning = {
+    /**
+     * where it stands, from 1
+     */
+    line: number;
+    /**
+     * from 1, in characters
+     */
+    column: number;
+    /**
+     * what is said of it; of what is in the value of a form, its place there too
+     */
+    text: string;
+};
+/**
+ * What a check came to: how the run ended, as in a `Report`, and what is suspicious.
+ */
+export type CheckReport = {
+    fate: Report['fate'];
+    steps: bigint;
+    peak: number;
+    /**
+     * in the order of their places
+     */
+    warnings: Warning[];
+};
 /**
  * What a run came to.
  */

@@ -123,7 +123,8 @@ function placeWords(run) {
 /** Unpacks the engine that stands in the page. */
 async function unpackEngine() {
     const packed = Uint8Array.from(atob(find('engine').textContent), (letter) => letter.charCodeAt(0));
-    const stream = new Blob([packed]).stream().pipeThrough(new DecompressionStream('gzip'));
+    const { DecompressionStream: Unpacking } = /** @type {any} */ (window);
+    const stream = new Blob([packed]).stream().pipeThrough(new Unpacking('gzip'));
     provide(await new Response(stream).arrayBuffer());
 }
 
@@ -426,7 +427,7 @@ class Page {
 
     /** Fills the boxes for the first time. */
     begin() {
-        if (typeof WebAssembly === 'undefined' || typeof DecompressionStream === 'undefined') {
+        if (typeof WebAssembly === 'undefined' || !('DecompressionStream' in window)) {
             for (const id of ['run', 'through']) find(id).disabled = true;
             find('fate').textContent = 'This browser has no WebAssembly, or can’t unpack the engine, so it can’t '
                 + 'run scripts here; they can be written, opened, saved and linked.';

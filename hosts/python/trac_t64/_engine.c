@@ -559,7 +559,7 @@ static int checked(checking *of, size_t lists, size_t lines) {
     return 0;
 }
 
-static PyObject *engine_check(PyObject *module, PyObject *args) {
+static PyObject *module_check(PyObject *module, PyObject *args) {
     checking of = {0};
     Py_ssize_t cells;
     unsigned long long steps;
@@ -642,7 +642,7 @@ static int fill_module(PyObject *module) {
 static PyModuleDef_Slot module_slots[] = {{Py_mod_exec, (void *)fill_module}, {0, NULL}};
 
 static PyMethodDef module_functions[] = {
-    {"check", engine_check, METH_VARARGS, "The fate of a script, its steps, its peak, and lines on what is suspicious."},
+    {"check", module_check, METH_VARARGS, "The fate of a script, its steps, its peak, and lines on what is suspicious."},
     {NULL, NULL, 0, NULL},
 };
 
