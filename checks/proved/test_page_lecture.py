@@ -6,6 +6,7 @@ import re
 import sys
 import tempfile
 import unittest
+from pathlib import Path
 
 import page
 import pytest
@@ -150,7 +151,7 @@ class Suspicious(Lecture):
         self.assertGreater(len(scripts), 15)
         for name in scripts:
             with self.subTest(script=name):
-                told, script = (read(os.path.join(folder, name[:-4] + end)) for end in ('warnings', 'trac'))
+                told, script = (Path(folder, name[:-4] + end).read_text('utf-8') for end in ('warnings', 'trac'))
                 wanted = re.sub(r'^line (\d+, column \d+):', r'Line \1', told, flags=re.MULTILINE).splitlines()
                 # the line on how the run ended stands above the list
                 wanted = [line for line in wanted if line.startswith('Line ')]
