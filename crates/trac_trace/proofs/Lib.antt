@@ -2,4 +2,4 @@ pub mod Failures
 pub mod Command
 pub mod Placed
 pub mod Framing
-pub mod Tracing
+pub mod StepByStep

@@ -5,7 +5,7 @@ use Rattle.trac_core.specs.Machine.{MachineState, made}
 use Rattle.trac_views.specs.Lines.{folded_text, head_text}
 use Rattle.trac_trace.specs.Last.{with_step}
 use Rattle.trac_trace.proofs.Failures.{last-failures}
-use Rattle.trac_trace.proofs.Tracing.{are-lines, shown-first, shown-on, shown-over}
+use Rattle.trac_trace.proofs.StepByStep.{are-lines, shown-first, shown-on, shown-over}
 use Rattle.trac_trace.proofs.trace.trace.Goals as goal
 
 pub loop-last-init : goal.loop-last-init

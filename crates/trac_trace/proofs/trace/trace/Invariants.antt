@@ -1,6 +1,6 @@
 use Rattle.std.proofs.Common.{◌≡◌, ◌-◌, [], None}
 use Rattle.trac_views.specs.Lines.{folded_text, head_text}
-use Rattle.trac_trace.proofs.Tracing.{IsShown}
+use Rattle.trac_trace.proofs.StepByStep.{IsShown}
 use Rattle.trac_core.specs.Machine.{made}
 use Rattle.trac_trace.proofs.trace.trace.Given as goal
 
