@@ -1,4 +1,5 @@
 pub mod Last
 pub mod Odd
 pub mod Recorded
+pub mod ShownCalls
 pub mod ShownRuns

@@ -1,10 +1,13 @@
 //! What is shown of a run, as it goes on.
-ghost use Rattle.std.specs.Prelude.{◌≡◌, ◌++◌, ◌&&◌, [], IfOk, OnOk, max, not, true, false};
+ghost use Rattle.std.specs.Prelude.{◌≡◌, ◌++◌, ◌&&◌, [], IfOk, IfSome, OnOk, max, not, true, false};
+ghost use Rattle.std.specs.Prelude.{if◌then◌else◌};
 ghost use Rattle.trac_events.specs.Calls.{IsSeen, depth_in};
-ghost use Rattle.trac_views.specs.Lines.{head_text};
-ghost use Rattle.trac_views.specs.Told.{event_text, has_steps, is_fault, meta_text};
+ghost use Rattle.trac_events.specs.Changes.{form_of};
+ghost use Rattle.trac_views.specs.Lines.{dropped_text, head_text};
+ghost use Rattle.trac_views.specs.Told.{event_text, has_steps, has_strings, is_fault, meta_text};
 ghost use Rattle.trac_views.specs.Faults.{TellsDone, TellsEnd, TellsStep, TellsWhere, forms_text};
 ghost use Rattle.trac_views.specs.Faults.{is_told};
+ghost use Rattle.trac_tracer.specs.ShownCalls.{IsKept, TellsCall, made_text, seen_text, touched_of};
 
 use crate::oddities::oddity_of;
 use std::alloc::{AllocError, Global};
@@ -72,6 +75,10 @@ impl Shown {
     pub fn look(&mut self, machine: &Machine) -> Result<Before, AllocError>
         ensures seen { let asked = is_told self.old.views machine.now.steps in
             IfOk result (IsSeen machine.now (asked && not (has_steps self.old.views))) }
+        ensures kept { is_told self.old.views machine.now.steps ≡ true →
+            has_steps self.old.views ≡ false → IfOk result (λ before. IfSome before.call
+            (λ mark. IsKept machine.now self.old.views.width mark self.new.arguments.items
+            self.new.named self.new.deleted.items)) }
         ensures cleared { self.new.lines.items ≡ [] }
         ensures views { self.new.views ≡ self.old.views }
         ensures peak { self.new.peak ≡ self.old.peak }
@@ -89,6 +96,8 @@ impl Shown {
 
     // Keeps what must be known of a call after it is performed.
     fn look_at_call(&mut self, machine: &Machine, call: CallMark) -> Result<(), AllocError>
+        ensures kept { OnOk result (IsKept machine.now self.old.views.width call
+            self.new.arguments.items self.new.named self.new.deleted.items) }
         ensures lines { self.new.lines ≡ self.old.lines }
         ensures views { self.new.views ≡ self.old.views }
         ensures peak { self.new.peak ≡ self.old.peak }
@@ -128,6 +137,10 @@ impl Shown {
         ensures steps { is_told self.old.views before.now.done ≡ true →
             has_steps self.old.views ≡ true → OnOk result (TellsStep self.old.views.width
             before.now need printed.now machine.now self.old.lines.items self.new.lines.items) }
+        ensures calls { is_told self.old.views before.now.done ≡ true →
+            has_steps self.old.views ≡ false → OnOk result (TellsCall self.old.views before.now fate
+            self.new.depth self.old.arguments.items self.old.named self.old.deleted.items
+            printed.now machine.now self.old.lines.items self.new.lines.items) }
     {
         self.peak = self.peak.max(need);
         self.depth = before.depth_after(machine, self.depth);
@@ -150,6 +163,9 @@ impl Shown {
     fn show(&mut self, event: &Event) -> Result<(), AllocError>
         ensures lines { OnOk result (self.new.lines.items ≡
             self.old.lines.items ++ event_text self.old.views event.now) }
+        ensures arguments { self.new.arguments ≡ self.old.arguments }
+        ensures named { self.new.named ≡ self.old.named }
+        ensures deleted { self.new.deleted ≡ self.old.deleted }
         ensures views { self.new.views ≡ self.old.views }
         ensures peak { self.new.peak ≡ self.old.peak }
         ensures depth { self.new.depth ≡ self.old.depth }
@@ -161,6 +177,12 @@ impl Shown {
     fn tell_step(&mut self, before: &Before, machine: &Machine, need: u32) -> Result<(), AllocError>
         ensures lines { has_steps self.old.views ≡ true → OnOk result (TellsDone self.old.views.width
             before.now need machine.now self.old.lines.items self.new.lines.items) }
+        ensures dropped { has_steps self.old.views ≡ false → OnOk result (self.new.lines.items ≡
+            self.old.lines.items
+            ++ (if has_strings self.old.views then dropped_text before.now.drops else [])) }
+        ensures arguments { self.new.arguments ≡ self.old.arguments }
+        ensures named { self.new.named ≡ self.old.named }
+        ensures deleted { self.new.deleted ≡ self.old.deleted }
         ensures views { self.new.views ≡ self.old.views }
         ensures peak { self.new.peak ≡ self.old.peak }
         ensures depth { self.new.depth ≡ self.old.depth }
@@ -185,6 +207,10 @@ impl Shown {
     ) -> Result<(), AllocError>
         ensures lines { has_steps self.old.views ≡ true →
             OnOk result (self.new.lines.items ≡ self.old.lines.items) }
+        ensures called { has_steps self.old.views ≡ false → OnOk result (self.new.lines.items ≡
+            self.old.lines.items ++ seen_text self.old.views before.now.call self.old.depth
+            self.old.arguments.items self.old.named self.old.deleted.items value.now printed.now
+            machine.now) }
         ensures views { self.new.views ≡ self.old.views }
         ensures peak { self.new.peak ≡ self.old.peak }
         ensures depth { self.new.depth ≡ self.old.depth }
@@ -278,7 +304,9 @@ impl Shown {
 }
 
 // The forms that a call of what it names can make, change or delete.
-fn touched_of(named: &Named) -> Touched {
+fn touched_of(named: &Named) -> Touched
+    ensures { result ≡ touched_of named.now.function }
+{
     match named.function {
         Some(function) => touched_by(function),
         None => Touched::Nothing,
@@ -293,7 +321,10 @@ fn push_touched(
     machine: &Machine,
     name: &[Cell],
     width: u32,
-) -> Result<(), AllocError> {
+) -> Result<(), AllocError>
+    ensures { OnOk result (text.new.items ≡ text.old.items ++ made_text width
+        (touched_of named.now.function) (form_of name.now machine.now.memory.forms)) }
+{
     if touched_of(named) != Touched::First {
         return Ok(());
     }

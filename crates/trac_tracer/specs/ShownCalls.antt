@@ -1,0 +1,92 @@
+-- What is shown of a call that a step performs.
+use Rattle.std.specs.Prelude.{◌≡◌, ◌++◌, ℕ, Bool, true, false, List, [], Option, Some, None}
+use Rattle.std.specs.Prelude.{if◌then◌else◌, nat_lt}
+use Rattle.trac_language.specs.Form.{Form}
+use Rattle.trac_language.specs.Function.{function_named}
+use Rattle.trac_language.specs.declared.fate.Fate.{Fate}
+use Rattle.trac_language.specs.declared.function.Function.{Function}
+use Rattle.trac_space.specs.Texts.{text_of_cells}
+use Rattle.trac_space.specs.declared.cell.Cell.{Cell}
+use Rattle.trac_core.specs.Machine.{MachineState}
+use Rattle.trac_core.specs.declared.machine.open_calls.CallMark.{CallMark}
+use Rattle.trac_events.specs.Calls.{SeesValue, argument_of, behind_mark}
+use Rattle.trac_events.specs.Changes.{form_of, pointer_of, touched_by}
+use Rattle.trac_events.specs.declared.before.Before.{Before}
+use Rattle.trac_events.specs.declared.call.Named.{Named}
+use Rattle.trac_events.specs.declared.change.Touched.{Touched}
+use Rattle.trac_events.specs.declared.change.Touched.TheVariants.{Nothing, First, Each, All}
+use Rattle.trac_views.specs.Faults.{IsNeutral}
+use Rattle.trac_views.specs.Lines.{dropped_text}
+use Rattle.trac_views.specs.Told.{called_text, changes_text, deleted_text, form_text, has_strings}
+use Rattle.trac_views.specs.declared.views.Views.{Views}
+use Rattle.trac_tracer.specs.Odd.{oddity_of}
+
+-- the forms that a call of a function, or of none, can make, change or delete
+abbrev pub touched_of : Option Function → Touched
+touched_of None = Nothing
+touched_of (Some function) = touched_by function
+
+-- a form, where there is one
+abbrev pub found_text : ℕ → Option Form → List ℕ
+found_text width None = []
+found_text width (Some form) = form_text width form
+
+-- the form of a name, where a call that can touch these forms can have made or changed it
+abbrev pub made_text : ℕ → Touched → Option Form → List ℕ
+made_text width Nothing form = []
+made_text width First form = found_text width form
+made_text width Each form = []
+made_text width All form = []
+
+-- what is kept of a call of a machine before it is performed: its arguments, what they name, and the
+-- names of the forms that it deletes
+pub record IsKept (m : MachineState) (width : ℕ) (mark : CallMark) (arguments : List Cell)
+    (named : Named) (deleted : List ℕ) : Type 0 where
+  pub neutral : List Cell
+  pub is_neutral : IsNeutral m neutral
+  pub arguments_are : arguments ≡ behind_mark neutral mark.place
+  pub function : named.function ≡ function_named (text_of_cells (argument_of arguments 0))
+  pub pointer : named.pointer ≡ pointer_of (argument_of arguments 1) m.memory.forms
+  pub deleted_is :
+      deleted ≡ deleted_text width (touched_of named.function) m.memory.forms arguments
+
+-- the lines of a call of which this was kept, with its value, by the machine after it
+abbrev pub call_text : Views → CallMark → (depth : ℕ) → List Cell → Named → (deleted : List ℕ)
+    → (value : List Cell) → (printed : List ℕ) → MachineState → List ℕ
+call_text views mark depth arguments named deleted value printed m =
+    let name = argument_of arguments 1 in
+    let form = made_text views.width (touched_of named.function) (form_of name m.memory.forms) in
+    if views.calls then
+      called_text m.steps mark.mode depth arguments value printed form deleted
+      (oddity_of named.function named.pointer arguments value (pointer_of name m.memory.forms))
+      views.width
+    else (if views.forms then changes_text m.steps form deleted else [])
+
+-- the call that was seen before a step, where there is one
+abbrev pub seen_text : Views → Option CallMark → (depth : ℕ) → List Cell → Named
+    → (deleted : List ℕ) → (value : List Cell) → (printed : List ℕ) → MachineState → List ℕ
+seen_text views None depth arguments named deleted value printed m = []
+seen_text views (Some mark) depth arguments named deleted value printed m =
+    call_text views mark depth arguments named deleted value printed m
+
+-- the lines of a step that was seen before, where the steps themselves aren't shown: how many characters
+-- it dropped, and the call that it performed; none where it was not done
+abbrev pub step_lines : Bool → Views → Before → (depth : ℕ) → List Cell → Named
+    → (deleted : List ℕ) → (value : List Cell) → (printed : List ℕ) → MachineState → List ℕ
+step_lines true views before depth arguments named deleted value printed m =
+    (if has_strings views then dropped_text before.drops else [])
+    ++ seen_text views before.call depth arguments named deleted value printed m
+step_lines false views before depth arguments named deleted value printed m = []
+
+-- the value of the call that was seen, which is null where the run is over
+abbrev pub IsValueAfter : Option Fate → Before → MachineState → List Cell → Type 0
+IsValueAfter None before m value = SeesValue m before.call before.active value
+IsValueAfter (Some fate) before m value = value ≡ []
+
+-- these are the lines of a step in the views of calls and of forms, by what was kept of its call
+abbrev pub TellsCall : Views → Before → Option Fate → (depth : ℕ) → List Cell → Named
+    → (deleted : List ℕ) → (printed : List ℕ) → MachineState → (old new : List ℕ) → Type 0
+TellsCall views before fate depth arguments named deleted printed m old new =
+    (value : List Cell) × (IsValueAfter fate before m value
+    × (new ≡ old ++ step_lines (nat_lt before.done m.steps) views before depth arguments named
+    deleted value printed m))
