@@ -177,7 +177,7 @@ class Suspicious(Lecture):
 
     def test_a_long_run_is_looked_at_in_part(self):
         self.listed("#(zz)#(ds,L,(#(cl,L)))#(cl,L)'", steps=3000000)
-        self.assertEqual(self.text('suspicions-told'), 'The first 100,000 steps were looked at.')
+        self.assertRegex(self.text('suspicions-told'), r'^The first [\d,]+ steps were looked at\.$')
 
 
 class Kept(Lecture):
@@ -311,11 +311,13 @@ class Long(Lecture):
 
     GAP = """
         const done = arguments[0];
-        let [gap, last] = [0, performance.now()];
+        let [gap, last, until] = [0, performance.now(), Infinity];
         const tick = () => {
             const now = performance.now();
             [gap, last] = [Math.max(gap, now - last), now];
-            if (document.getElementById('main').ariaBusy === 'true') setTimeout(tick);
+            // the list of suspicious places is made behind the run
+            if (document.getElementById('main').ariaBusy !== 'true') until = Math.min(until, now + 500);
+            if (now < until) setTimeout(tick);
             else done(gap);
         };
         document.getElementById('run').click();
@@ -324,15 +326,16 @@ class Long(Lecture):
 
     def test_steps_that_take_long_behind_quick_ones(self):
         heavy = "#(ds,f,({}))#(ds,m,(#(eq,##(cl,f),##(cl,f))#(gr,N,0,(#(cl,m,#(su,N,1))))))#(ss,m,N)#(cl,m,1000)'"
-        for name, value in (('script', LOOP.format(50000)[:-1] + heavy.format('x' * 200000)), ('cells', 1000000),
-                            ('steps', 100000000)):
-            self.put(name, value)
-        gaps = []
-        while len(gaps) < 8 and not (gaps and gaps[-1] < 100):
-            gaps.append(browser.execute_async_script(self.GAP))
-        self.assertLess(min(gaps), 100)
-        self.wait(self.is_at_rest)
-        self.assertEqual(self.steps()[1], 2066483)
+        heavy = heavy.format('x' * 200000)
+        for script, steps in ((LOOP.format(50000)[:-1] + heavy, 2066483), (heavy, 49758)):
+            for name, value in (('script', script), ('cells', 1000000), ('steps', 100000000)):
+                self.put(name, value)
+            gaps = []
+            while len(gaps) < 8 and not (gaps and gaps[-1] < 100):
+                gaps.append(browser.execute_async_script(self.GAP))
+            self.assertLess(min(gaps), 100)
+            self.wait(self.is_at_rest)
+            self.assertEqual(self.steps()[1], steps)
 
     def test_the_same_at_a_step_from_either_side(self):
         self.run_script(LOOP.format(3000000), '', 65536, 20000000)

@@ -182,6 +182,8 @@ export class History {
         this.strings = new Strings();
         this.printings = new Printings();
         this.kept = new Kept(shown.save(), limits.cells);
+        /** How many steps were made before the page did its other work for the first time. */
+        this.early = 0;
         /** @type {ReturnType<Walker['save']>[]} */
         this.near = [];
         /** @type {Uint8Array[]} */
@@ -209,6 +211,7 @@ export class History {
         while (!signal.aborted && !shown.isOver) {
             const until = performance.now() + SLICE;
             while (performance.now() < until && !shown.isOver) this.runSome(until);
+            this.early ||= shown.state.step;
             onStep(shown.state.step);
             await pause();
         }

@@ -258,7 +258,7 @@ class Page {
      */
     async lookAround({ texts, input, history }) {
         try {
-            await this.warnings.look(texts.script + texts.input, input, history.limits);
+            await this.warnings.look(texts.script + texts.input, input, history);
         } catch {
             // a list that finds no memory is left away: the run itself is shown
         }

@@ -7,8 +7,13 @@ import { check } from '../js/trac.mjs';
 import { several } from './codes.js';
 import { button, element, find } from './dom.js';
 
-/** So many steps are looked at, which takes a tenth of a second at most. */
-const MOST_CHECKED = 100000;
+/**
+ * So many steps are looked at, or those that the run made before the page did its other work, where these are
+ * fewer: so the page isn't held for long.
+ */
+const MOST_CHECKED = 50000;
+/** The cells of the largest block that is looked at: to clear a larger one takes long. */
+const MOST_CLEARED = 2 ** 20;
 const MOST_PLACES = 200;
 
 /**
@@ -45,13 +50,13 @@ export class Warnings {
      * Lists what is suspicious.
      * @param {string} text the script and the further input
      * @param {Uint8Array} input the same as bytes
-     * @param {{cells: number, steps: number}} limits
+     * @param {import('./history.js').History} history the run of these texts
      */
-    async look(text, input, { cells, steps }) {
+    async look(text, input, { limits: { cells, steps }, early, end }) {
         this.close();
         const look = this.looks;
-        const most = Math.min(steps, MOST_CHECKED);
-        const found = await check(input, { cells, steps: most });
+        const most = Math.min(early < end.step ? early : steps, MOST_CHECKED);
+        const found = await check(input, { cells: Math.min(cells, MOST_CLEARED), steps: most });
         if (look !== this.looks || !found.warnings.length) return;
         const isPart = steps > most && found.fate === 'steps';
         find('warnings').replaceChildren(
