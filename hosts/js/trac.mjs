@@ -24,9 +24,8 @@ const LARGEST = 2n ** 64n - 1n;
 const REFUSED = 9;
 const WANTS_OUTPUT = 8;
 const NO_MEMORY = 10;
-/** The bytes of a unit of the memory for the lists of a check, and those that are tried first. */
+/** The bytes of a unit of the memory for the lists of a check, and those of its lines that are tried first. */
 const LIST_UNIT = 16;
-const LEAST_LISTS = 2 ** 20;
 const LEAST_LINES = 2 ** 16;
 const WARNING = /^line (\d+), column (\d+): (.*)$/s;
 /** The fates of a turn after which its run goes on. */
@@ -316,7 +315,9 @@ export async function check(script, limits = {}) {
     const bytes = bytesOf('script', script);
     const { room, allowed } = limitsOf(limits);
     const compiledEngine = await engine();
-    for (let [lists, lines] = [LEAST_LISTS, LEAST_LINES]; ;) {
+    // the arguments of a call are the longest list, and twice as long where that has grown
+    const most = 2 * CELL_SIZE * Number(room);
+    for (let [lists, lines] = [2 ** 20 + Math.min(most, 2 ** 26), LEAST_LINES]; ;) {
         const told = checked(await WebAssembly.instantiate(compiledEngine, {}), bytes, room, allowed, lists, lines);
         if (told.fate === NO_MEMORY) lists *= 4;
         else if (told.wanted > told.written) lines = told.wanted;
