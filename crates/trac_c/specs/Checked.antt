@@ -1,8 +1,11 @@
 -- What C is told of a check.
-use Rattle.std.specs.Prelude.{◌≡◌, ℕ, ◌<◌, ◌≤◌, ◌⊎◌, List, length, min}
+use Rattle.std.specs.Prelude.{◌≡◌, ℕ, ◌<◌, ◌≤◌, ◌⊎◌, false, List, length, min}
 use Rattle.trac_language.specs.Text.{Text}
 use Rattle.trac_language.specs.declared.report.Report.{Report}
+use Rattle.trac_devices.specs.Devices.{Stream}
+use Rattle.trac_lent.specs.Arenas.{Lists}
 use Rattle.trac_checker.specs.Warned.{Found, lines_of}
+use Rattle.trac_checker.specs.WatchedRuns.{WatchesRun}
 use Rattle.trac_c.specs.Laid.{laid}
 use Rattle.trac_c.specs.Told.{number, refused}
 use Rattle.trac_c.specs.declared.report.TracReport.{TracReport}
@@ -22,11 +25,18 @@ pub record Finds (room allowance : ℕ) (lines old_buffer buffer : Text) (told :
   pub written : told.written ≡ min (length lines) (length old_buffer)
   pub consumed : told.consumed ≡ 0
 
+-- a run over the script was watched, step by step, with its lists in lent memory: it defined forms of these names,
+-- this was found, and so it ended
+abbrev pub IsWatched : (room allowance : ℕ) → Text → (names : List Text) → Found → Report → Type 0
+IsWatched room allowance script names found report = (left : Stream) ×
+    WatchesRun Lists script room allowance (record { bytes = script; ended = false }) left names found report
+
 -- the report tells what was found in such a run
 abbrev pub Findings : (room allowance : ℕ) → (script old_buffer buffer : Text) → TracReport → Type 0
 Findings room allowance script old_buffer buffer told =
-    (names : List Text) × ((found : Found) × ((report : Report) ×
-    Finds room allowance (lines_of script names found report) old_buffer buffer told report))
+    (names : List Text) × ((found : Found) × ((report : Report)
+    × (IsWatched room allowance script names found report
+    × Finds room allowance (lines_of script names found report) old_buffer buffer told report)))
 
 -- the same, or the memory ran out, and the buffer stays as it is
 abbrev pub Checked : (room allowance : ℕ) → (script old_buffer buffer : Text) → TracReport → Type 0

@@ -1,2 +1,4 @@
+pub mod Found
 mod Named
 pub mod Placed
+pub mod Watching

@@ -1,1 +1,4 @@
+pub mod FoundSoFar
 pub mod Warned
+pub mod WatchedRuns
+pub mod WrittenBytes

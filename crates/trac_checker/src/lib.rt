@@ -5,6 +5,7 @@
 mod lines;
 mod run;
 mod unkept;
+mod written;
 
 pub use lines::push_warning;
 pub use run::{WatchedRun, watched};

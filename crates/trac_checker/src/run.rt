@@ -1,12 +1,14 @@
 //! A run that is watched from its first step to its last.
-ghost use Rattle.std.specs.Prelude.{◌≡◌, ◌++◌, ◌+◌, ◌-◌, ◌^◌, ◌<◌, ◌≤◌, IfOk, OnOk, length, take};
+ghost use Rattle.std.specs.Prelude.{◌≡◌, ◌++◌, ◌+◌, ◌-◌, ◌^◌, ◌<◌, ◌≤◌, IfOk, OnOk, length, map, reverse, take};
 ghost use Rattle.std.specs.List.{flat_map};
 ghost use Rattle.trac_core.specs.Machine.{reported_input_failures};
 ghost use Rattle.trac_events.specs.Places.{behind_text, first_place};
 ghost use Rattle.trac_views.specs.Told.{is_fault};
 ghost use Rattle.trac_checker.specs.Warned.{fault_end, form_named, found_of, names_of, summary_text};
 ghost use Rattle.trac_checker.specs.Warned.{warning_line, warning_text};
-ghost use Rattle.trac_warnings.specs.Watched.{said};
+ghost use Rattle.trac_checker.specs.FoundSoFar.{found_in, found_in_script, with_all};
+ghost use Rattle.trac_checker.specs.WatchedRuns.{WatchesRun};
+ghost use Rattle.trac_warnings.specs.Watched.{KeepsRun, said};
 
 use crate::lines::push_warning;
 use crate::unkept::Unkept;
@@ -40,9 +42,13 @@ pub fn watched<A: Allocator + Copy, I: Source>(
         I.failure_count source.old + reported_input_failures watched.report.fate) }
     ensures steps { IfOk result (λ watched. watched.report.steps ≤ steps) }
     ensures peak { IfOk result (λ watched. watched.report.peak ≤ length block.old) }
+    // what was found is what a watch of the definition's run finds, step by step
+    ensures watches { I.tells source.old → IfOk result (λ watched. WatchesRun A input.now (length block.old) steps
+        (I.stream source.old) (I.stream source.new) (names_of watched.watch.names.items)
+        (found_of watched.findings.counts.entries) watched.report) }
 {
     let mut machine = Machine::over(block, steps);
-    let mut unkept = Unkept {};
+    let mut unkept = Unkept::new();
     let mut watch = Watch::new(alloc);
     let mut findings = of_script(alloc, input)?;
     loop {
@@ -66,7 +72,9 @@ pub fn watched<A: Allocator + Copy, I: Source>(
 }
 
 // What is suspicious in how a script is written.
-fn of_script<A: Allocator + Copy>(alloc: A, input: &[u8]) -> Result<Findings<A>, AllocError> {
+fn of_script<A: Allocator + Copy>(alloc: A, input: &[u8]) -> Result<Findings<A>, AllocError>
+    ensures { IfOk result (λ findings. found_in findings ≡ found_in_script input.now) }
+{
     let mut findings = Findings::new(alloc);
     let mut warnings = Vec::new(alloc);
     look_at_script(&mut warnings, alloc, input)?;
@@ -76,15 +84,17 @@ fn of_script<A: Allocator + Copy>(alloc: A, input: &[u8]) -> Result<Findings<A>,
     Ok(findings)
 }
 
-// Keeps the warnings of a step.
+// Keeps the warnings of a step, the last first.
 fn keep_warnings<A: Allocator + Copy>(
     watch: &mut Watch<A>,
     findings: &mut Findings<A>,
-) -> Result<(), AllocError> {
-    for _ in 0..watch.warnings().len() {
-        if let Some(warning) = watch.take_warning() {
-            findings.add(warning)?;
-        }
+) -> Result<(), AllocError>
+    ensures stays { KeepsRun watch.old watch.new }
+    ensures found { OnOk result (found_in findings.new ≡
+        with_all (reverse (map said watch.old.warnings.items)) (found_in findings.old)) }
+{
+    while let Some(warning) = watch.take_warning() {
+        findings.add(warning)?;
     }
     Ok(())
 }

@@ -1,28 +1,45 @@
 //! A sink that keeps nothing.
-ghost use Rattle.std.specs.Prelude.{[]};
+ghost use Rattle.std.specs.Prelude.{◌≡◌, []};
+ghost use Rattle.trac_checker.specs.WrittenBytes.{bytes_of};
 
-use trac_core::{Characters, Sink, SinkFailed};
+use crate::written::Written;
+use std::mem;
+use std::snapshot::Snapshot;
+use trac_core::{Sink, SinkFailed};
 
 /// A sink that takes what is printed, and keeps none of it. It never fails.
 #[derive(Drop)]
-pub struct Unkept {}
+pub struct Unkept {
+    // What was printed, as contracts see it: it takes no memory.
+    written: Snapshot<Written>,
+}
+
+impl Unkept {
+    /// A sink to which nothing was printed yet.
+    pub fn new() -> Unkept
+        ensures { bytes_of result.written.value ≡ [] }
+    {
+        Unkept {
+            written: Snapshot::of(&Written::Nothing),
+        }
+    }
+}
 
 impl Sink for Unkept {
-    ghost tells = { λ _. ⊥ };
+    ghost tells = { λ _. Unit {0} };
 
-    ghost written = { λ _. [] };
+    ghost written = { λ s. bytes_of s.written.value };
 
+    // what was taken waits for nothing
     ghost flushed = { λ _. Unit {0} };
 
     ghost failure_count = { λ _. 0 };
 
     ghost lent = { λ _. 0 };
 
-    fn put(&mut self, _byte: u8) -> Result<(), SinkFailed> {
-        Ok(())
-    }
-
-    fn put_all(&mut self, _text: &Characters<'_>) -> Result<(), SinkFailed> {
+    fn put(&mut self, byte: u8) -> Result<(), SinkFailed> {
+        let earlier = mem::replace(&mut self.written, Snapshot::of(&Written::Nothing));
+        self.written = Snapshot::of(&Written::Then(earlier, byte));
         Ok(())
     }
 

@@ -1,1 +1,2 @@
+pub mod Arenas
 pub mod Units

@@ -20,7 +20,8 @@ pub struct Findings<A: Allocator> {
 impl<A: Allocator + Copy> Findings<A> {
     /// No warning yet.
     pub fn new(alloc: A) -> Findings<A>
-        ensures { result.counts.entries ≡ [] }
+        ensures counts { result.counts.entries ≡ [] }
+        ensures missing { texts_of result.missing ≡ [] }
     {
         Findings {
             counts: BTreeMap::new(alloc),

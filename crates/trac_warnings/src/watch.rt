@@ -115,6 +115,7 @@ impl<A: Allocator + Copy> Watch<A> {
     pub fn take_warning(&mut self) -> Option<Warning<A>>
         ensures left { self.old.warnings.items ≡ self.new.warnings.items ++ option_to_list result }
         ensures some { IsSome result ↔ (0 < length self.old.warnings.items) }
+        ensures stays { KeepsRun self.old self.new }
     {
         self.warnings.pop()
     }

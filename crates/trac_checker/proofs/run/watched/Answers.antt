@@ -1,25 +1,97 @@
-use Rattle.std.proofs.Common.{◌∙◌, arith}
+use Rattle.std.proofs.Common.{◌≡◌, ◌∙◌, ap, arith, length, refl}
+use Rattle.trac_core.specs.Machine.{MachineState, made, moment}
 use Rattle.trac_events.proofs.Failures.{last-failures}
+use Rattle.trac_checker.specs.FoundSoFar.{found_in}
+use Rattle.trac_checker.specs.WatchedRuns.{Watches}
+use Rattle.trac_checker.specs.WrittenBytes.{bytes_of}
+use Rattle.trac_checker.proofs.Watching.{watched-first, watched-more, watched-over}
 use Rattle.trac_checker.proofs.run.watched.Goals as goal
+
+pub loop-findings-init : goal.loop-findings-init
+loop-findings-init g c =
+    let machine_is : c.over-machine.result ≡ made (length c.args.block.now) c.args.steps = c.over-machine.ensures in
+    record {
+      not_over = ap (λ (m : MachineState). m.fate) machine_is;
+      source_failures = refl;
+      same_allowance = ap (λ (m : MachineState). m.allowance) machine_is;
+      same_room = ap (λ (m : MachineState). m.room) machine_is;
+      told = λ told. told;
+      watched = λ told.
+          watched-first c.args.input.now (length c.args.block.now) c.args.steps (g.I.Source.stream c.args.source.now) c.over-machine.result (bytes_of c.new-unkept.result.written.value) c.new-watch.result (found_in c.in_ok-findings.findings)
+          c.new-watch.ensures machine_is c.new-unkept.ensures c.in_ok-findings.ensures;
+    }
 
 pub returns-in-Some : goal.returns-in-Some
 returns-in-Some g c =
     let i = c.loop-findings.invariant in
-    let told = last-failures c.loop-findings.machine.fate c.in-Some.fate i.not_over in
+    let h = c.in-Some.ensures in
+    let m = c.loop-findings.machine in
+    let next = c.step-fate.new.self in
+    let failures = last-failures m.fate c.in-Some.fate i.not_over in
+    let looked = c.in_ok-before.ensures in
+    let told = c.in_ok-tell.ensures in
+    let kept = c.in_ok-keep_warnings.ensures in
+    let watches : Watches c.args.input.now m next c.loop-findings.watch c.tell.new.self = record {
+      before = c.in_ok-before.before;
+      looked = c.look.new.self;
+      seen = looked.seen;
+      looks = looked.looks;
+      places = looked.stays;
+      undone = told.undone;
+      kept = told.kept;
+      moves = told.moved;
+      reads = told.read;
+      tells = told.tells;
+    } in
     record {
-      input_failed = omega (arith, c.in-Some.ensures.input_failed, told, i.source_failures);
-      steps = omega (arith, c.in-Some.ensures.limits.steps, c.in-Some.ensures.allowance, i.same_allowance);
-      peak = omega (arith, c.in-Some.ensures.limits.peak, c.in-Some.ensures.room, i.same_room);
+      input_failed = omega (arith, h.input_failed, failures, i.source_failures);
+      steps = omega (arith, h.limits.steps, h.allowance, i.same_allowance, c.steps.ensures);
+      peak = omega (arith, h.limits.peak, h.room, i.same_room, c.peak.ensures);
+      watches = λ tells.
+          watched-over c.args.input.now (length c.args.block.now) c.args.steps (g.I.Source.stream c.args.source.now)
+          (moment m (g.I.Source.stream c.loop-findings.source) (bytes_of c.loop-findings.unkept.written.value))
+          (moment next (g.I.Source.stream c.step-fate.new.source) (bytes_of c.step-fate.new.sink.written.value))
+          c.loop-findings.watch c.tell.new.self c.keep_warnings.new.watch (found_in c.loop-findings.findings) (found_in c.keep_warnings.new.findings) c.in-Some.fate
+          (record { fate = c.in-Some.fate; steps = c.steps.result; peak = c.peak.result })
+          i.same_room i.same_allowance (i.watched tells) watches kept.stays kept.found
+          (h.answers i.not_over (i.told tells) tt)
+          (λ j. record { fate = c.in-Some.fate; steps = c.steps.ensures j; peak = c.peak.ensures j });
     }
 
 pub loop-findings-preserved : goal.loop-findings-preserved
 loop-findings-preserved g c =
     let i = c.loop-findings.invariant in
     let h = c.in_default.ensures in
+    let m = c.loop-findings.machine in
+    let next = c.step-fate.new.self in
     let source_failed = rw i.not_over at h.input_failed in
+    let looked = c.in_ok-before.ensures in
+    let told = c.in_ok-tell.ensures in
+    let kept = c.in_ok-keep_warnings.ensures in
+    let watches : Watches c.args.input.now m next c.loop-findings.watch c.tell.new.self = record {
+      before = c.in_ok-before.before;
+      looked = c.look.new.self;
+      seen = looked.seen;
+      looks = looked.looks;
+      places = looked.stays;
+      undone = told.undone;
+      kept = told.kept;
+      moves = told.moved;
+      reads = told.read;
+      tells = told.tells;
+    } in
     record {
       not_over = h.fate;
       source_failures = omega (arith, i.source_failures, source_failed);
       same_allowance = h.allowance ∙ i.same_allowance;
       same_room = h.room ∙ i.same_room;
+      told = λ tells. h.told_source (i.told tells);
+      watched = λ tells.
+          let took = h.takes (i.told tells) in
+          watched-more c.args.input.now (made (length c.args.block.now) c.args.steps) (g.I.Source.stream c.args.source.now)
+          (moment m (g.I.Source.stream c.loop-findings.source) (bytes_of c.loop-findings.unkept.written.value))
+          (moment next (g.I.Source.stream c.step-fate.new.source) (bytes_of c.step-fate.new.sink.written.value))
+          c.loop-findings.watch c.tell.new.self c.keep_warnings.new.watch (found_in c.loop-findings.findings) (found_in c.keep_warnings.new.findings)
+          i.same_room (i.watched tells) watches kept.stays kept.found took.0 took.1.consumed
+          (h.answers i.not_over (i.told tells) tt);
     }

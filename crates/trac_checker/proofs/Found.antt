@@ -1,0 +1,78 @@
+-- What a warning says, added to what was found.
+use Rattle.std.proofs.Common.{◌≡◌, ◌∙◌, ℕ, Bool, true, false, List, [], ◌∷◌, ◌++◌, map, reverse, refl, ap, Some, Ordering, Less, Equal, Greater}
+use Rattle.std.proofs.lemmas.List.{map-append, reverse-append}
+use Rattle.std.specs.Prelude.{◌&&◌, ◌||◌, cond}
+use Rattle.std.specs.BTreeMap.{insert_entry, is_at}
+use Rattle.std.specs.Cmp.Lexicographic.{slice_cmp}
+use Rattle.std.specs.List.{list_any}
+use Rattle.std.specs.Map.{lookup}
+use Rattle.std.specs.Ordering.{is_eq, match_ordering, nat_cmp}
+use Rattle.std.specs.declared.vec.Vec.{Vec}
+use Rattle.trac_language.specs.Text.{Text}
+use Rattle.trac_warnings.specs.Findings.{is_no_form, is_repeated, once_more, texts_of, with_text}
+use Rattle.trac_warnings.specs.Watched.{said}
+use Rattle.trac_warnings.specs.declared.findings.Findings.{Findings}
+use Rattle.trac_warnings.specs.declared.warning.Warning.{Warning}
+use Rattle.trac_checker.specs.FoundSoFar.{counts_with, found_in, is_said_again, missing_with, said_cmp, with_said}
+use Rattle.trac_checker.specs.Warned.{found_of}
+
+-- an order of keys, seen by what they stand for
+module _ {K T : Type 0} (f : K → T) (cmp : K → K → Ordering) (to : T → T → Ordering) (same : (a b : K) → cmp a b ≡ to (f a) (f b)) where
+  abbrev seen : List (K × ℕ) → List (T × ℕ)
+  seen entries = map (λ entry. (f entry.0, entry.1)) entries
+
+  seen-match : (o : Ordering) (a b c : List (K × ℕ)) → seen (match_ordering o a b c) ≡ match_ordering o (seen a) (seen b) (seen c)
+  seen-match Less a b c = refl
+  seen-match Equal a b c = refl
+  seen-match Greater a b c = refl
+
+  seen-insert : (entries : List (K × ℕ)) (key : K) (n : ℕ) → seen (insert_entry cmp entries key n) ≡ insert_entry to (seen entries) (f key) n
+  seen-insert [] key n = refl
+  seen-insert (x ∷ entries) key n =
+      seen-match (cmp key x.0) ((key, n) ∷ x ∷ entries) ((x.0, n) ∷ entries) (x ∷ insert_entry cmp entries key n)
+      ∙ ap (λ o. match_ordering o ((f key, n) ∷ (f x.0, x.1) ∷ seen entries) ((f x.0, n) ∷ seen entries) ((f x.0, x.1) ∷ seen (insert_entry cmp entries key n))) (same key x.0)
+      ∙ ap (λ t. match_ordering (to (f key) (f x.0)) ((f key, n) ∷ (f x.0, x.1) ∷ seen entries) ((f x.0, n) ∷ seen entries) ((f x.0, x.1) ∷ t)) (seen-insert entries key n)
+
+  seen-lookup : (entries : List (K × ℕ)) (key : K) → lookup (is_at (cmp key)) entries ≡ lookup (is_at (to (f key))) (seen entries)
+  seen-lookup [] key = refl
+  seen-lookup (x ∷ entries) key =
+      ap (λ o. cond (is_eq o) (Some x.1) (lookup (is_at (cmp key)) entries)) (same key x.0)
+      ∙ ap (cond (is_eq (to (f key) (f x.0))) (Some x.1)) (seen-lookup entries key)
+
+  pub counted : (entries : List (K × ℕ)) (key : K) → seen (insert_entry cmp entries key (once_more (lookup (is_at (cmp key)) entries))) ≡ insert_entry to (seen entries) (f key) (once_more (lookup (is_at (to (f key))) (seen entries)))
+  counted entries key = seen-insert entries key (once_more (lookup (is_at (cmp key)) entries)) ∙ ap (λ n. insert_entry to (seen entries) (f key) (once_more n)) (seen-lookup entries key)
+
+-- a text is among texts
+among : {A : Type 0} (text : Text) (texts : List (Vec ℕ A)) → list_any (is_at (λ other. slice_cmp nat_cmp text other.items)) texts ≡ list_any (is_at (slice_cmp nat_cmp text)) (map (λ text. text.items) texts)
+among text [] = refl
+among text (x ∷ texts) = ap (λ b. is_eq (slice_cmp nat_cmp text x.items) || b) (among text texts)
+
+module _ {A : Type 0} (cmp : Warning A → Warning A → Ordering) (same : (a b : Warning A) → cmp a b ≡ said_cmp (said a) (said b)) (old new : Findings A) (w : Warning A) where
+  counts-by : (again : Bool) → again ≡ is_said_again (said w) (texts_of old.missing) → (again ≡ true → new.counts.entries ≡ old.counts.entries)
+      → (again ≡ false → new.counts.entries ≡ insert_entry cmp old.counts.entries w (once_more (lookup (is_at (cmp w)) old.counts.entries)))
+      → found_of new.counts.entries ≡ counts_with again (said w) (found_of old.counts.entries)
+  counts-by true is repeated count = ap found_of (repeated refl)
+  counts-by false is repeated count = ap found_of (count refl) ∙ counted said cmp said_cmp same old.counts.entries w
+
+  missing-by : (none : Bool) → (none ≡ false → new.missing ≡ old.missing) → (none ≡ true → texts_of new.missing ≡ with_text w.text.items (texts_of old.missing)) → texts_of new.missing ≡ missing_with none w.text.items (texts_of old.missing)
+  missing-by true others noted = noted refl
+  missing-by false others noted = ap texts_of (others refl)
+
+  again-is : is_repeated w old.missing ≡ is_said_again (said w) (texts_of old.missing)
+  again-is = ap (λ b. is_no_form w.suspicion && b) (among w.text.items old.missing.keys)
+
+  -- a warning was added
+  pub adds : (is_repeated w old.missing ≡ true → new.counts.entries ≡ old.counts.entries)
+      → (is_repeated w old.missing ≡ false → new.counts.entries ≡ insert_entry cmp old.counts.entries w (once_more (lookup (is_at (cmp w)) old.counts.entries)))
+      → (is_no_form w.suspicion ≡ false → new.missing ≡ old.missing)
+      → (is_no_form w.suspicion ≡ true → texts_of new.missing ≡ with_text w.text.items (texts_of old.missing))
+      → found_in new ≡ with_said (said w) (found_in old)
+  adds repeated count others noted =
+      let counts : found_of new.counts.entries ≡ counts_with (is_said_again (said w) (texts_of old.missing)) (said w) (found_of old.counts.entries) =
+      counts-by (is_repeated w old.missing) again-is repeated count ∙ ap (λ b. counts_with b (said w) (found_of old.counts.entries)) again-is in
+      let missing = missing-by (is_no_form w.suspicion) others noted in
+      λ i. record { counts = counts i; missing = missing i }
+
+-- what warnings say, that of the last first
+pub last-said : {A : Type 0} (warnings : List (Warning A)) (last : Warning A) → reverse (map said (warnings ++ last ∷ [])) ≡ said last ∷ reverse (map said warnings)
+last-said warnings last = ap reverse (map-append said warnings (last ∷ [])) ∙ reverse-append (map said warnings) (said last ∷ [])

@@ -1,0 +1,65 @@
+-- What was found so far in a script.
+use Rattle.std.specs.Prelude.{◌&&◌, Bool, true, false, List, [], ◌∷◌}
+use Rattle.std.specs.BTreeMap.{insert_entry, is_at}
+use Rattle.std.specs.Cmp.Lexicographic.{slice_cmp}
+use Rattle.std.specs.List.{list_any}
+use Rattle.std.specs.Map.{lookup}
+use Rattle.std.specs.Ordering.{nat_cmp, on, then_cmp}
+use Rattle.std.specs.declared.cmp.Ordering.{Ordering}
+use Rattle.trac_language.specs.Text.{Text}
+use Rattle.trac_warnings.specs.Findings.{is_no_form, once_more, texts_of, with_text}
+use Rattle.trac_warnings.specs.Script.{script_warnings}
+use Rattle.trac_warnings.specs.Watched.{Said}
+use Rattle.trac_warnings.specs.contracts.origin.OriginOrd.TheImpl as origin
+use Rattle.trac_warnings.specs.contracts.warning.SuspicionOrd.TheImpl as suspicion
+use Rattle.trac_warnings.specs.declared.findings.Findings.{Findings}
+use Rattle.trac_checker.specs.Warned.{Found, found_of}
+
+-- the order of what warnings say: by their places, then by what is suspicious, then by the number of characters
+-- and by the text
+abbrev pub said_cmp : Said → Said → Ordering
+said_cmp = then_cmp (on (λ s. s.origin) (origin.ghosts).cmp) (then_cmp (on (λ s. s.suspicion) (suspicion.ghosts).cmp)
+    (then_cmp (on (λ s. s.count) nat_cmp) (on (λ s. s.text) (slice_cmp nat_cmp))))
+
+-- what was found, in the order of what is said; and the names of which it was said that no form has them
+pub record FoundSoFar : Type 0 where
+  pub counts : Found
+  pub missing : List Text
+
+-- nothing was found yet
+abbrev pub nothing_found : FoundSoFar
+nothing_found = record { counts = []; missing = [] }
+
+-- whether it is said that no form has a name, and that was said of the name before
+abbrev pub is_said_again : Said → List Text → Bool
+is_said_again s missing = is_no_form s.suspicion && list_any (is_at (slice_cmp nat_cmp s.text)) missing
+
+-- what was found, with this once more, unless it is said again of a name that no form has
+abbrev pub counts_with : (is_again : Bool) → Said → Found → Found
+counts_with true s counts = counts
+counts_with false s counts = insert_entry said_cmp counts s (once_more (lookup (is_at (said_cmp s)) counts))
+
+-- the names, with this one, if it is said that no form has it
+abbrev pub missing_with : (is_no_form : Bool) → Text → List Text → List Text
+missing_with true name missing = with_text name missing
+missing_with false name missing = missing
+
+-- what was found, with what a warning says
+abbrev pub with_said : Said → FoundSoFar → FoundSoFar
+with_said s old = record {
+  counts = counts_with (is_said_again s old.missing) s old.counts;
+  missing = missing_with (is_no_form s.suspicion) s.text old.missing;
+}
+
+-- the same with what each of these says, one after another
+abbrev pub with_all : List Said → FoundSoFar → FoundSoFar
+with_all [] old = old
+with_all (s ∷ more) old = with_all more (with_said s old)
+
+-- what was found in how a script is written
+abbrev pub found_in_script : Text → FoundSoFar
+found_in_script script = with_all (script_warnings script) nothing_found
+
+-- what these findings say
+abbrev pub found_in : {A : Type 0} → Findings A → FoundSoFar
+found_in findings = record { counts = found_of findings.counts.entries; missing = texts_of findings.missing }
