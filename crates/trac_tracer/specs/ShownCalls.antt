@@ -3,11 +3,14 @@ use Rattle.std.specs.Prelude.{◌≡◌, ◌++◌, ℕ, Bool, true, false, List,
 use Rattle.std.specs.Prelude.{if◌then◌else◌, nat_lt}
 use Rattle.trac_language.specs.Form.{Form}
 use Rattle.trac_language.specs.Function.{function_named}
+use Rattle.trac_language.specs.State.{Memory}
 use Rattle.trac_language.specs.declared.fate.Fate.{Fate}
 use Rattle.trac_language.specs.declared.function.Function.{Function}
 use Rattle.trac_space.specs.Texts.{text_of_cells}
 use Rattle.trac_space.specs.declared.cell.Cell.{Cell}
+use Rattle.trac_functions.specs.Flat.{neutral_of}
 use Rattle.trac_core.specs.Machine.{MachineState}
+use Rattle.trac_core.specs.View.{neutral_in}
 use Rattle.trac_core.specs.declared.machine.open_calls.CallMark.{CallMark}
 use Rattle.trac_events.specs.Calls.{SeesValue, argument_of, behind_mark}
 use Rattle.trac_events.specs.Changes.{form_of, pointer_of, touched_by}
@@ -15,7 +18,6 @@ use Rattle.trac_events.specs.declared.before.Before.{Before}
 use Rattle.trac_events.specs.declared.call.Named.{Named}
 use Rattle.trac_events.specs.declared.change.Touched.{Touched}
 use Rattle.trac_events.specs.declared.change.Touched.TheVariants.{Nothing, First, Each, All}
-use Rattle.trac_views.specs.Faults.{IsNeutral}
 use Rattle.trac_views.specs.Lines.{dropped_text}
 use Rattle.trac_views.specs.Told.{called_text, changes_text, deleted_text, form_text, has_strings}
 use Rattle.trac_views.specs.declared.views.Views.{Views}
@@ -38,17 +40,17 @@ made_text width First form = found_text width form
 made_text width Each form = []
 made_text width All form = []
 
--- what is kept of a call of a machine before it is performed: its arguments, what they name, and the
+-- what is kept of a call before it is performed: its arguments, what they name, and the
 -- names of the forms that it deletes
-pub record IsKept (m : MachineState) (width : ℕ) (mark : CallMark) (arguments : List Cell)
+pub record IsKept (memory : Memory) (width : ℕ) (mark : CallMark) (arguments : List Cell)
     (named : Named) (deleted : List ℕ) : Type 0 where
   pub neutral : List Cell
-  pub is_neutral : IsNeutral m neutral
+  pub is_neutral : neutral_of neutral ≡ neutral_in memory
   pub arguments_are : arguments ≡ behind_mark neutral mark.place
   pub function : named.function ≡ function_named (text_of_cells (argument_of arguments 0))
-  pub pointer : named.pointer ≡ pointer_of (argument_of arguments 1) m.memory.forms
+  pub pointer : named.pointer ≡ pointer_of (argument_of arguments 1) memory.forms
   pub deleted_is :
-      deleted ≡ deleted_text width (touched_of named.function) m.memory.forms arguments
+      deleted ≡ deleted_text width (touched_of named.function) memory.forms arguments
 
 -- the lines of a call of which this was kept, with its value, by the machine after it
 abbrev pub call_text : Views → CallMark → (depth : ℕ) → List Cell → Named → (deleted : List ℕ)
@@ -57,9 +59,9 @@ call_text views mark depth arguments named deleted value printed m =
     let name = argument_of arguments 1 in
     let form = made_text views.width (touched_of named.function) (form_of name m.memory.forms) in
     if views.calls then
-      called_text m.steps mark.mode depth arguments value printed form deleted
-      (oddity_of named.function named.pointer arguments value (pointer_of name m.memory.forms))
-      views.width
+    called_text m.steps mark.mode depth arguments value printed form deleted
+    (oddity_of named.function named.pointer arguments value (pointer_of name m.memory.forms))
+    views.width
     else (if views.forms then changes_text m.steps form deleted else [])
 
 -- the call that was seen before a step, where there is one

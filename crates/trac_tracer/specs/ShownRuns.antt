@@ -1,19 +1,22 @@
 -- What is shown of a run, step by step.
 use Rattle.std.specs.Prelude.{◌≡◌, ℕ, zero, suc, ◌-◌, ◌^◌, ◌&&◌, ◌++◌, true, false, not, List, []}
-use Rattle.std.specs.Prelude.{Some, max, slice_index_or}
+use Rattle.std.specs.Prelude.{IfSome, None, Option, Some, max, slice_index_or}
 use Rattle.trac_language.specs.Text.{Text}
 use Rattle.trac_language.specs.Step.{need}
 use Rattle.trac_language.specs.declared.fate.Fate.{Fate}
+use Rattle.trac_space.specs.declared.cell.Cell.{Cell}
 use Rattle.trac_devices.specs.Devices.{Stream}
 use Rattle.trac_core.specs.Machine.{MachineState, Moment, moment, state_of, GoesOn, Answers, Reports}
 use Rattle.trac_core.specs.Machine.{counts_as_step, course, made}
-use Rattle.trac_events.specs.Calls.{IsSeen}
+use Rattle.trac_events.specs.Calls.{IsSeen, depth_in}
 use Rattle.trac_events.specs.declared.before.Before.{Before}
+use Rattle.trac_events.specs.declared.call.Named.{Named}
 use Rattle.trac_views.specs.Faults.{TellsEnd, TellsStep, is_told}
 use Rattle.trac_views.specs.Lines.{folded_text, head_text}
 use Rattle.trac_views.specs.Told.{has_steps}
 use Rattle.trac_views.specs.declared.views.Views.{Views}
 use Rattle.trac_tracer.specs.Last.{LastNumbers, with_step}
+use Rattle.trac_tracer.specs.ShownCalls.{IsKept, TellsCall}
 
 -- the views, of all steps
 abbrev pub all_steps : Views → Views
@@ -23,35 +26,74 @@ all_steps views = record views { from = 1; to = 2 ^ 64 - 1 }
 abbrev pub views_from : ℕ → Views → Views
 views_from first views = record views { from = max views.from first; last = 0 }
 
--- the lines of a step from one machine to another, which needed so many cells and printed this: none
--- where the step isn't shown, and where the steps themselves are shown, all that is told of it
-pub record AreLinesOf (views : Views) (old : MachineState) (needed : ℕ) (printed : Text)
-    (new : MachineState) (lines : List ℕ) : Type 0 where
-  pub before : Before
-  pub seen : IsSeen old (is_told views old.steps && not (has_steps views)) before
-  pub hidden : is_told views old.steps ≡ false → lines ≡ []
-  pub steps :
-      is_told views old.steps ≡ true → has_steps views ≡ true →
-      TellsStep views.width before needed printed new [] lines
+-- a step from one machine to another, in which so many calls were open and then so many, which was
+-- answered so, needed so many cells and printed this
+pub record StepDone : Type 0 where
+  pub old : MachineState
+  pub depth_before : ℕ
+  pub answer : Option Fate
+  pub needed : ℕ
+  pub printed : Text
+  pub new : MachineState
+  pub depth : ℕ
 
--- how far a run that is shown has come: its machine, with all that it printed; the last steps of
--- which something was shown; and what was written
+-- the lines of a step: none where it isn't shown; where the steps themselves are shown, all that is told
+-- of it; and else the call that it performed, by what was kept of that call before
+pub record AreLinesOf (views : Views) (done : StepDone) (lines : List ℕ) : Type 0 where
+  pub before : Before
+  pub arguments : List Cell
+  pub named : Named
+  pub deleted : List ℕ
+  pub seen : IsSeen done.old (is_told views done.old.steps && not (has_steps views)) before
+  pub depth_is : done.depth ≡ depth_in before done.new done.depth_before
+  pub hidden : is_told views done.old.steps ≡ false → lines ≡ []
+  pub steps :
+      is_told views done.old.steps ≡ true → has_steps views ≡ true →
+      TellsStep views.width before done.needed done.printed done.new [] lines
+  pub kept :
+      is_told views done.old.steps ≡ true → has_steps views ≡ false →
+      IfSome before.call (λ mark. IsKept done.old.memory views.width mark arguments named deleted)
+  pub calls :
+      is_told views done.old.steps ≡ true → has_steps views ≡ false →
+      TellsCall views before done.answer done.depth arguments named deleted done.printed done.new
+      [] lines
+
+-- how far a run that is shown has come: its machine, with all that it printed; how many calls are open;
+-- the last steps of which something was shown; and what was written
 pub record ShownSoFar : Type 0 where
   pub at : Moment
+  pub depth : ℕ
   pub last : LastNumbers
   pub text : List ℕ
 
 -- no step of it is shown yet
 abbrev pub none_shown : Views → Moment → ShownSoFar
-none_shown views start =
-    record { at = start; last = record { numbers = []; most = views.last }; text = [] }
+none_shown views start = record {
+  at = start;
+  depth = 0;
+  last = record { numbers = []; most = views.last };
+  text = [];
+}
 
 -- with the lines of a step that led to a moment
-abbrev pub with_lines : Views → (lines all : List ℕ) → Moment → ShownSoFar → ShownSoFar
-with_lines views lines all at old = record {
+abbrev pub with_lines : Views → (lines all : List ℕ) → Moment → (depth : ℕ) → ShownSoFar → ShownSoFar
+with_lines views lines all at depth old = record {
   at = at;
+  depth = depth;
   last = with_step at.machine.steps lines old.last;
   text = old.text ++ folded_text views.columns 0 all;
+}
+
+-- the step from one to another that was answered so
+abbrev pub step_between : ShownSoFar → Option Fate → (needed : ℕ) → (printed : Text) → ShownSoFar → StepDone
+step_between old answer needed printed new = record {
+  old = old.at.machine;
+  depth_before = old.depth;
+  answer = answer;
+  needed = needed;
+  printed = printed;
+  new = new.at.machine;
+  depth = new.depth;
 }
 
 -- one step more was done, and its lines were written
@@ -60,9 +102,8 @@ pub record ShowsStep (views : Views) (old new : ShownSoFar) : Type 0 where
   pub lines : List ℕ
   pub goes : GoesOn old.at new.at
   pub prints : new.at.written ≡ old.at.written ++ printed
-  pub tells :
-      AreLinesOf views old.at.machine (need (state_of old.at)) printed new.at.machine lines
-  pub new_is : new ≡ with_lines views lines lines new.at old
+  pub tells : AreLinesOf views (step_between old None (need (state_of old.at)) printed new) lines
+  pub new_is : new ≡ with_lines views lines lines new.at new.depth old
 
 -- so many steps more
 abbrev pub ShowsSteps : Views → ℕ → (old new : ShownSoFar) → Type 0
@@ -79,9 +120,9 @@ pub record ShowsLast (views : Views) (fate : Fate) (old new : ShownSoFar) : Type
   pub answers : Answers old.at (Some fate) new.at
   pub prints : new.at.written ≡ old.at.written ++ printed
   pub needs : counts_as_step (Some fate) ≡ true → needed ≡ need (state_of old.at)
-  pub tells : AreLinesOf views old.at.machine needed printed new.at.machine lines
+  pub tells : AreLinesOf views (step_between old (Some fate) needed printed new) lines
   pub ends : TellsEnd views fate new.at.machine.peak new.at.machine lines all
-  pub new_is : new ≡ with_lines views lines all new.at old
+  pub new_is : new ≡ with_lines views lines all new.at new.depth old
 
 -- the definition's run over a source that gives these bytes, in this room and with this allowance, was
 -- shown in this text; it ended with this fate, and this is the first of the last steps that are shown

@@ -77,7 +77,7 @@ impl Shown {
             IfOk result (IsSeen machine.now (asked && not (has_steps self.old.views))) }
         ensures kept { is_told self.old.views machine.now.steps ≡ true →
             has_steps self.old.views ≡ false → IfOk result (λ before. IfSome before.call
-            (λ mark. IsKept machine.now self.old.views.width mark self.new.arguments.items
+            (λ mark. IsKept machine.now.memory self.old.views.width mark self.new.arguments.items
             self.new.named self.new.deleted.items)) }
         ensures cleared { self.new.lines.items ≡ [] }
         ensures views { self.new.views ≡ self.old.views }
@@ -96,7 +96,7 @@ impl Shown {
 
     // Keeps what must be known of a call after it is performed.
     fn look_at_call(&mut self, machine: &Machine, call: CallMark) -> Result<(), AllocError>
-        ensures kept { OnOk result (IsKept machine.now self.old.views.width call
+        ensures kept { OnOk result (IsKept machine.now.memory self.old.views.width call
             self.new.arguments.items self.new.named self.new.deleted.items) }
         ensures lines { self.new.lines ≡ self.old.lines }
         ensures views { self.new.views ≡ self.old.views }

@@ -1,9 +1,11 @@
-use Rattle.std.proofs.Common.{◌≡◌, ◌∙◌, ap, arith, length, max, refl, subst}
+use Rattle.std.proofs.Common.{◌≡◌, ◌∙◌, ap, arith, length, max, refl, subst, Some, None}
 use Rattle.std.proofs.lemmas.List.{length-replicate}
 use Rattle.std.specs.Io.KnownBytes.{Appends}
 use Rattle.trac_core.specs.Machine.{MachineState, made}
+use Rattle.trac_events.specs.Calls.{depth_in}
 use Rattle.trac_views.specs.Lines.{folded_text, head_text}
 use Rattle.trac_tracer.specs.Last.{with_step}
+use Rattle.trac_tracer.specs.ShownCalls.{TellsCall}
 use Rattle.trac_events.proofs.Failures.{last-failures}
 use Rattle.trac_tracer.proofs.StepByStep.{are-lines, shown-first, shown-on, shown-over}
 use Rattle.trac_tracer.proofs.tracing.trace.Goals as goal
@@ -25,8 +27,8 @@ loop-last-init g c =
       views = shown.0;
       told = λ told. told;
       shows = λ told.
-          shown-first c.args.options.now.views settings.cells settings.steps (g.I.Source.stream c.args.source.now) _ _ c.in_ok-shown.shown.peak c.over-machine.result c.new-last.result c.lines.result.now
-          machine_is shown.1 c.new-last.ensures (c.lines.ensures ∙ shown.3) c.in_ok-write_folded.ensures;
+          shown-first c.args.options.now.views settings.cells settings.steps (g.I.Source.stream c.args.source.now) _ _ c.in_ok-shown.shown.peak c.over-machine.result c.in_ok-shown.shown.depth c.new-last.result c.lines.result.now
+          machine_is shown.1 shown.2 c.new-last.ensures (c.lines.ensures ∙ shown.3) c.in_ok-write_folded.ensures;
     }
 
 pub returns-in-Some : goal.returns-in-Some
@@ -45,10 +47,11 @@ returns-in-Some g c =
           let printed = c.step-fate.new.sink.bytes.items in
           let lines = c.tell.new.self.lines.items in
           let after = c.take_peak-need.new.self in
-          let line_of = are-lines views c.loop-last.shown.views c.look.new.self.views m after c.in_ok-before.before c.take_peak-need.result c.as_bytes.result.now printed c.look.new.self.lines.items lines
-          i.views looked c.as_bytes.ensures c.in_ok-before.ensures.cleared c.in_ok-before.ensures.seen c.in_ok-tell.ensures.hidden c.in_ok-tell.ensures.steps in
+          let line_of = are-lines views c.loop-last.shown.views c.look.new.self.views m after c.in_ok-before.before c.loop-last.shown.depth c.tell.new.self.depth (Some c.in-Some.fate) c.take_peak-need.result c.look.new.self.arguments.items c.look.new.self.named c.look.new.self.deleted.items c.as_bytes.result.now printed c.look.new.self.lines.items lines
+          i.views looked c.as_bytes.ensures c.in_ok-before.ensures.cleared c.in_ok-before.ensures.seen
+          (c.in_ok-tell.ensures.depth ∙ ap (depth_in c.in_ok-before.before after) c.in_ok-before.ensures.depth) c.in_ok-tell.ensures.hidden c.in_ok-tell.ensures.steps c.in_ok-before.ensures.kept (λ told others. subst (λ a. TellsCall c.look.new.self.views c.in_ok-before.before a c.tell.new.self.depth c.look.new.self.arguments.items c.look.new.self.named c.look.new.self.deleted.items c.as_bytes.result.now after c.look.new.self.lines.items lines) c.in-Some.is (c.in_ok-tell.ensures.calls told others)) in
           shown-over views c.tell.new.self.views settings.cells settings.steps (g.I.Source.stream c.args.source.now) _ _ _ c.loop-last.shown.peak c.tell.new.self.peak c.take_peak-need.result c.steps.result c.first-first.result c.in-Some.fate
-          m c.step-fate.new.self after stream (g.I.Source.stream c.step-fate.new.source) c.loop-last.last c.add.new.self c.loop-last.printed.bytes.items printed lines c.tell_end.new.self.lines.items
+          m c.step-fate.new.self after c.loop-last.shown.depth c.tell.new.self.depth stream (g.I.Source.stream c.step-fate.new.source) c.loop-last.last c.add.new.self c.loop-last.printed.bytes.items printed lines c.tell_end.new.self.lines.items
           i.room i.allowance i.no_peak i.empty (h.answers i.not_over (i.told told) tt) (i.shows told) line_of
           c.take_peak-need.ensures.peak c.take_peak-need.ensures.after
           (c.in_ok-tell.ensures.peak ∙ ap (λ p. max p c.take_peak-need.result) c.in_ok-before.ensures.peak)
@@ -85,10 +88,11 @@ loop-last-preserved g c =
           let printed = c.step-fate.new.sink.bytes.items in
           let lines = c.tell.new.self.lines.items in
           let took = h.takes (i.told told) in
-          let line_of = are-lines views c.loop-last.shown.views c.look.new.self.views m after c.in_ok-before.before c.take_peak-need.result c.as_bytes.result.now printed c.look.new.self.lines.items lines
-          i.views looked c.as_bytes.ensures c.in_ok-before.ensures.cleared c.in_ok-before.ensures.seen c.in_ok-tell.ensures.hidden c.in_ok-tell.ensures.steps in
+          let line_of = are-lines views c.loop-last.shown.views c.look.new.self.views m after c.in_ok-before.before c.loop-last.shown.depth c.tell.new.self.depth None c.take_peak-need.result c.look.new.self.arguments.items c.look.new.self.named c.look.new.self.deleted.items c.as_bytes.result.now printed c.look.new.self.lines.items lines
+          i.views looked c.as_bytes.ensures c.in_ok-before.ensures.cleared c.in_ok-before.ensures.seen
+          (c.in_ok-tell.ensures.depth ∙ ap (depth_in c.in_ok-before.before after) c.in_ok-before.ensures.depth) c.in_ok-tell.ensures.hidden c.in_ok-tell.ensures.steps c.in_ok-before.ensures.kept (λ told others. subst (λ a. TellsCall c.look.new.self.views c.in_ok-before.before a c.tell.new.self.depth c.look.new.self.arguments.items c.look.new.self.named c.look.new.self.deleted.items c.as_bytes.result.now after c.look.new.self.lines.items lines) c.in_default.is (c.in_ok-tell.ensures.calls told others)) in
           shown-on views (made settings.cells settings.steps) (g.I.Source.stream c.args.source.now) (folded_text views.columns 0 (head_text views.calls views.forms)) _ _ _ c.loop-last.shown.peak c.tell.new.self.peak c.take_peak-need.result c.steps.result
-          m c.step-fate.new.self after stream (g.I.Source.stream c.step-fate.new.source) c.loop-last.last c.add.new.self c.loop-last.printed.bytes.items printed lines took.0
+          m c.step-fate.new.self after c.loop-last.shown.depth c.tell.new.self.depth stream (g.I.Source.stream c.step-fate.new.source) c.loop-last.last c.add.new.self c.loop-last.printed.bytes.items printed lines took.0
           i.room i.no_peak i.empty took.1.consumed (h.answers i.not_over (i.told told) tt) (i.shows told) line_of
           c.take_peak-need.ensures.peak after_is
           (c.in_ok-tell.ensures.peak ∙ ap (λ p. max p c.take_peak-need.result) c.in_ok-before.ensures.peak)

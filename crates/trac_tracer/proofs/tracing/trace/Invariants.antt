@@ -22,7 +22,7 @@ invariant-loop-last g l =
           IsShown l.options.views (made l.options.settings.cells l.options.settings.steps) (g.I.Source.stream l.initial.source)
           (folded_text l.options.views.columns 0 (head_text l.options.views.calls l.options.views.forms))
           (g.W.Write.contents l.fn.output) (g.W.Write.contents l.output)
-          l.shown.peak l.machine (g.I.Source.stream l.source) l.last;
+          l.shown.peak l.machine l.shown.depth (g.I.Source.stream l.source) l.last;
     }
 
 -- the steps that are left

@@ -1,4 +1,4 @@
-use Rattle.std.proofs.Common.{◌≡◌, ◌∙◌, ◌++◌, Bool, true, false, List, [], ℕ, Option, Some, None, ap, refl, sym, subst, append_assoc, append-nil, arith}
+use Rattle.std.proofs.Common.{◌≡◌, ◌∙◌, ◌++◌, true, false, List, [], ℕ, Option, Some, None, ap, sym, subst, append_assoc, append-nil, arith}
 use Rattle.std.specs.Prelude.{if◌then◌else◌, nat_lt}
 use Rattle.std.proofs.lemmas.Bool.{le-ltb, lt-ltb}
 use Rattle.trac_language.specs.declared.fate.Fate.{Fate}
@@ -51,34 +51,34 @@ returns-clause-calls c = λ told not_steps.
     let s = c.if-steps-before.self in
     let shown = c.show.new.self in
     let is_value : IsValueAfter c.args.fate before m value =
-        elim c.match-fate.branch [
-          | in-None w ↦ value-none before m c.args.fate value w.value-value.result.now w.in-None.is (ap (λ v. v.now) w.value-is) w.value-value.ensures
-          | in-Some w ↦ value-some before m c.args.fate _ value w.in-Some.is (ap (λ v. v.now) w.value-is)
-        ] in
+    elim c.match-fate.branch [
+      | in-None w ↦ value-none before m c.args.fate value w.value-value.result.now w.in-None.is (ap (λ v. v.now) w.value-is) w.value-value.ensures
+      | in-Some w ↦ value-some before m c.args.fate _ value w.in-Some.is (ap (λ v. v.now) w.value-is)
+    ] in
     let views_is : s.views ≡ self.views =
-        elim c.if-steps-before.branch [
-          | then-steps-before+in_ok-tell_step+in_ok-tell_call w ↦ ap (λ (s : Shown). s.views) w.self-is ∙ w.tell_call.ensures.views ∙ w.tell_step.ensures.views
-          | else-steps-before w ↦ ap (λ (s : Shown). s.views) w.self-is
-        ] in
+    elim c.if-steps-before.branch [
+      | then-steps-before+in_ok-tell_step+in_ok-tell_call w ↦ ap (λ (s : Shown). s.views) w.self-is ∙ w.tell_call.ensures.views ∙ w.tell_step.ensures.views
+      | else-steps-before w ↦ ap (λ (s : Shown). s.views) w.self-is
+    ] in
     on_ok c.show.result _ _
     (λ last. (
       value,
       (
         is_value,
         let new_is = last ∙ ap (λ t. s.lines.items ++ t) (no-print self.views s.views c.args.printed.now views_is not_steps) in
-        elim c.if-steps-before.branch [
-          | then-steps-before+in_ok-tell_step+in_ok-tell_call w ↦
-              let step = w.tell_step.new.self in
-              let on = w.tell_step.ensures in
-              done-lines self.views step.views before shown.depth step.depth self.arguments.items step.arguments.items self.named step.named self.deleted.items step.deleted.items c.args.printed.now value m self.lines.items step.lines.items w.tell_call.new.self.lines.items shown.lines.items
-              on.views (sym (c.show.ensures.depth ∙ ap (λ (s : Shown). s.depth) w.self-is ∙ w.tell_call.ensures.depth)) (ap (λ a. a.items) on.arguments) on.named (ap (λ a. a.items) on.deleted)
-              (lt-ltb before.done m.steps (omega (arith, w.if-steps-before.true, c.steps.ensures)))
-              (w.in_ok-tell_step.ensures.dropped not_steps) (w.in_ok-tell_call.ensures.called (ap has_steps on.views ∙ not_steps))
-              (new_is ∙ ap (λ (s : Shown). s.lines.items ++ []) w.self-is)
-          | else-steps-before w ↦
-              undone-lines self.views before shown.depth self.arguments.items self.named self.deleted.items c.args.printed.now value m self.lines.items s.lines.items shown.lines.items
-              (le-ltb before.done m.steps (omega (arith, w.if-steps-before.false, c.steps.ensures))) (ap (λ (s : Shown). s.lines.items) w.self-is) new_is
-        ],
+            elim c.if-steps-before.branch [
+              | then-steps-before+in_ok-tell_step+in_ok-tell_call w ↦
+                  let step = w.tell_step.new.self in
+                  let on = w.tell_step.ensures in
+                  done-lines self.views step.views before shown.depth step.depth self.arguments.items step.arguments.items self.named step.named self.deleted.items step.deleted.items c.args.printed.now value m self.lines.items step.lines.items w.tell_call.new.self.lines.items shown.lines.items
+                  on.views (sym (c.show.ensures.depth ∙ ap (λ (s : Shown). s.depth) w.self-is ∙ w.tell_call.ensures.depth)) (ap (λ a. a.items) on.arguments) on.named (ap (λ a. a.items) on.deleted)
+                  (lt-ltb before.done m.steps (omega (arith, w.if-steps-before.true, c.steps.ensures)))
+                  (w.in_ok-tell_step.ensures.dropped not_steps) (w.in_ok-tell_call.ensures.called (ap has_steps on.views ∙ not_steps))
+                  (new_is ∙ ap (λ (s : Shown). s.lines.items ++ []) w.self-is)
+              | else-steps-before w ↦
+                  undone-lines self.views before shown.depth self.arguments.items self.named self.deleted.items c.args.printed.now value m self.lines.items s.lines.items shown.lines.items
+                  (le-ltb before.done m.steps (omega (arith, w.if-steps-before.false, c.steps.ensures))) (ap (λ (s : Shown). s.lines.items) w.self-is) new_is
+            ],
       ),
     ))
     c.show.ensures.lines
