@@ -8,9 +8,7 @@ use Rattle.trac_language.specs.declared.fate.Fate.{Fate}
 use Rattle.trac_language.specs.declared.function.Function.{Function}
 use Rattle.trac_space.specs.Texts.{text_of_cells}
 use Rattle.trac_space.specs.declared.cell.Cell.{Cell}
-use Rattle.trac_functions.specs.Flat.{neutral_of}
 use Rattle.trac_core.specs.Machine.{MachineState}
-use Rattle.trac_core.specs.View.{neutral_in}
 use Rattle.trac_core.specs.declared.machine.open_calls.CallMark.{CallMark}
 use Rattle.trac_events.specs.Calls.{SeesValue, argument_of, behind_mark}
 use Rattle.trac_events.specs.Changes.{form_of, pointer_of, touched_by}
@@ -18,6 +16,7 @@ use Rattle.trac_events.specs.declared.before.Before.{Before}
 use Rattle.trac_events.specs.declared.call.Named.{Named}
 use Rattle.trac_events.specs.declared.change.Touched.{Touched}
 use Rattle.trac_events.specs.declared.change.Touched.TheVariants.{Nothing, First, Each, All}
+use Rattle.trac_views.specs.Faults.{IsNeutralIn}
 use Rattle.trac_views.specs.Lines.{dropped_text}
 use Rattle.trac_views.specs.Told.{called_text, changes_text, deleted_text, form_text, has_strings}
 use Rattle.trac_views.specs.declared.views.Views.{Views}
@@ -45,7 +44,7 @@ made_text width All form = []
 pub record IsKept (memory : Memory) (width : ℕ) (mark : CallMark) (arguments : List Cell)
     (named : Named) (deleted : List ℕ) : Type 0 where
   pub neutral : List Cell
-  pub is_neutral : neutral_of neutral ≡ neutral_in memory
+  pub is_neutral : IsNeutralIn memory neutral
   pub arguments_are : arguments ≡ behind_mark neutral mark.place
   pub function : named.function ≡ function_named (text_of_cells (argument_of arguments 0))
   pub pointer : named.pointer ≡ pointer_of (argument_of arguments 1) memory.forms

@@ -2,7 +2,7 @@
 use Rattle.std.specs.Prelude.{◌≡◌, ℕ, ◌-◌, ◌&&◌, ◌++◌, Bool, true, false, List, [], None, length}
 use Rattle.std.specs.Prelude.{nat_le, nat_lt, if◌then◌else◌}
 use Rattle.std.specs.List.{flat_map}
-use Rattle.trac_language.specs.State.{size}
+use Rattle.trac_language.specs.State.{Memory, size}
 use Rattle.trac_language.specs.declared.fate.Fate.{Fate}
 use Rattle.trac_space.specs.Texts.{text_of_cells}
 use Rattle.trac_space.specs.declared.cell.Cell.{Cell}
@@ -24,9 +24,13 @@ abbrev pub is_told : Views → ℕ → Bool
 is_told views done =
     nat_le views.from (one_more done) && nat_le (one_more done) views.to
 
+-- the cells are those of a neutral string in memory
+abbrev pub IsNeutralIn : Memory → List Cell → Type 0
+IsNeutralIn memory neutral = neutral_of neutral ≡ neutral_in memory
+
 -- the cells are those of the machine's neutral string
 abbrev pub IsNeutral : MachineState → List Cell → Type 0
-IsNeutral m neutral = neutral_of neutral ≡ neutral_in m.memory
+IsNeutral m neutral = IsNeutralIn m.memory neutral
 
 -- the line of a step that was seen before, and its need, of the machine after it, cut to a width, and
 -- that of what it dropped
