@@ -1,5 +1,5 @@
 -- What a warning says, added to what was found.
-use Rattle.std.proofs.Common.{◌≡◌, ◌∙◌, ℕ, Bool, true, false, List, [], ◌∷◌, ◌++◌, map, reverse, refl, ap, Some, Ordering, Less, Equal, Greater}
+use Rattle.std.proofs.Common.{◌≡◌, ◌∙◌, ℕ, Bool, true, false, List, [], ◌∷◌, ◌++◌, map, reverse, refl, sym, ap, Some, Ordering, Less, Equal, Greater}
 use Rattle.std.proofs.lemmas.List.{map-append, reverse-append}
 use Rattle.std.specs.Prelude.{◌&&◌, ◌||◌, cond}
 use Rattle.std.specs.BTreeMap.{insert_entry, is_at}
@@ -13,7 +13,7 @@ use Rattle.trac_warnings.specs.Findings.{is_no_form, is_repeated, once_more, tex
 use Rattle.trac_warnings.specs.Watched.{said}
 use Rattle.trac_warnings.specs.declared.findings.Findings.{Findings}
 use Rattle.trac_warnings.specs.declared.warning.Warning.{Warning}
-use Rattle.trac_checker.specs.FoundSoFar.{counts_with, found_in, is_said_again, missing_with, said_cmp, with_said}
+use Rattle.trac_checker.specs.FoundSoFar.{FoundSoFar, counts_with, found_in, is_said_again, missing_with, said_cmp, with_all, with_said}
 use Rattle.trac_checker.specs.Warned.{found_of}
 
 -- an order of keys, seen by what they stand for
@@ -74,5 +74,12 @@ module _ {A : Type 0} (cmp : Warning A → Warning A → Ordering) (same : (a b 
       λ i. record { counts = counts i; missing = missing i }
 
 -- what warnings say, that of the last first
-pub last-said : {A : Type 0} (warnings : List (Warning A)) (last : Warning A) → reverse (map said (warnings ++ last ∷ [])) ≡ said last ∷ reverse (map said warnings)
+last-said : {A : Type 0} (warnings : List (Warning A)) (last : Warning A) → reverse (map said (warnings ++ last ∷ [])) ≡ said last ∷ reverse (map said warnings)
 last-said warnings last = ap reverse (map-append said warnings (last ∷ [])) ∙ reverse-append (map said warnings) (said last ∷ [])
+
+-- the last of some warnings was taken away, and what it says was found: with what is left, the whole is the same
+pub taken : {A : Type 0} (warnings left : List (Warning A)) (last : Warning A) (old new whole : FoundSoFar) → warnings ≡ left ++ last ∷ [] → new ≡ with_said (said last) old → with_all (reverse (map said warnings)) old ≡ whole → with_all (reverse (map said left)) new ≡ whole
+taken warnings left last old new whole last_is found all =
+    ap (with_all (reverse (map said left))) found
+    ∙ ap (λ told. with_all told old) (sym (last-said left last) ∙ ap (λ all. reverse (map said all)) (sym last_is))
+    ∙ all

@@ -1,8 +1,7 @@
-use Rattle.std.proofs.Common.{◌∙◌, ap, map, refl, reverse, sym}
-use Rattle.trac_warnings.specs.Watched.{said}
+use Rattle.std.proofs.Common.{◌∙◌, ap, refl}
 use Rattle.trac_warnings.specs.declared.watch.Watch.{Watch}
-use Rattle.trac_checker.specs.FoundSoFar.{found_in, with_all}
-use Rattle.trac_checker.proofs.Found.{adds, last-said}
+use Rattle.trac_checker.specs.FoundSoFar.{found_in}
+use Rattle.trac_checker.proofs.Found.{adds, taken}
 use Rattle.trac_checker.proofs.run.keep_warnings.Goals as goal
 
 pub loop-warning-preserved : goal.loop-warning-preserved
@@ -10,12 +9,9 @@ loop-warning-preserved g c =
     let e = c.in_ok-add.ensures in
     let i = c.loop-warning.invariant in
     let old = c.loop-warning.findings in
-    let left = c.take_warning.new.self in
+    let left = c.take_warning.new.self.warnings in
     let more = adds _ (λ a b. refl) old c.add.new.self c.in-Some.warning e.repeated e.counted e.others e.missing in
     record {
-      stays = c.take_warning.ensures.stays ∙ ap (λ (w : Watch g.row.A.Denot). record w { warnings = left.warnings }) i.stays;
-      found =
-          ap (with_all (reverse (map said left.warnings.items))) more
-          ∙ ap (λ told. with_all told (found_in old)) (sym (last-said left.warnings.items c.in-Some.warning) ∙ ap (λ items. reverse (map said items)) (sym c.in-Some.ensures.left))
-          ∙ i.found;
+      stays = c.take_warning.ensures.stays ∙ ap (λ (w : Watch g.row.A.Denot). record w { warnings = left }) i.stays;
+      found = taken c.loop-warning.watch.warnings.items left.items c.in-Some.warning (found_in old) (found_in c.add.new.self) _ c.in-Some.ensures.left more i.found;
     }
