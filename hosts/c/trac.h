@@ -14,9 +14,9 @@
  *   interrupted none of the same machine.
  *
  * The library takes no memory and calls memcpy, memmove and memset alone, beside what the compiler calls for numbers
- * of 64 and 128 bits. A call needs 8 KiB of stack at the most; trac_engine.c some 2 KiB on a Cortex-M3. On machines of
- * 32 bits size_t has 32 bits, and so have the lengths here; steps have 64 everywhere. trac_abi() says whether a
- * program was compiled against the library's own header. */
+ * of 64 and 128 bits. A call needs 8 KiB of stack at the most, trac_check 16 KiB; trac_engine.c some 2 KiB on a
+ * Cortex-M3. On machines of 32 bits size_t has 32 bits, and so have the lengths here; steps have 64 everywhere.
+ * trac_abi() says whether a program was compiled against the library's own header. */
 #ifndef TRAC_H
 #define TRAC_H
 
