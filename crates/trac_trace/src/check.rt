@@ -1,5 +1,6 @@
 //! Files that are checked, one after another.
-ghost use Rattle.std.specs.Prelude.{◌≡◌};
+ghost use Rattle.std.specs.Prelude.{◌≡◌, ◌↔◌, IfErr, IfOk, IsErr};
+ghost use Rattle.std.specs.IoError.{error_kind};
 ghost use Rattle.trac_trace.specs.Statuses.{worse};
 
 use crate::{NO_MEMORY, NOT_WRITTEN, say, warned_status};
@@ -60,7 +61,11 @@ fn check_file<W: Write>(
 }
 
 // Says why a file can't be read, and gives the status.
-fn unread(rt: &HostRuntime, name: &str, error: &io::Error) -> Result<u8, TraceError> {
+fn unread(rt: &HostRuntime, name: &str, error: &io::Error) -> Result<u8, TraceError>
+    ensures status { IfOk result (λ status. status ≡ NOT_READ) }
+    ensures fails { IsErr result ↔ (error_kind error.now ≡ ErrorKind.OutOfMemory) }
+    ensures memory { IfErr result (λ broken_off. broken_off ≡ TraceError.NoMemory) }
+{
     if error.kind() == ErrorKind::OutOfMemory {
         return Err(TraceError::NoMemory);
     }
