@@ -17,10 +17,10 @@ CRATES != ls further-edits
 RT = $(PYTHON) checks/progress.py
 PYTEST = $(PYTHON) -m pytest -q -n auto --dist loadfile
 
-TERMINAL = hosts/c/terminal.c hosts/c/calls.c hosts/c/saving.c hosts/c/texts.c hosts/c/typing.c
+TERMINAL = hosts/c/terminal.c hosts/c/calls.c hosts/c/saving.c hosts/c/suspicions.c hosts/c/texts.c hosts/c/typing.c
 # Lines are edited by libedit, where it is there.
 EDITING = -DWITH_LIBEDIT -ledit
-# The engine in two parts, of which the programs need the first: the check takes longer to compile than all else.
+# The engine in two parts, of which build/trac needs the first: the check takes longer to compile than all else.
 OBJECTS = build/TRAC_WITHOUT_CHECK.o build/TRAC_CHECK_ALONE.o
 
 all: build/trac build/trac_terminal
@@ -32,9 +32,9 @@ help:
 build/trac: hosts/c/trac.c hosts/c/words.h build/TRAC_WITHOUT_CHECK.o
 	$(CC) -std=c11 $(CFLAGS) -o $@ hosts/c/trac.c build/TRAC_WITHOUT_CHECK.o
 
-build/trac_terminal: $(TERMINAL) hosts/c/terminal.h hosts/c/words.h build/TRAC_WITHOUT_CHECK.o
-	$(CC) -std=c11 $(CFLAGS) -o $@ $(TERMINAL) build/TRAC_WITHOUT_CHECK.o $(EDITING) 2>/dev/null || \
-	    $(CC) -std=c11 $(CFLAGS) -o $@ $(TERMINAL) build/TRAC_WITHOUT_CHECK.o
+build/trac_terminal: $(TERMINAL) hosts/c/terminal.h hosts/c/words.h build/libtrac.a
+	$(CC) -std=c11 $(CFLAGS) -o $@ $(TERMINAL) build/libtrac.a $(EDITING) 2>/dev/null || \
+	    $(CC) -std=c11 $(CFLAGS) -o $@ $(TERMINAL) build/libtrac.a
 
 ## make prove      the proved program, crates/trac_cli/out/trac_cli: proves all that it stands on
 prove: crates/trac_cli/out/trac_cli

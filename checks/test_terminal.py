@@ -24,7 +24,8 @@ from trac import TERMINAL, TOP
 LOOP = '#(ds,L,(#(cl,L)))#(cl,L)\''
 USED_UP = 'trac: allowance of 1000 steps used up\n'
 FOREVER = '1000000000000'
-SOURCES = [os.path.join(HEADERS, f'{name}.c') for name in ('terminal', 'calls', 'saving', 'texts', 'typing')]
+SOURCES = [os.path.join(HEADERS, f'{name}.c')
+           for name in ('terminal', 'calls', 'saving', 'suspicions', 'texts', 'typing')]
 ENGINE = os.path.join(TOP, 'build', 'libtrac.a')
 EDITING = ['-DWITH_LIBEDIT', '-ledit']
 CHECKING = ['-O0', '-g', '-fsanitize=address,undefined', '-fno-sanitize-recover=all']
@@ -517,6 +518,7 @@ class Piped(unittest.TestCase):
 
     def test_words_that_are_refused(self):
         for words in (['--cells', '0'], ['--steps'], ['--report'], ['-x', 'file'], ['--save'], ['-qx'], ['--batch'],
+                      ['--check'], ['--check', '--batch', 'x'], ['--check', '--save', 'x', 'y'],
                       ['--quiet', '-q'], ['--batch=yes', 'x'], ['--save', 'x', '--save', 'y'], [b'--save=\xff']):
             output, lines, status = piped('', *words)
             self.assertEqual((output, status), ('', 2))
@@ -602,6 +604,28 @@ class Devices(Room):
 
 
 class Files(Room):
+    def test_what_is_suspicious(self):
+        folder = os.path.join(TOP, 'examples', 'broken')
+        files = sorted(os.path.join(folder, name) for name in os.listdir(folder) if name.endswith('.trac'))
+        wanted = []
+        for file in files:
+            with open(file[:-4] + 'warnings', encoding='utf-8') as told:
+                wanted += [f'{file}: {line}' for line in told]
+        self.assertEqual(piped('', '--check', *files), (''.join(wanted), '', 7))
+        clean, endless = self.put('clean', "#!trac_terminal\n#(ps,(a))'"), self.put('endless', LOOP)
+        none, odd = self.path('none'), self.put('odd', b"#(cl,\xff)'")
+        self.assertEqual(piped('', '--check', clean, '/dev/null'), ('', '', 0))
+        output, lines, status = piped('', '--check', '--steps', '500', odd, endless, none)
+        self.assertEqual((output, status), (
+            f'{odd}: line 1, column 1: no form has the name \\xff\n'
+            f'{endless}: allowance used up: 500 steps, peak 36 cells\n', 4))
+        self.assertTrue(lines.startswith(f"trac_terminal: can't read {none}: "))
+        many = self.put('many', ''.join(f'#(no{number})' for number in range(20000)) + "'")
+        self.assertEqual(piped('', '--check', '--cells', '400000', many)[0].count('no function has the name'), 20000)
+        with open('/dev/full', 'wb') as full:
+            done = subprocess.run([TERMINAL, '--check', odd], stdout=full, check=False, timeout=60)
+        self.assertEqual(done.returncode, 5)
+
     def test_files_are_run_first(self):
         first = self.put('first', "#!/usr/bin/trac\n#(ds,A,(#(ps,a)))'\n#(cl,A)'#(cl,A)'\n")
         second = self.put('second', "#(ps,b)#(hl)'#(ps,not this)'")

@@ -19,6 +19,7 @@ static const char HELP[] =
     "      --cells <N>    Cells of the workspace, 1 to 16777216 [default: 65536]\n"
     "      --steps <N>    Steps that each string may take, 1 to 1000000000000 [default: 1000000]\n"
     "      --batch        Run the files and end, with the status of the worst\n"
+    "      --check        Tell what is suspicious in the files, and end\n"
     "      --save <FILE>  Save the forms in a file at the end\n"
     "  -q, --quiet        Say nothing but faults\n"
     "  -h, --help         Print help\n"
@@ -36,10 +37,11 @@ static const char COMMANDS[] =
     "The language: man 7 trac. This program: man trac_terminal.\n";
 
 /* The options, and their places. */
-enum { CELLS, ALLOWANCE, BATCH, SAVE, QUIET };
+enum { CELLS, ALLOWANCE, BATCH, CHECK, SAVE, QUIET };
 static option options[] = {{"--cells", 0, TAKES_SIGNED, "<N>", TRAC_MOST_CELLS, NULL, 0, NULL},
                            {"--steps", 0, TAKES_UNSIGNED, "<N>", UINT64_C(1000000000000), NULL, 0, NULL},
                            {"--batch", 0, TAKES_NOTHING, NULL, 0, NULL, 0, NULL},
+                           {"--check", 0, TAKES_NOTHING, NULL, 0, NULL, 0, NULL},
                            {"--save", 0, TAKES_TEXT, "<FILE>", 0, NULL, 0, NULL},
                            {"--quiet", 'q', TAKES_NOTHING, NULL, 0, NULL, 0, NULL},
                            {"--help", 'h', TAKES_NOTHING, NULL, 0, HELP, 0, NULL},
@@ -391,22 +393,6 @@ static uint32_t run_strings(session *of, source *from, int *worst) {
     }
 }
 
-/* Says that a file can't be read. */
-static void say_not_read(const char *name) {
-    const char *const why = strerror(errno);
-    text shown = {NULL, 0, 0, 0};
-    (void)say_line(DONE, "trac_terminal: can't read %s: %s\n", shown_in(&shown, name, strlen(name)), why);
-    free(shown.bytes);
-}
-
-/* The length of a first line that begins with `#!`, with its line feed; 0 where there is none. */
-static size_t head_length(const text *of) {
-    if (of->length < 2 || memcmp(of->bytes, "#!", 2) != 0)
-        return 0;
-    const uint8_t *const feed = (const uint8_t *)memchr(of->bytes, '\n', of->length);
-    return feed ? (size_t)(feed + 1 - of->bytes) : of->length;
-}
-
 /* Runs a file, behind a first line that begins with `#!`. A line end is put after what it printed. Gives the fate of
  * its last string, or TRAC_INPUT_FAILED where it can't be read. */
 static uint32_t run_file(session *of, const char *name, int *worst) {
@@ -481,13 +467,19 @@ int main(int count, char **words) {
     const int status = count ? take_words(&given, words + 1) : -1;
     if (status >= 0)
         return status;
-    if (options[BATCH].number && !given.file_count)
+    const option *const alone = &options[options[CHECK].number ? CHECK : BATCH];
+    if (alone->number && !given.file_count)
         return say_line(USAGE, "error: the following required arguments were not provided:\n  <FILE>...\n\n"
-                               "Usage: trac_terminal --batch <FILE>..." HINT);
+                               "Usage: trac_terminal %s <FILE>..." HINT, alone->name);
+    if (options[CHECK].number && (options[BATCH].number || options[SAVE].text))
+        return say_line(USAGE, "error: the argument '--check' cannot be used with '%s'\n\nUsage: %s" HINT,
+                        options[BATCH].number ? "--batch" : "--save <FILE>", given.usage);
     options[CELLS].number = options[CELLS].number ? options[CELLS].number : 65536;
     options[ALLOWANCE].number = options[ALLOWANCE].number ? options[ALLOWANCE].number : 1000000;
     const size_t cells = (size_t)options[CELLS].number;
     trac_cell *const block = (trac_cell *)malloc(cells * sizeof(trac_cell));
+    if (block && options[CHECK].number)
+        return check_files(given.files, given.file_count, block, cells, options[ALLOWANCE].number);
     if (!block || trac_open(&all.machine, block, cells, options[ALLOWANCE].number))
         return say_line(NO_MEMORY, "trac: no memory for %zu cells\n", cells);
     return run_all(&all, &given);

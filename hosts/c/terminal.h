@@ -39,6 +39,12 @@ int take_codes(text *to, const trac_form *form);
 /* Reads all of a file. Gives 0, and why in errno, where that can't be. */
 int read_file(text *to, const char *name);
 
+/* Says that a file can't be read, and why, by errno. */
+void say_not_read(const char *name);
+
+/* The length of a first line that begins with `#!`, with its line feed; 0 where there is none. */
+size_t head_length(const text *of);
+
 /* Whether a form has this name. `found` is for the names that are looked at. */
 int has_form(const trac_machine *machine, const uint8_t *name, size_t length, text *found);
 
@@ -85,5 +91,11 @@ reading type_line(text *to, const char *prompt, int is_shown, int *has_ended);
 
 /* Saves the forms and the meta character in a file. What can't be saved is said. Gives 0 then. */
 int save_forms(const trac_machine *machine, size_t cells, uint64_t steps, const char *name);
+
+/* ---- What is suspicious in files: suspicions.c. */
+
+/* Runs files over a block, each by itself and without its output, and prints what is suspicious in them, each line
+ * behind the file's name. Gives the worst status: 7 where something is suspicious, and nothing worse is. */
+int check_files(char *const *names, size_t count, trac_cell *block, size_t cells, uint64_t steps);
 
 #endif

@@ -110,3 +110,17 @@ int read_file(text *to, const char *name) {
     errno = why;
     return count == 0 && !to->is_short;
 }
+
+void say_not_read(const char *name) {
+    const char *const why = strerror(errno);
+    text shown = {NULL, 0, 0, 0};
+    (void)say_line(DONE, "trac_terminal: can't read %s: %s\n", shown_in(&shown, name, strlen(name)), why);
+    free(shown.bytes);
+}
+
+size_t head_length(const text *of) {
+    if (of->length < 2 || memcmp(of->bytes, "#!", 2) != 0)
+        return 0;
+    const uint8_t *const feed = (const uint8_t *)memchr(of->bytes, '\n', of->length);
+    return feed ? (size_t)(feed + 1 - of->bytes) : of->length;
+}
