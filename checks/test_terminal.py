@@ -918,7 +918,7 @@ class Page(unittest.TestCase):
 
     def test_its_statuses(self):
         self.assertEqual(re.findall(r'^ {7}(\d|signal)\b', self.section('EXIT STATUS'), re.MULTILINE),
-                         [*map(str, range(7)), 'signal'])
+                         [*map(str, range(8)), 'signal'])
 
     def test_its_session(self):
         """What stands behind a prompt is typed, and the rest is shown."""
