@@ -237,10 +237,14 @@ export class History {
      */
     async list(signal, onMore) {
         const last = Math.min(this.end.step, MOST_LISTED);
+        const pace = new Pace();
         while (!signal.aborted && this.listed < last) {
-            const start = performance.now();
-            while (this.listed < last && performance.now() - start < SLICE / 2) {
-                this.listSome(Math.min(last, this.listed + 2000));
+            const until = performance.now() + SLICE / 2;
+            while (this.listed < last && performance.now() < until) {
+                const start = performance.now();
+                const { steps } = pace;
+                this.listSome(Math.min(last, this.listed + steps));
+                pace.fit(performance.now() - start, this.listed < last);
             }
             onMore();
             await pause();

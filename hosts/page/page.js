@@ -10,6 +10,7 @@ import { element, find } from './dom.js';
 import { History } from './history.js';
 import { Lessons } from './lessons.js';
 import { makeLink, openFile, readLink, saveFile } from './links.js';
+import { pause } from './machines.js';
 import { Stepper } from './stepper.js';
 import { traceOf } from './trace.js';
 import { CallTree } from './tree.js';
@@ -258,6 +259,7 @@ class Page {
      */
     async lookAround({ texts, input, history }) {
         try {
+            await pause();
             await this.warnings.look(texts.script + texts.input, input, history);
         } catch {
             // a list that finds no memory is left away: the run itself is shown

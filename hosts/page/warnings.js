@@ -8,7 +8,7 @@ import { several } from './codes.js';
 import { button, element, find } from './dom.js';
 
 /**
- * So many steps are looked at, or a quarter of those that the run made before the page did its other work, where
+ * So many steps are looked at, or a sixteenth of those that the run made before the page did its other work, where
  * these are fewer: so the page isn't held for long.
  */
 const MOST_CHECKED = 50000;
@@ -55,7 +55,7 @@ export class Warnings {
     async look(text, input, { limits: { cells, steps }, early, end }) {
         this.close();
         const look = this.looks;
-        const most = Math.min(early < end.step ? Math.ceil(early / 4) : steps, MOST_CHECKED);
+        const most = Math.min(early < end.step ? Math.ceil(early / 16) : steps, MOST_CHECKED);
         const found = await check(input, { cells: Math.min(cells, MOST_CLEARED), steps: most });
         if (look !== this.looks || !found.warnings.length) return;
         const isPart = steps > most && found.fate === 'steps';
