@@ -159,7 +159,8 @@ static int pointers(void) {
            trac_abi(TRAC_VERSION_NUMBER + 1000, sizeof machine, sizeof(trac_report)) ||
            trac_abi(TRAC_VERSION_NUMBER, sizeof form - 1, sizeof(trac_report)) ||
            strcmp(trac_version(), TRAC_VERSION) || strcmp(trac_fate_name(TRAC_REFUSED), "refused") ||
-           strcmp(trac_fate_name(TRAC_NO_MEMORY), "no memory") || strcmp(trac_fate_name(11), "?") || strcmp(trac_rule_name(TRAC_RULE_CHARACTER), "character")
+           strcmp(trac_fate_name(TRAC_NO_MEMORY), "no memory") || strcmp(trac_fate_name(11), "?") ||
+           strcmp(trac_rule_name(TRAC_RULE_CHARACTER), "character")
                ? 3
                : 0;
 }

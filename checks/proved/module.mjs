@@ -102,7 +102,8 @@ for (const name of readdirSync(broken).filter((each) => each.endsWith('.trac')))
     suspicions[name] = warnings.map(({ line, column, text }) => `line ${line}, column ${column}: ${text}`);
 }
 const endless = await check("#(ds,L,(#(cl,L)))#(cl,L)'", { steps: 500 });
-const many = await check(`${Array.from({ length: 20000 }, (_, number) => `#(no${number})`).join('')}'`, { cells: 400000 });
+const unknown = Array.from({ length: 20000 }, (_, number) => `#(no${number})`);
+const many = await check(`${unknown.join('')}'`, { cells: 400000 });
 const needs = [];
 const needing = await Session.open();
 for (let [given, fate] = ["#(ps,hello)'", 'going']; fate === 'going';) {
@@ -122,6 +123,7 @@ const other = await Session.open({ cells: 10 });
 other.turn('abc', { ended: true });
 before.restore(other.save());
 console.log(JSON.stringify({
-    errors, looks, suspicions, endless, many: many.warnings.length, needs, failed, again, kept, buffer, mark, parts, large: large.output.length, json,
+    errors, looks, suspicions, endless, many: many.warnings.length, needs, failed, again, kept, buffer, mark, parts,
+    large: large.output.length, json,
     shown: Object.keys(before),
 }));

@@ -44,8 +44,9 @@ class Npm(unittest.TestCase):
         folder = os.path.join(TOP, 'examples', 'broken')
         self.assertGreater(len(self.told['suspicions']), 15)
         for name, lines in self.told['suspicions'].items():
-            with self.subTest(script=name), open(os.path.join(folder, name[:-4] + 'warnings'), encoding='utf-8') as told:
-                self.assertEqual(lines, [line for line in told.read().splitlines() if line.startswith('line ')])
+            told = os.path.join(folder, name[:-4] + 'warnings')
+            with self.subTest(script=name), open(told, encoding='utf-8') as file:
+                self.assertEqual(lines, [line for line in file.read().splitlines() if line.startswith('line ')])
         self.assertEqual(self.told['endless'], {'fate': 'steps', 'steps': 500, 'peak': 36, 'warnings': []})
         self.assertEqual(self.told['many'], 20000)
 
