@@ -324,18 +324,29 @@ class Long(Lecture):
         tick();
     """
 
+    HEAVY = "#(ds,f,({}))#(ds,m,(#(eq,##(cl,f),##(cl,f))#(gr,N,0,(#(cl,m,#(su,N,1))))))#(ss,m,N)#(cl,m,1000)'".format(
+        'x' * 200000)
+
+    def gaps_of(self, script):
+        """For how long a run of a script holds the page, in each round up to one that other programs leave alone."""
+        for name, value in (('script', script), ('cells', 1000000), ('steps', 100000000)):
+            self.put(name, value)
+        gaps = []
+        while len(gaps) < 8 and not (gaps and gaps[-1] < 100):
+            gaps.append(browser.execute_async_script(self.GAP))
+        return gaps
+
     def test_steps_that_take_long_behind_quick_ones(self):
-        heavy = "#(ds,f,({}))#(ds,m,(#(eq,##(cl,f),##(cl,f))#(gr,N,0,(#(cl,m,#(su,N,1))))))#(ss,m,N)#(cl,m,1000)'"
-        heavy = heavy.format('x' * 200000)
-        for script, steps in ((LOOP.format(50000)[:-1] + heavy, 2066483), (heavy, 49758)):
-            for name, value in (('script', script), ('cells', 1000000), ('steps', 100000000)):
-                self.put(name, value)
-            gaps = []
-            while len(gaps) < 8 and not (gaps and gaps[-1] < 100):
-                gaps.append(browser.execute_async_script(self.GAP))
-            self.assertLess(min(gaps), 100)
-            self.wait(self.is_at_rest)
-            self.assertEqual(self.steps()[1], steps)
+        gaps = self.gaps_of(LOOP.format(50000)[:-1] + self.HEAVY)
+        self.assertLess(min(gaps), 100)
+        self.wait(self.is_at_rest)
+        self.assertEqual(self.steps()[1], 2066483)
+
+    def test_steps_that_take_long_from_the_first_on(self):
+        gaps = self.gaps_of(self.HEAVY)
+        self.assertLess(min(gaps), 100)
+        self.wait(self.is_at_rest)
+        self.assertEqual(self.steps()[1], 49758)
 
     def test_the_same_at_a_step_from_either_side(self):
         self.run_script(LOOP.format(3000000), '', 65536, 20000000)

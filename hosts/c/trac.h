@@ -130,9 +130,9 @@ const char *trac_rule_name(uint32_t rule);
 trac_report trac_run(trac_cell *block, size_t cells, uint64_t steps, const void *script, size_t script_length,
                      void *output, size_t output_length);
 
-/* Runs a script as trac_run does, and puts what is suspicious in it to the front of `lines`, as much as fits: a line for
- * each place, as "line 2, column 5: no function has the name pss", in the order of their places, and behind them the
- * line of the fault, if one ended the run. These are the lines of `trac_trace --warn`. What the script prints is
+/* Runs a script as trac_run does, and puts what is suspicious in it to the front of `lines`, as much as fits: a line
+ * for each place, as "line 2, column 5: no function has the name pss", in the order of their places, and behind them
+ * the line of the fault, if one ended the run. These are the lines of `trac_trace --warn`. What the script prints is
  * dropped, and `consumed` is 0. The lists that this needs stand in `memory`, of which nothing is used afterwards; a
  * megabyte is enough for most scripts. The engine in C leaves this function out with -DTRAC_WITHOUT_CHECK, and all the
  * others with -DTRAC_CHECK_ALONE. */

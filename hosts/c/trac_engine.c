@@ -4,7 +4,7 @@
  * and what compilers make of it (memcpy, memset) alone.
  *
  * Crates: trac_language trac_space trac_values trac_store trac_forms trac_devices trac_functions trac_laws trac_core trac_events trac_warnings trac_lent trac_views trac_checker trac_c
- * Sources: 577eff90b316594cd9932e3de7b813817be150c9ebbe69b9dff4be6ab392856d
+ * Sources: 1a9ac988b1289ac62d1fc1b0f2d1387039835744239e248016c2b47095bcdec1
  * Kit: rattle-kit-13f logic dac8208d650f15bf
  * Tools: wasm-opt version 108, wabt 1.0.32
  */

@@ -21,8 +21,8 @@ STACK = '$__stack_pointer'
 # So many lines in C are short, and so many short enough for a function that is called at so few places.
 SHORT, MIDDLE, FEW = 80, 200, 3
 # What each export does around its work, which keeps a caller of its own from calling it from within: none here can.
-# The export that C may leave out, with what it alone needs, or have alone. It has maps: a tree of them is taken apart by calls that go
-# in a circle, one for each level, and each level has six times as many places as the one above it.
+# The export that C may leave out, with what it alone needs, or have alone. It has maps: a tree of them is taken apart
+# by calls that go in a circle, one for each level, and each level has six times as many places as the one above it.
 CHECK = '$trac_engine_check'
 TREE, LEVELS = 'btree::node::Node::destroy', 25
 GUARD = '$__rattle_enter'
@@ -375,7 +375,8 @@ class Function:
     def unary(self, kind, action, sign):
         [a] = self.pop(1)
         texts = {'eqz': f'({a.text} == 0)', 'wrap_i64': cast('u32', a.text), 'extend_i32_u': cast('u64', a.text),
-                 'extend8_s': f'((({a.text} & 255u) ^ 128u) - 128u)', 'extend_i32_s': f'(u64)(i64){cast("i32", a.text)}', 'clz': f'clz{kind[1:]}({a.text})'}
+                 'extend8_s': f'((({a.text} & 255u) ^ 128u) - 128u)',
+                 'extend_i32_s': f'(u64)(i64){cast("i32", a.text)}', 'clz': f'clz{kind[1:]}({a.text})'}
         name = f'{action}_{sign}' if sign else action
         if name not in texts:
             raise SystemExit(f'wasm_to_c.py: no translation of {kind}.{name}')

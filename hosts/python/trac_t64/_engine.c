@@ -642,7 +642,7 @@ static int fill_module(PyObject *module) {
 static PyModuleDef_Slot module_slots[] = {{Py_mod_exec, (void *)fill_module}, {0, NULL}};
 
 static PyMethodDef module_functions[] = {
-    {"check", module_check, METH_VARARGS, "The fate of a script, its steps, its peak, and lines on what is suspicious."},
+    {"check", module_check, METH_VARARGS, "The fate of a script, its steps, its peak, and what is suspicious."},
     {NULL, NULL, 0, NULL},
 };
 
