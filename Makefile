@@ -58,8 +58,18 @@ check-machines: check-tools
 test:
 	@checks/gate check check-machines proofs check-proved check-timed
 
+# `rt lib` takes nothing of what `rt ci` proves. Where nothing was proved yet, a copy of the tree proves and builds the
+# libraries beside it, by the processors that it leaves idle.
 proofs:
-	@$(RT) . rt ci
+	@copy=$$(mktemp -d) && trap 'kill -- "-$$!" 2>/dev/null || :; rm -rf "$$copy"' EXIT && \
+	    trap 'exit 130' HUP INT TERM && status=0 && \
+	    if [ ! -d crates/trac_c/out ]; then \
+	        tar -cf - --exclude=.git --exclude=out --exclude=./build --exclude=./dist . | tar -xf - -C "$$copy" && \
+	        { setsid nice make -C "$$copy" dist/libtrac.a dist/trac.wasm >"$$copy/said" 2>&1 & }; \
+	    fi; \
+	    $(RT) . rt ci || status=$$?; wait; [ ! -f "$$copy/said" ] || cat "$$copy/said"; \
+	    [ ! -f "$$copy/dist/trac.wasm" ] || { rm -rf crates/*/out/rlib && \
+	        (cd "$$copy" && tar -cf - build dist crates/*/out/rlib crates/trac_c/out) | tar -xf -; }; exit "$$status"
 
 check-proved: check-tools programs dist
 	$(PYTEST) -m 'not timed' checks/proved
