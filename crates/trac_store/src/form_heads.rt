@@ -29,10 +29,10 @@ pub struct Heads {
     pub pointer: u32,
 }
 
-// The numbers in the three cells from place `start` of the store on. Each cell is tested: one that is no head
-// gives 0.
+/// The numbers in the three cells from place `start` of the store on. Each cell is tested: one that is no
+/// head gives 0.
 #[inline]
-pub(crate) fn tested_heads(space: &Space, start: u32) -> Heads
+pub fn tested_heads(space: &Space, start: u32) -> Heads
     requires within { start + 3 ≤ length space.now.store }
     requires bounded { length space.now.store ≤ 16777216 }
     ensures name { result.name ≡ head_at space.now.store start }
@@ -85,9 +85,9 @@ pub fn item_of(cell: &Cell) -> Item
     }
 }
 
-// The number in a head cell, 0 for any other cell.
+/// The number in a head cell, 0 for any other cell.
 #[inline]
-pub(crate) fn number(cell: Cell) -> u32
+pub fn number(cell: Cell) -> u32
     ensures { result ≡ head_number (Some cell) }
 {
     match cell {
