@@ -43,7 +43,7 @@ pub use Rattle.trac_store.specs.Gaps.{gap_cell_at, segmented_cells, text_cells_a
 pub use Rattle.trac_store.specs.Index.{IsIndex, IsIndexBut, IsIndexed, IsKept, IsOpenFor, IsReached, buried, cell_at, earlier, forward, hash, home_in, home_place, is_open, number_of, quarter, slots, start_in, start_place, started, with_entry}
 pub use Rattle.trac_store.specs.Loading.{AreCharacters, called_part}
 pub use Rattle.trac_store.specs.Parts.{IsTextPart, new_form, part_text, part_texts}
-pub use Rattle.trac_forms.specs.Removal.{HaveOwnNames, IsFormed, IsMarkedFrom, is_among, is_marked, mark, marked, marked_if, unmarked, with_marks, without_all}
+pub use Rattle.trac_forms.specs.Removal.{AreMarking, HaveOwnNames, IsFormed, IsMarkedFrom, is_among, is_marked, mark, marked, marked_if, unmarked, with_marks, without_all}
 pub use Rattle.trac_store.specs.Search.{IsFirst, NonePasses, character_at, gap_at, is_gap, item_at, text_at}
 pub use Rattle.trac_store.specs.Stored.{AreForms, IsPlace, forms_in, head_at, head_number, item_of, start_of, stored_item}
 pub use Rattle.std.proofs.lemmas.List.Concat.{flat_map-append}

@@ -6,6 +6,7 @@ use Rattle.trac_language.specs.Text.{Text}
 use Rattle.trac_language.specs.Form.{Form}
 use Rattle.trac_language.specs.Store.{NoneNamed}
 use Rattle.trac_space.specs.Lists.{Lists}
+use Rattle.trac_store.specs.declared.located.Located.{Located}
 use Rattle.trac_store.specs.Forms.{form_at}
 use Rattle.trac_store.specs.Index.{IsIndexed}
 use Rattle.trac_store.specs.Stored.{AreForms, forms_in, IsPlace}
@@ -59,3 +60,8 @@ pub record IsFormed (s : Lists) (count last start : ℕ) : Type 0 where
 pub record IsMarkedFrom (forms : List Form) (k start : ℕ) : Type 0 where
   pub place : IsPlace forms k start
   pub plain : (j : ℕ) → j < k → is_marked (form_at forms j) ≡ false
+
+-- forms are being marked: `last` is the form used last, and no form before `from` is marked
+pub record AreMarking (space : Lists) (count : ℕ) (last from : Located) : Type 0 where
+  pub formed : IsFormed space count last.number last.start
+  pub first : IsMarkedFrom (forms_in space.store) from.number from.start

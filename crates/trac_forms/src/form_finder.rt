@@ -2,17 +2,17 @@
 //!
 //! A search takes the form that was used last. To read that form again costs no walk over the others,
 //! and to read all forms in order costs one walk.
-ghost use Rattle.std.specs.Prelude.{◌≡◌, ◌≤◌, ◌<◌, length, map, All, IsTrue};
+ghost use Rattle.std.specs.Prelude.{◌≡◌, ◌<◌, length, map, All, IsTrue};
 ghost use Rattle.trac_space.specs.Cells.{seen};
 ghost use Rattle.trac_space.specs.Texts.{text_of_cells, IsByte};
-ghost use Rattle.trac_forms.specs.Stored.{HasForms, shown};
+ghost use Rattle.trac_forms.specs.Stored.{HasFormsFrom, shown};
 ghost use Rattle.trac_store.specs.Parts.{IsTextPart, part_text};
-ghost use Rattle.trac_store.specs.Stored.{IsAnswer, IsFoundAt, IsPlace, forms_in, start_of};
+ghost use Rattle.trac_store.specs.Stored.{IsAnswer, IsFoundAt};
 
 use std::marker::Model;
 use trac_space::{Cell, Part, Space};
 use trac_store::{
-    FIRST_FORM, FormCells, IndexedForms, Located, find_between_by_call, find_from_last, head,
+    FIRST_FORM, FormCells, IndexedForms, Located, find_between_by_call, find_from_last,
 };
 
 // A search starts at the form used last only if there are at least this many forms.
@@ -44,8 +44,7 @@ impl<'s, 'a> FormFinder<'s, 'a> {
     // Finds forms among the `count` forms of `space`, of which `last` was used last.
     #[inline(always)]
     pub(crate) fn new(space: &'s Space<'a>, count: u32, last: Located) -> FormFinder<'s, 'a>
-        requires forms { HasForms space.now count }
-        requires last { IsPlace (forms_in space.now.store) last.number last.start }
+        requires { HasFormsFrom space.now count last.number last.start }
         ensures { result ≡ shown space.now }
     {
         FormFinder { space, count, last }
@@ -59,38 +58,6 @@ impl<'s, 'a> FormFinder<'s, 'a> {
         FormCells {
             cells: self.space.store_part(0, self.space.store_len()),
             count: self.count,
-        }
-    }
-
-    // Where form `k` begins in the store. Walks there from a form that doesn't stand behind it.
-    fn walk(&self, from: Located, k: u32) -> u32
-        requires begins { from.start ≡ start_of self.now.forms from.number }
-        requires order { from.number ≤ k }
-        requires within { k ≤ length self.now.forms }
-        ensures { result ≡ start_of self.now.forms k }
-    {
-        let space = self.space;
-        let mut start = from.start;
-        for _form in from.number..k {
-            start += 3 + head(space, start) + head(space, start + 1);
-        }
-        start
-    }
-
-    // Where form `k` begins in the store. Walks there from the form used last, or from the first form if the
-    // one used last stands behind form `k`.
-    #[inline]
-    pub(crate) fn place_of(&self, k: u32) -> u32
-        requires { k ≤ length self.now.forms }
-        ensures { result ≡ start_of self.now.forms k }
-    {
-        let last = self.last;
-        if last.number == k {
-            last.start
-        } else if last.number < k {
-            self.walk(last, k)
-        } else {
-            self.walk(FIRST_FORM, k)
         }
     }
 

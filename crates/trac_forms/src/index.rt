@@ -6,15 +6,15 @@ ghost use Rattle.std.specs.Prelude.{ℕ, length, take, remove, IsTrue};
 ghost use Rattle.std.specs.Bool.{OnTrue, OnFalse};
 ghost use Rattle.trac_language.specs.Text.{Text};
 ghost use Rattle.trac_space.specs.Lists as lists;
-ghost use Rattle.trac_store.specs.Stored.{AreForms, forms_in, start_of, IsLocated, IsPlace};
+ghost use Rattle.trac_store.specs.Stored.{forms_in, IsLocated};
 ghost use Rattle.trac_store.specs.Index.{quarter, slots, IsIndexBut, IsIndexed};
 ghost use Rattle.trac_store.specs.Index.{IsOpenFor, with_entry, start_in, home_in, buried};
 ghost use Rattle.trac_store.specs.Index.{forward, earlier, started, HasStartsFrom};
-ghost use Rattle.trac_forms.specs.Stored.{HasForms};
+ghost use Rattle.trac_forms.specs.Stored.{HasForms, HoldsForms, IsIndexedUpTo};
 
 use crate::form_finder::FORMS_FOR_INDEX;
 use trac_space::{Cell, Space};
-use trac_store::{FIRST_FORM, Located, hash, head, heads_of, number, open_slot};
+use trac_store::{FIRST_FORM, Located, end_of, hash, heads_of, number, open_slot};
 
 // Enters a form into the table, in this slot.
 #[inline]
@@ -54,10 +54,9 @@ fn add(space: &mut Space, first: usize, form: Located) -> bool
 // Enters a form into the table of the forms before it, if there is a table. Drops the table if it has no
 // place for the form.
 #[inline(always)]
-pub(crate) fn index_form(space: &mut Space, form: Located)
-    requires forms { AreForms space.old.store }
-    requires form { IsLocated (forms_in space.old.store) form.number form.start }
-    requires index { IsIndexed space.old.spare (take form.number (forms_in space.old.store)) }
+fn index_form(space: &mut Space, form: Located)
+    requires state { IsIndexedUpTo space.old form.number form.start }
+    requires some { form.number < length (forms_in space.old.store) }
     ensures same { space.new ≡ record space.old { spare = space.new.spare } }
     ensures index { IsIndexed space.new.spare (take (form.number + 1) (forms_in space.old.store)) }
 {
@@ -77,10 +76,8 @@ pub(crate) fn index_form(space: &mut Space, form: Located)
 // replaced by a larger one, or dropped if there is no room.
 #[inline(always)]
 pub(crate) fn index_last(space: &mut Space, form: Located)
-    requires forms { AreForms space.old.store }
+    requires state { IsIndexedUpTo space.old form.number form.start }
     requires last { form.number + 1 ≡ length (forms_in space.old.store) }
-    requires begins { form.start ≡ start_of (forms_in space.old.store) form.number }
-    requires index { IsIndexed space.old.spare (take form.number (forms_in space.old.store)) }
     ensures same { space.new ≡ record space.old { spare = space.new.spare } }
     ensures index { IsIndexed space.new.spare (forms_in space.old.store) }
 {
@@ -94,8 +91,7 @@ pub(crate) fn index_last(space: &mut Space, form: Located)
 // Replaces the table by a larger one of all forms, or drops it if there is no room.
 #[inline(never)]
 fn grow_index(space: &mut Space, count: u32)
-    requires forms { AreForms space.old.store }
-    requires count_is { count ≡ length (forms_in space.old.store) }
+    requires { HoldsForms space.old count }
     ensures same { space.new ≡ record space.old { spare = space.new.spare } }
     ensures index { IsIndexed space.new.spare (forms_in space.old.store) }
 {
@@ -158,7 +154,7 @@ pub(crate) fn unindex(space: &mut Space, form: Located, count: u32)
     if space.spare_len() == 0 {
         return;
     }
-    let cells = 3 + head(space, form.start) + head(space, form.start + 1);
+    let cells = end_of(space, form) - form.start;
     bury(space, form.number);
     for next in form.number + 1..count {
         bring_forward(space, next, cells);
@@ -200,8 +196,7 @@ pub(crate) fn clear_index(space: &mut Space, count: u32)
 
 // Makes a new table of all forms, with `cells` cells, which must fit.
 fn index_all(space: &mut Space, count: u32, cells: u32)
-    requires forms { AreForms space.old.store }
-    requires count_is { count ≡ length (forms_in space.old.store) }
+    requires forms { HoldsForms space.old count }
     requires room { lists.used space.old + cells ≤ space.old.room }
     ensures same { space.new ≡ record space.old { spare = space.new.spare } }
     ensures index { IsIndexed space.new.spare (forms_in space.old.store) }
@@ -212,10 +207,8 @@ fn index_all(space: &mut Space, count: u32, cells: u32)
 
 // Enters the forms from `first` on into the table of the forms before it, if there is a table.
 pub(crate) fn index_from(space: &mut Space, first: Located, count: u32)
-    requires forms { AreForms space.old.store }
+    requires state { IsIndexedUpTo space.old first.number first.start }
     requires count_is { count ≡ length (forms_in space.old.store) }
-    requires place { IsPlace (forms_in space.old.store) first.number first.start }
-    requires index { IsIndexed space.old.spare (take first.number (forms_in space.old.store)) }
     ensures same { space.new ≡ record space.old { spare = space.new.spare } }
     ensures index { IsIndexed space.new.spare (forms_in space.old.store) }
 {
@@ -224,8 +217,9 @@ pub(crate) fn index_from(space: &mut Space, first: Located, count: u32)
     }
     let mut start = first.start;
     for k in first.number..count {
-        index_form(space, Located { number: k, start });
-        start += 3 + head(space, start) + head(space, start + 1);
+        let form = Located { number: k, start };
+        start = end_of(space, form);
+        index_form(space, form);
     }
 }
 
@@ -269,9 +263,8 @@ fn index_cells(count: u32, most: u32) -> u32
 
 // Makes a new table of all forms if half of the free cells are enough for it. False, with nothing changed,
 // if they aren't.
-pub(crate) fn index_fitting(space: &mut Space, count: u32) -> bool
-    requires forms { AreForms space.old.store }
-    requires count_is { count ≡ length (forms_in space.old.store) }
+fn index_fitting(space: &mut Space, count: u32) -> bool
+    requires { HoldsForms space.old count }
     ensures same { space.new ≡ record space.old { spare = space.new.spare } }
     ensures index { IsTrue result → IsIndexed space.new.spare (forms_in space.old.store) }
     ensures left { OnFalse result (space.new ≡ space.old) }

@@ -9,9 +9,9 @@ ghost use Rattle.trac_store.specs.Arguments.{AreParted, texts_between};
 ghost use Rattle.trac_store.specs.Parts.{IsTextPart, part_text};
 ghost use Rattle.trac_store.specs.FlatForms.{flat_forms};
 ghost use Rattle.trac_store.specs.Index.{IsIndexed};
-ghost use Rattle.trac_forms.specs.Removal.{IsFormed, IsMarkedFrom, unmarked, with_marks};
-ghost use Rattle.trac_forms.specs.Stored.{HasForms};
-ghost use Rattle.trac_store.specs.Stored.{AreForms, forms_in};
+ghost use Rattle.trac_forms.specs.Removal.{AreMarking, IsFormed, IsMarkedFrom, unmarked, with_marks};
+ghost use Rattle.trac_forms.specs.Stored.{HasForms, HoldsForms};
+ghost use Rattle.trac_store.specs.Stored.{forms_in};
 
 use crate::form_finder::FormFinder;
 use crate::index::{index_from, keep_index, unindex_from};
@@ -70,14 +70,12 @@ fn mark_named(
     name: Part,
     search_cost: &mut u32,
 ) -> Marking
-    requires formed { IsFormed space.old count places.last.number places.last.start }
-    requires first { IsMarkedFrom (forms_in space.old.store) places.first.number places.first.start }
+    requires marking { AreMarking space.old count places.last places.first }
     requires name_part { IsTextPart space.old.neutral name.from name.to }
     ensures marked { let named = part_text space.old.neutral name.from name.to in
         let forms = with_marks (named ∷ []) (forms_in space.old.store) in
         space.new ≡ record space.old { store = flat_forms forms } }
-    ensures formed { IsFormed space.new count result.last.number result.last.start }
-    ensures first { IsMarkedFrom (forms_in space.new.store) result.first.number result.first.start }
+    ensures marking { AreMarking space.new count result.last result.first }
 {
     match FormFinder::new(space, count, places.last).find_named(name, search_cost) {
         Some(form) => {
@@ -119,8 +117,7 @@ pub(crate) fn take_out_marked(space: &mut Space, first: Located, count: u32) -> 
 // Removes the marked forms from the store, and gives how many forms are left. No form before `first` is
 // marked.
 fn remove_marked(space: &mut Space, first: Located, count: u32) -> u32
-    requires forms { AreForms space.old.store }
-    requires count_is { count ≡ length (forms_in space.old.store) }
+    requires forms { HoldsForms space.old count }
     requires first { IsMarkedFrom (forms_in space.old.store) first.number first.start }
     ensures gone { let forms = unmarked (forms_in space.old.store) in
         space.new ≡ record space.old { store = flat_forms forms } }

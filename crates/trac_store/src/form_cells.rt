@@ -5,7 +5,7 @@ ghost use Rattle.trac_language.specs.Store.{NoneNamed};
 ghost use Rattle.trac_space.specs.declared.cell.Cell.TheVariants.{Byte};
 ghost use Rattle.trac_space.specs.Cells.{seen};
 ghost use Rattle.trac_space.specs.Texts.{character_of, text_of_cells, IsByte};
-ghost use Rattle.trac_store.specs.Stored.{forms_in, IsPlace, IsLocated, IsFoundAt, IsAnswer, AreCellsOfForms};
+ghost use Rattle.trac_store.specs.Stored.{forms_in, IsPlace, IsLocated, IsFoundAt, IsAnswer, IsName, AreCellsOfForms};
 
 use crate::form_heads::number_in_head;
 use crate::located::{FIRST_FORM, Located};
@@ -53,8 +53,7 @@ fn is_text_back(cells: &[Cell], text: &[Cell]) -> bool
 fn is_text_at(cells: &[Cell], from: usize, len: usize, text: &[Cell], last: u8) -> bool
     requires within { from + len ≤ length cells.now }
     requires part_bytes { All IsByte (map seen (slice_range cells.now from (from + len))) }
-    requires bytes { All IsByte (map seen text.now) }
-    requires some { 0 < length text.now }
+    requires name { IsName text.now }
     requires last { last ≡ character_of (slice_index_or text.now (length text.now - 1) (Byte 0)) }
     ensures { Decides result
         (map seen (slice_range cells.now from (from + len)) ≡ map seen text.now) }
@@ -126,8 +125,7 @@ impl<'s> FormCells<'s> {
         requires begins { IsPlace self.now from.number from.start }
         requires order { from.number ≤ end }
         requires within { end ≤ length self.now }
-        requires bytes { All IsByte (map seen name.now) }
-        requires some { 0 < length name.now }
+        requires name { IsName name.now }
         ensures { let text = text_of_cells (map seen name.now) in
             MatchOption result
             (NoneNamed text (slice_range self.now from.number end))
@@ -166,8 +164,7 @@ pub fn find_between_by_call(
     requires begins { IsPlace (forms_in (map seen cells.now)) from.number from.start }
     requires order { from.number ≤ end }
     requires within { end ≤ count }
-    requires bytes { All IsByte (map seen name.now) }
-    requires some { 0 < length name.now }
+    requires name { IsName name.now }
     ensures { let forms = forms_in (map seen cells.now) in
         let text = text_of_cells (map seen name.now) in
         MatchOption result
@@ -185,8 +182,7 @@ pub fn find_between_by_call(
 pub fn find_from_last(cells: &[Cell], last: Located, count: u32, name: &[Cell]) -> Option<Located>
     requires forms { AreCellsOfForms cells.now count }
     requires last { IsPlace (forms_in (map seen cells.now)) last.number last.start }
-    requires bytes { All IsByte (map seen name.now) }
-    requires some { 0 < length name.now }
+    requires name { IsName name.now }
     ensures { IsAnswer (forms_in (map seen cells.now)) (text_of_cells (map seen name.now)) result }
 {
     let forms = FormCells { cells, count };

@@ -3,6 +3,7 @@ ghost use Rattle.std.specs.Prelude.{◌≡◌, ◌+◌, ◌≤◌, length, Some}
 ghost use Rattle.trac_space.specs.declared.cell.Cell.TheVariants.{Head};
 ghost use Rattle.trac_store.specs.Forms.{name_at, body_at, pointer_at};
 ghost use Rattle.trac_store.specs.Stored.{AreForms, IsLocated, forms_in, head_number, head_at};
+ghost use Rattle.trac_store.specs.Stored.{start_of};
 ghost use Rattle.trac_store.specs.Stored.{stored_item, item_of};
 
 use crate::located::Located;
@@ -34,11 +35,11 @@ pub struct Heads {
 #[inline]
 pub fn tested_heads(space: &Space, start: u32) -> Heads
     requires within { start + 3 ≤ length space.now.store }
-    requires bounded { length space.now.store ≤ 16777216 }
     ensures name { result.name ≡ head_at space.now.store start }
     ensures body { result.body ≡ head_at space.now.store (start + 1) }
     ensures pointer { result.pointer ≡ head_at space.now.store (start + 2) }
 {
+    prove!(space.used() <= space.room());
     let cells = space.store_part(start, start + 3);
     Heads {
         name: number(cells[0]),
@@ -62,6 +63,18 @@ pub fn heads_of(space: &Space, form: Located) -> Heads
         body: number_in_head(cells[1]),
         pointer: number_in_head(cells[2]),
     }
+}
+
+/// Where a form whose place is known ends, and the next one begins.
+#[inline(always)]
+pub fn end_of(space: &Space, form: Located) -> u32
+    requires forms { AreForms space.now.store }
+    requires form { IsLocated (forms_in space.now.store) form.number form.start }
+    ensures next { result ≡ start_of (forms_in space.now.store) (form.number + 1) }
+    ensures within { result ≤ length space.now.store }
+    ensures order { form.start + 3 ≤ result }
+{
+    form.start + 3 + head(space, form.start) + head(space, form.start + 1)
 }
 
 /// The item in the cell at place `i` of the store. A gap of ordinal 0 if no item stands there.

@@ -22,7 +22,7 @@ mod located;
 pub use arguments::before_comma;
 pub use form_cells::{FormCells, find_between_by_call, find_from_last};
 pub use form_heads::{
-    Heads, head, heads_of, item_in, item_of, number, number_in_head, tested_heads,
+    Heads, end_of, head, heads_of, item_in, item_of, number, number_in_head, tested_heads,
 };
 pub use gap_making::segment_store;
 pub use indexed_forms::{IndexedForms, hash, open_slot};

@@ -12,9 +12,9 @@ returns c =
     let s = c.args.space.now in
     let name = c.args.name in
     let text = c.args.text in
-    let named = length-between s.neutral name.from name.to c.requires.name_part.within in
-    let texted = length-between s.neutral text.from text.to c.requires.text_part.within in
+    let named = length-between s.neutral name.from name.to c.requires.parts.name_part.within in
+    let texted = length-between s.neutral text.from text.to c.requires.parts.text_part.within in
     let is = written s.store c.args.start (name.to - name.from) (text.to - text.from) (Head (name.to - name.from)) (Head (text.to - text.from)) (Head 0) (slice_range s.neutral name.from name.to) (slice_range s.neutral text.from text.to) named texted c.requires.last in
     rw (c.write_part-2.ensures, c.write_part.ensures, c.write_store-3.ensures, c.write_store-2.ensures, c.write_store.ensures)
-    (rw (flat_form_of s.neutral name.from name.to text.from text.to c.requires.name_part c.requires.text_part)
+    (rw (flat_form_of s.neutral name.from name.to text.from text.to c.requires.parts.name_part c.requires.parts.text_part)
     (ap (λ cells. record s { store = cells }) is))

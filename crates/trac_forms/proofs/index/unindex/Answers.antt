@@ -3,21 +3,6 @@ use Rattle.trac_store.proofs.Places.{stands}
 use Rattle.trac_forms.proofs.FormTables.{names_now, starts_now, home-within, index-buried, index-gap, next-home, next-start, index-forward, index-removed}
 use Rattle.trac_forms.proofs.index.unindex.Goals as goal
 
-pub overflow_add-cells : goal.overflow_add-cells
-overflow_add-cells c =
-    let f = stands _ _ _ _ c.requires.forms.forms.whole c.requires.form.within c.requires.form.start_is in
-    omega (arith, f.end, f.name_len, c.head.ensures, c.requires.forms.forms.bounded)
-
-pub overflow_add-form : goal.overflow_add-form
-overflow_add-form c =
-    let f = stands _ _ _ _ c.requires.forms.forms.whole c.requires.form.within c.requires.form.start_is in
-    omega (arith, f.end, c.requires.forms.forms.bounded)
-
-pub overflow_add-cells-2 : goal.overflow_add-cells-2
-overflow_add-cells-2 c =
-    let f = stands _ _ _ _ c.requires.forms.forms.whole c.requires.form.within c.requires.form.start_is in
-    omega (arith, f.end, f.name_len, f.body_len, c.head.ensures, c.head-2.ensures, c.requires.forms.forms.bounded)
-
 pub bury-requires-clause-home : goal.bury-requires-clause-home
 bury-requires-clause-home c =
     let forms = forms_in c.args.space.now.store in
@@ -59,7 +44,7 @@ bring_forward-requires-clause-cells c =
     let f = stands forms c.args.space.now.store c.args.form.number c.args.form.start c.requires.forms.forms.whole within c.requires.form.start_is in
     let e : next - 1 + 1 ≡ next = omega (arith, c.loop-next.auto.next) in
     let there = next-start forms c.args.form.number within spare (next - 1) (omega (arith, c.loop-next.auto.next)) (omega (arith, e, c.loop-next-test.true, c.requires.forms.count_is)) c.loop-next.invariant.index in
-    omega (arith, there, ap (start_in spare) e, f.name_len, f.body_len, c.head.ensures, c.head-2.ensures)
+    omega (arith, there, ap (start_in spare) e, f.next, c.end_of.ensures.next)
 
 pub loop-next-preserved : goal.loop-next-preserved
 loop-next-preserved c =
@@ -68,12 +53,12 @@ loop-next-preserved c =
     let k = c.args.form.number in
     let spare = c.loop-next.space.spare in
     let next = c.loop-next.next in
-    let cells = 3 + c.head.result + c.head-2.result in
+    let cells = c.end_of.result - c.args.form.start in
     let within : k < length forms = c.requires.form.within in
     let f = stands forms s.store k c.args.form.start c.requires.forms.forms.whole within c.requires.form.start_is in
     let e : next - 1 + 1 ≡ next = omega (arith, c.loop-next.auto.next) in
     let e2 : next ≡ next + 1 - 1 = omega arith in
-    let more = index-forward forms k within spare (next - 1) cells (omega (arith, c.loop-next.auto.next)) (omega (arith, e, c.loop-next-test.true, c.requires.forms.count_is)) (omega (arith, f.name_len, f.body_len, c.head.ensures, c.head-2.ensures)) c.loop-next.invariant.index in
+    let more = index-forward forms k within spare (next - 1) cells (omega (arith, c.loop-next.auto.next)) (omega (arith, e, c.loop-next-test.true, c.requires.forms.count_is)) (omega (arith, f.next, c.end_of.ensures.next)) c.loop-next.invariant.index in
     let here = subst (λ n. IsIndexBut (forward spare n cells) (length forms) n (names_now forms k n) (starts_now forms k n)) e more in
     let now = c.bring_forward.new.space.spare in
     let is : now ≡ forward spare next cells = ap (λ (w : Lists). w.spare) c.bring_forward.ensures in

@@ -40,8 +40,7 @@ loop-from-preserved c =
     let comma_there : n ≡ before_comma (slice_range t.neutral from end) = comma ∙ ap (λ cells. before_comma (slice_range cells from end)) (sym kept) in
     record {
       left = rw neutral (left-parted s.neutral from end n i.left le comma);
-      formed = c.mark_named-places.ensures.formed;
-      first = c.mark_named-places.ensures.first;
+      marking = c.mark_named-places.ensures.marking;
       same = marked-alone c.args.space.now s t u _ i.same same marked;
       marks = ap (λ cells. with_marks (texts_between cells (from + n + 1) end) (forms_in u.store)) (ap (λ (w : Lists). w.neutral) marked)
           ∙ marked-first t.neutral from end n t u parted le comma_there marked
@@ -59,7 +58,7 @@ returns c =
     let forms : forms_in s.store ≡ with_marks (texts_between old.neutral c.args.names.from c.args.names.to) (forms_in old.store) =
     sym (ap (λ texts. with_marks texts (forms_in s.store)) none ∙ marks-none (forms_in s.store)) ∙ i.marks in
     record {
-      marked = i.same ∙ ap (λ cells. record old { store = cells; spare = s.spare }) (sym i.formed.forms.whole ∙ ap flat_forms forms);
-      first = i.first;
-      index = i.formed.index;
+      marked = i.same ∙ ap (λ cells. record old { store = cells; spare = s.spare }) (sym i.marking.formed.forms.whole ∙ ap flat_forms forms);
+      first = i.marking.first;
+      index = i.marking.formed.index;
     }

@@ -3,10 +3,6 @@ use Rattle.trac_forms.proofs.Removals.{unmarked-read, unmarked-forms}
 use Rattle.trac_forms.proofs.Sweeping.{first-stay, place-stays}
 use Rattle.trac_forms.proofs.marked_forms.take_out_marked.Goals as goal
 
-pub index_from-requires-clause-forms : goal.index_from-requires-clause-forms
-index_from-requires-clause-forms c =
-    unmarked-forms c.args.space.now _ _ c.unindex_from.ensures.same c.remove_marked-count.ensures.gone c.requires.forms.forms
-
 pub index_from-requires-clause-count_is : goal.index_from-requires-clause-count_is
 index_from-requires-clause-count_is c =
     let read = unmarked-read c.args.space.now _ _ c.unindex_from.ensures.same c.remove_marked-count.ensures.gone in
@@ -17,16 +13,15 @@ pub returns-clause-index : goal.returns-clause-index
 returns-clause-index c =
     subst (IsIndexed c.index_from.new.space.spare) (unmarked-read c.args.space.now _ _ c.unindex_from.ensures.same c.remove_marked-count.ensures.gone) c.index_from.ensures.index
 
-pub index_from-requires-clause-place : goal.index_from-requires-clause-place
-index_from-requires-clause-place c =
-    let read = unmarked-read c.args.space.now _ _ c.unindex_from.ensures.same c.remove_marked-count.ensures.gone in
-    subst (λ fs. IsPlace fs c.args.first.number c.args.first.start) (sym read) (place-stays (forms_in c.args.space.now.store) c.args.first.number c.args.first.start c.requires.first)
-
-pub index_from-requires-clause-index : goal.index_from-requires-clause-index
-index_from-requires-clause-index c =
+pub index_from-requires-clause-state : goal.index_from-requires-clause-state
+index_from-requires-clause-state c =
     let s = c.args.space.now in
     let k = c.args.first.number in
     let read = unmarked-read s _ _ c.unindex_from.ensures.same c.remove_marked-count.ensures.gone in
     let front : take k (forms_in c.remove_marked-count.new.space.store) ≡ take k (forms_in s.store) = ap (take k) read ∙ first-stay (forms_in s.store) k c.args.first.start c.requires.first in
     let spare : c.remove_marked-count.new.space.spare ≡ c.unindex_from.new.space.spare = ap (λ (w : Lists). w.spare) c.remove_marked-count.ensures.gone in
-    subst (λ l. IsIndexed l (take k (forms_in c.remove_marked-count.new.space.store))) (sym spare) (subst (IsIndexed c.unindex_from.new.space.spare) (sym front) c.unindex_from.ensures.index)
+    record {
+      forms = unmarked-forms s _ _ c.unindex_from.ensures.same c.remove_marked-count.ensures.gone c.requires.forms.forms;
+      place = subst (λ fs. IsPlace fs k c.args.first.start) (sym read) (place-stays (forms_in s.store) k c.args.first.start c.requires.first);
+      index = subst (λ l. IsIndexed l (take k (forms_in c.remove_marked-count.new.space.store))) (sym spare) (subst (IsIndexed c.unindex_from.new.space.spare) (sym front) c.unindex_from.ensures.index);
+    }
