@@ -8,12 +8,13 @@ ghost use Rattle.trac_store.specs.Forms.{form_at};
 ghost use Rattle.trac_forms.specs.Contents.{form_place};
 ghost use Rattle.trac_store.specs.Stored.{item_of, IsLocated};
 
+use crate::form_finder::FormFinder;
 use crate::item::FormId;
 use crate::work::Work;
 use std::marker::Model;
 use trac_language::Item;
 use trac_space::Cell;
-use trac_store::{FormFinder, Located, heads_of, item_of, number_in_head};
+use trac_store::{Located, heads_of, item_of, number_in_head};
 
 /// A form as it stands in the block. You can read it, and not change it.
 #[derive(Drop)]

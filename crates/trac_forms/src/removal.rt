@@ -2,11 +2,12 @@
 ghost use Rattle.std.specs.Prelude.{◌≡◌};
 ghost use Rattle.trac_store.specs.Arguments.{AreParted, texts_between};
 ghost use Rattle.trac_forms.specs.Contents.{IsSound};
-ghost use Rattle.trac_store.specs.Removal.{without_all};
+ghost use Rattle.trac_forms.specs.Removal.{without_all};
 
+use crate::marked_forms::{mark_all, take_out_marked};
 use crate::work::Work;
 use trac_space::Part;
-use trac_store::{FIRST_FORM, mark_all, take_out_marked};
+use trac_store::FIRST_FORM;
 
 impl<'a> Work<'a> {
     /// Removes the forms whose names are the texts between the comma marks of neutral from place `from` up to

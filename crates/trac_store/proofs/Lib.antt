@@ -4,17 +4,14 @@ pub mod FilledParts
 pub mod Filling
 pub mod Finding
 pub mod FlatLemmas
-pub mod FormTables
 pub mod Gaps
 pub mod HeadCells
 pub mod IndexSearch
 pub mod Items
 pub mod LaidBorders
 pub mod Places
-pub mod Removals
 pub mod Searches
 pub mod Segments
-pub mod Sweeping
 pub mod TableChanges
 pub mod TextBorders
 mod Words

@@ -106,9 +106,11 @@ flat-set forms k form within =
 pub start_of-set : (forms : List Form) (k : ℕ) (form : Form) → start_of (set forms k form) k ≡ start_of forms k
 start_of-set forms k form = ap (λ fs. length (flat_forms fs)) (take-set forms k form)
 
-pub removed-lists : (s t : Lists) (forms : List Form) (k at : ℕ) → Stands forms s.store k at → t ≡ record s { store = take at s.store ++ drop (at + (3 + head_at s.store at + head_at s.store (at + 1))) s.store } → t ≡ record s { store = flat_forms (remove forms k) }
-removed-lists s t forms k at f is =
-    let e : take at s.store ++ drop (at + (3 + head_at s.store at + head_at s.store (at + 1))) s.store ≡ flat_forms (remove forms k) = rw (f.name_len, f.body_len) (removed forms s.store k at f) in
+-- the lists without the cells of form k, from its place up to the next
+pub removed-lists : (s t : Lists) (forms : List Form) (k at end : ℕ) → Stands forms s.store k at → end ≡ start_of forms (k + 1) → t ≡ record s { store = take at s.store ++ drop end s.store } → t ≡ record s { store = flat_forms (remove forms k) }
+removed-lists s t forms k at end f end_is is =
+    let past = end_is ∙ f.next in
+    let e : take at s.store ++ drop end s.store ≡ flat_forms (remove forms k) = rw past (removed forms s.store k at f) in
     is ∙ rw e
 
 -- the cells with another pointer of a form

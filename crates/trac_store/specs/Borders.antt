@@ -35,6 +35,12 @@ HaveBorders cells count =
     (n : ℕ) → 0 < n → n ≤ count
     → IsLongestBorder (laid_text cells) n (over (slice_index_or cells (n - 1) (Byte 0)))
 
+-- from a up to b stands a text that isn't null, and over its cells lie its longest borders
+pub record IsLaidText (string : List Cell) (a b : ℕ) : Type 0 where
+  pub some : a < b
+  pub within : b ≤ length string
+  pub borders : HaveBorders (slice_range string a b) (length (slice_range string a b))
+
 -- the longest borders of the text from a up to b lie over its cells, and nothing else has changed
 pub record AreLaid (was now : List Cell) (a b : ℕ) : Type 0 where
   pub numbers : HaveNumbers was now a b

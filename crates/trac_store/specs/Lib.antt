@@ -7,6 +7,4 @@ pub mod Gaps
 pub mod Index
 pub mod Arguments
 pub mod Borders
-pub mod Removal
 pub mod Loading
-pub mod Contents

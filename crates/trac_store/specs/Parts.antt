@@ -5,6 +5,11 @@ use Rattle.trac_language.specs.Form.{Form, items_of}
 use Rattle.trac_space.specs.declared.cell.Cell.{Cell}
 use Rattle.trac_space.specs.Texts.{text_of_cells, IsByte}
 
+-- the cells from a up to b are a part of these
+pub record IsPart (cells : List Cell) (a b : ℕ) : Type 0 where
+  pub order : a ≤ b
+  pub within : b ≤ length cells
+
 -- the cells from a up to b are characters
 pub record IsTextPart (string : List Cell) (a b : ℕ) : Type 0 where
   pub order : a ≤ b

@@ -1,5 +1,5 @@
 -- How forms stand as the cells of a store.
-use Rattle.std.specs.Prelude.{◌≡◌, ℕ, suc, ◌+◌, List, [], ◌∷◌, length, ◌≤◌, ◌<◌, map, take, drop}
+use Rattle.std.specs.Prelude.{◌≡◌, ℕ, suc, ◌+◌, List, [], ◌∷◌, length, ◌≤◌, ◌<◌, map, take, drop, All}
 use Rattle.std.specs.Prelude.{Option, Some, None, MatchOption, slice_get}
 use Rattle.trac_language.specs.declared.item.Item.{Item}
 use Rattle.trac_language.specs.declared.item.Item.TheVariants as item
@@ -9,7 +9,7 @@ use Rattle.trac_language.specs.Store.{NoneNamed}
 use Rattle.trac_space.specs.declared.cell.Cell.{Cell}
 use Rattle.trac_space.specs.declared.cell.Cell.TheVariants.{Byte, Call, Comma, Gap, Head}
 use Rattle.trac_space.specs.Cells.{seen}
-use Rattle.trac_space.specs.Texts.{text_of_cells}
+use Rattle.trac_space.specs.Texts.{text_of_cells, IsByte}
 use Rattle.trac_store.specs.declared.located.Located.{Located}
 use Rattle.trac_store.specs.FlatForms.{flat_forms}
 use Rattle.trac_store.specs.Forms.{IsNamedAt}
@@ -45,6 +45,11 @@ pub record AreCellsOfForms (cells : List Cell) (count : ℕ) : Type 0 where
   pub whole : flat_forms (forms_in (map seen cells)) ≡ map seen cells
   pub bounded : length cells ≤ 16777216
   pub count_is : count ≡ length (forms_in (map seen cells))
+
+-- the cells are those of a name that isn't null
+pub record IsName (cells : List Cell) : Type 0 where
+  pub bytes : All IsByte (map seen cells)
+  pub some : 0 < length cells
 
 -- where form k begins among the cells of the forms
 abbrev pub start_of : List Form → ℕ → ℕ

@@ -56,11 +56,11 @@ pub(crate) fn first_place(cells: &[Cell], from: u32, text: &[Cell]) -> Option<u3
 // cell of that beginning.
 pub(crate) fn lay_borders(space: &mut Space, part: Part)
     requires text_part { IsTextPart space.old.neutral part.from part.to }
-    requires bounded { part.to ≤ 16777216 }
     requires some { part.from < part.to }
     ensures laid { AreLaid space.old.neutral space.new.neutral part.from part.to }
     ensures same { space.new ≡ record space.old { neutral = space.new.neutral } }
 {
+    prove!(space.used() <= space.room());
     let mut border = 0;
     for count in 1..part.to - part.from {
         let text = space.neutral_part(part.from, part.to);

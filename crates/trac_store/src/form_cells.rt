@@ -5,7 +5,7 @@ ghost use Rattle.trac_language.specs.Store.{NoneNamed};
 ghost use Rattle.trac_space.specs.declared.cell.Cell.TheVariants.{Byte};
 ghost use Rattle.trac_space.specs.Cells.{seen};
 ghost use Rattle.trac_space.specs.Texts.{character_of, text_of_cells, IsByte};
-ghost use Rattle.trac_store.specs.Stored.{forms_in, IsPlace, IsLocated, IsFoundAt, IsAnswer, AreCellsOfForms};
+ghost use Rattle.trac_store.specs.Stored.{forms_in, IsPlace, IsLocated, IsFoundAt, IsAnswer, IsName, AreCellsOfForms};
 
 use crate::form_heads::number_in_head;
 use crate::located::{FIRST_FORM, Located};
@@ -53,8 +53,7 @@ fn is_text_back(cells: &[Cell], text: &[Cell]) -> bool
 fn is_text_at(cells: &[Cell], from: usize, len: usize, text: &[Cell], last: u8) -> bool
     requires within { from + len ≤ length cells.now }
     requires part_bytes { All IsByte (map seen (slice_range cells.now from (from + len))) }
-    requires bytes { All IsByte (map seen text.now) }
-    requires some { 0 < length text.now }
+    requires name { IsName text.now }
     requires last { last ≡ character_of (slice_index_or text.now (length text.now - 1) (Byte 0)) }
     ensures { Decides result
         (map seen (slice_range cells.now from (from + len)) ≡ map seen text.now) }
@@ -65,11 +64,11 @@ fn is_text_at(cells: &[Cell], from: usize, len: usize, text: &[Cell], last: u8) 
     is_text(&cells[from..from + len], text)
 }
 
-// The cells of forms, one form behind the other, and how many forms they are.
+/// The cells of forms, one form behind the other, and how many forms they are.
 #[derive(Drop)]
-pub(crate) struct FormCells<'s> {
-    pub(crate) cells: &'s [Cell],
-    pub(crate) count: u32,
+pub struct FormCells<'s> {
+    pub cells: &'s [Cell],
+    pub count: u32,
 }
 
 impl<'s> Model for FormCells<'s> {
@@ -86,9 +85,9 @@ impl<'s> Model for FormCells<'s> {
 }
 
 impl<'s> FormCells<'s> {
-    // Whether the form has the name.
+    /// Whether the form has the name.
     #[inline(always)]
-    pub(crate) fn is_named(&self, form: Located, name: &[Cell]) -> bool
+    pub fn is_named(&self, form: Located, name: &[Cell]) -> bool
         requires form { IsLocated self.now form.number form.start }
         requires bytes { All IsByte (map seen name.now) }
         ensures { let text = text_of_cells (map seen name.now) in
@@ -100,8 +99,8 @@ impl<'s> FormCells<'s> {
         len == name.len() && is_text_back(&cells[start + 3..start + 3 + len], name)
     }
 
-    // The form with the null name. None if no form has it.
-    pub(crate) fn find_null(&self) -> Option<Located>
+    /// The form with the null name. None if no form has it.
+    pub fn find_null(&self) -> Option<Located>
         ensures { IsAnswer self.now [] result }
     {
         let cells = self.cells;
@@ -119,15 +118,14 @@ impl<'s> FormCells<'s> {
         None
     }
 
-    // The form with this name, which isn't null, among those from `from` up to number `end`. None if none of
-    // these has it.
+    /// The form with this name, which isn't null, among those from `from` up to number `end`. None if none of
+    /// these has it.
     #[inline(always)]
-    pub(crate) fn find_between(&self, from: Located, end: u32, name: &[Cell]) -> Option<Located>
+    pub fn find_between(&self, from: Located, end: u32, name: &[Cell]) -> Option<Located>
         requires begins { IsPlace self.now from.number from.start }
         requires order { from.number ≤ end }
         requires within { end ≤ length self.now }
-        requires bytes { All IsByte (map seen name.now) }
-        requires some { 0 < length name.now }
+        requires name { IsName name.now }
         ensures { let text = text_of_cells (map seen name.now) in
             MatchOption result
             (NoneNamed text (slice_range self.now from.number end))
@@ -152,10 +150,10 @@ impl<'s> FormCells<'s> {
     }
 }
 
-// Does what `find_between` does as a function of its own, whose loop has all registers. It takes the fields
-// of a `FormCells`, which would itself be passed through memory.
+/// Does what `find_between` does as a function of its own, whose loop has all registers. It takes the fields
+/// of a `FormCells`, which would itself be passed through memory.
 #[inline(never)]
-pub(crate) fn find_between_by_call(
+pub fn find_between_by_call(
     cells: &[Cell],
     count: u32,
     from: Located,
@@ -166,8 +164,7 @@ pub(crate) fn find_between_by_call(
     requires begins { IsPlace (forms_in (map seen cells.now)) from.number from.start }
     requires order { from.number ≤ end }
     requires within { end ≤ count }
-    requires bytes { All IsByte (map seen name.now) }
-    requires some { 0 < length name.now }
+    requires name { IsName name.now }
     ensures { let forms = forms_in (map seen cells.now) in
         let text = text_of_cells (map seen name.now) in
         MatchOption result
@@ -177,21 +174,15 @@ pub(crate) fn find_between_by_call(
     FormCells { cells, count }.find_between(from, end, name)
 }
 
-// The form with this name, which isn't null. None if no form has it. Looks at the forms from the one used
-// last on, and then at those before it.
-//
-// It takes the fields of a `FormCells`, which would itself be passed through memory.
+/// The form with this name, which isn't null. None if no form has it. Looks at the forms from the one used
+/// last on, and then at those before it.
+///
+/// It takes the fields of a `FormCells`, which would itself be passed through memory.
 #[inline(never)]
-pub(crate) fn find_from_last(
-    cells: &[Cell],
-    last: Located,
-    count: u32,
-    name: &[Cell],
-) -> Option<Located>
+pub fn find_from_last(cells: &[Cell], last: Located, count: u32, name: &[Cell]) -> Option<Located>
     requires forms { AreCellsOfForms cells.now count }
     requires last { IsPlace (forms_in (map seen cells.now)) last.number last.start }
-    requires bytes { All IsByte (map seen name.now) }
-    requires some { 0 < length name.now }
+    requires name { IsName name.now }
     ensures { IsAnswer (forms_in (map seen cells.now)) (text_of_cells (map seen name.now)) result }
 {
     let forms = FormCells { cells, count };

@@ -3,6 +3,7 @@ ghost use Rattle.std.specs.Prelude.{◌≡◌, ◌+◌, ◌≤◌, length, Some}
 ghost use Rattle.trac_space.specs.declared.cell.Cell.TheVariants.{Head};
 ghost use Rattle.trac_store.specs.Forms.{name_at, body_at, pointer_at};
 ghost use Rattle.trac_store.specs.Stored.{AreForms, IsLocated, forms_in, head_number, head_at};
+ghost use Rattle.trac_store.specs.Stored.{start_of};
 ghost use Rattle.trac_store.specs.Stored.{stored_item, item_of};
 
 use crate::located::Located;
@@ -29,16 +30,16 @@ pub struct Heads {
     pub pointer: u32,
 }
 
-// The numbers in the three cells from place `start` of the store on. Each cell is tested: one that is no head
-// gives 0.
+/// The numbers in the three cells from place `start` of the store on. Each cell is tested: one that is no
+/// head gives 0.
 #[inline]
-pub(crate) fn tested_heads(space: &Space, start: u32) -> Heads
+pub fn tested_heads(space: &Space, start: u32) -> Heads
     requires within { start + 3 ≤ length space.now.store }
-    requires bounded { length space.now.store ≤ 16777216 }
     ensures name { result.name ≡ head_at space.now.store start }
     ensures body { result.body ≡ head_at space.now.store (start + 1) }
     ensures pointer { result.pointer ≡ head_at space.now.store (start + 2) }
 {
+    prove!(space.used() <= space.room());
     let cells = space.store_part(start, start + 3);
     Heads {
         name: number(cells[0]),
@@ -64,6 +65,18 @@ pub fn heads_of(space: &Space, form: Located) -> Heads
     }
 }
 
+/// Where a form whose place is known ends, and the next one begins.
+#[inline(always)]
+pub fn end_of(space: &Space, form: Located) -> u32
+    requires forms { AreForms space.now.store }
+    requires form { IsLocated (forms_in space.now.store) form.number form.start }
+    ensures next { result ≡ start_of (forms_in space.now.store) (form.number + 1) }
+    ensures within { result ≤ length space.now.store }
+    ensures order { form.start + 3 ≤ result }
+{
+    form.start + 3 + head(space, form.start) + head(space, form.start + 1)
+}
+
 /// The item in the cell at place `i` of the store. A gap of ordinal 0 if no item stands there.
 pub fn item_in(space: &Space, i: u32) -> Item
     ensures { result ≡ stored_item space.now.store i }
@@ -85,9 +98,9 @@ pub fn item_of(cell: &Cell) -> Item
     }
 }
 
-// The number in a head cell, 0 for any other cell.
+/// The number in a head cell, 0 for any other cell.
 #[inline]
-pub(crate) fn number(cell: Cell) -> u32
+pub fn number(cell: Cell) -> u32
     ensures { result ≡ head_number (Some cell) }
 {
     match cell {

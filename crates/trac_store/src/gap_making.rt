@@ -1,9 +1,9 @@
 //! Segmenting: gaps among the cells of the store (Mooers 1966).
-ghost use Rattle.std.specs.Prelude.{◌≡◌, ◌+◌, ◌-◌, ◌<◌, ◌≤◌, ◌++◌, length, take, drop};
+ghost use Rattle.std.specs.Prelude.{◌≡◌, ◌+◌, ◌-◌, ◌≤◌, ◌++◌, length, take, drop};
 ghost use Rattle.std.specs.Prelude.{slice_range, MatchOption};
 ghost use Rattle.trac_space.specs.Texts.{character_of};
-ghost use Rattle.trac_store.specs.Borders.{laid_text, HaveBorders};
-ghost use Rattle.trac_store.specs.Parts.{IsTextPart, part_text};
+ghost use Rattle.trac_store.specs.Borders.{laid_text, IsLaidText};
+ghost use Rattle.trac_store.specs.Parts.{IsPart, IsTextPart, part_text};
 ghost use Rattle.trac_store.specs.Gaps.{is_byte, text_cells_at, segment_cells, segmented_cells};
 ghost use Rattle.trac_store.specs.Search.{NonePasses, IsFirst};
 
@@ -25,14 +25,8 @@ pub(crate) fn is_same_byte(cell: Cell, byte: Cell) -> bool
 // The first place in a part of the store where the text stands. None if there is none. The borders of the
 // text lie over it.
 fn next_place(space: &Space, body: Part, text: Part) -> Option<u32>
-    requires order { body.from ≤ body.to }
-    requires within { body.to ≤ length space.now.store }
-    requires bounded { body.to ≤ 16777216 }
-    requires text_order { text.from < text.to }
-    requires text_within { text.to ≤ length space.now.neutral }
-    requires text_bounded { text.to ≤ 16777216 }
-    requires borders { let cells = slice_range space.now.neutral text.from text.to in
-        HaveBorders cells (length cells) }
+    requires body { IsPart space.now.store body.from body.to }
+    requires text { IsLaidText space.now.neutral text.from text.to }
     ensures { let bytes = laid_text (slice_range space.now.neutral text.from text.to) in
         let cells = slice_range space.now.store body.from body.to in
         MatchOption result
@@ -40,6 +34,7 @@ fn next_place(space: &Space, body: Part, text: Part) -> Option<u32>
         (λ place. (body.from ≤ place) × (place + (text.to - text.from) ≤ body.to)
         × IsFirst (text_cells_at bytes cells) 0 (length cells) (place - body.from)) }
 {
+    prove!(space.used() <= space.room());
     let cells = space.store_part(body.from, body.to);
     match first_place(cells, 0, space.neutral_part(text.from, text.to)) {
         Some(place) => Some(body.from + place),
@@ -50,14 +45,8 @@ fn next_place(space: &Space, body: Part, text: Part) -> Option<u32>
 // Replaces each occurrence of the text in a part of the store by a gap, and gives the new end of the
 // part. The borders of the text lie over it.
 fn make_gaps(space: &mut Space, body: Part, text: Part, ordinal: u32) -> u32
-    requires order { body.from ≤ body.to }
-    requires within { body.to ≤ length space.old.store }
-    requires bounded { body.to ≤ 16777216 }
-    requires text_order { text.from < text.to }
-    requires text_within { text.to ≤ length space.old.neutral }
-    requires text_bounded { text.to ≤ 16777216 }
-    requires borders { let cells = slice_range space.old.neutral text.from text.to in
-        HaveBorders cells (length cells) }
+    requires body { IsPart space.old.store body.from body.to }
+    requires text { IsLaidText space.old.neutral text.from text.to }
     ensures after { let bytes = laid_text (slice_range space.old.neutral text.from text.to) in
         let gapped = segment_cells bytes ordinal 0 (slice_range space.old.store body.from body.to) in
         space.new ≡ record space.old {
@@ -68,6 +57,7 @@ fn make_gaps(space: &mut Space, body: Part, text: Part, ordinal: u32) -> u32
         result ≡ body.from + length gapped }
     ensures shorter { result ≤ body.to }
 {
+    prove!(space.used() <= space.room());
     let to = body.to;
     let mut read = body.from;
     let mut write = body.from;
@@ -88,11 +78,8 @@ fn make_gaps(space: &mut Space, body: Part, text: Part, ordinal: u32) -> u32
 /// from the left, and gives the new end of the part (Mooers 1966). No occurrence reaches across a gap, and
 /// a null text makes none. The cells that become free can be used at once.
 pub fn segment_store(space: &mut Space, body: Part, text: Part, ordinal: u32) -> u32
-    requires order { body.from ≤ body.to }
-    requires within { body.to ≤ length space.old.store }
-    requires bounded { body.to ≤ 16777216 }
+    requires body { IsPart space.old.store body.from body.to }
     requires text_part { IsTextPart space.old.neutral text.from text.to }
-    requires text_bounded { text.to ≤ 16777216 }
     ensures after { let bytes = part_text space.old.neutral text.from text.to in
         let gapped = segmented_cells bytes ordinal (slice_range space.old.store body.from body.to) in
         space.new ≡ record space.old {

@@ -2,7 +2,7 @@
 ghost use Rattle.std.specs.Prelude.{◌≡◌, ◌-◌, ◌≤◌, ◌<◌, length, MatchOption};
 ghost use Rattle.std.specs.Prelude.{slice_range};
 ghost use Rattle.trac_space.specs.Texts.{byte_cell_at};
-ghost use Rattle.trac_store.specs.Parts.{IsTextPart, part_text};
+ghost use Rattle.trac_store.specs.Parts.{IsPart, IsTextPart, part_text};
 ghost use Rattle.trac_store.specs.Search.{NonePasses, IsFirst};
 ghost use Rattle.trac_store.specs.Search.{IsLast};
 ghost use Rattle.trac_store.specs.Gaps.{is_gap_cell, gap_cell_at, text_cells_at};
@@ -74,12 +74,9 @@ pub fn last_character(cells: &[Cell], from: u32) -> Option<u32>
 /// Places count from the beginning of the part of the store. The search takes one pass over that part and
 /// two over the text. Afterwards nothing has changed.
 pub fn find_text(space: &mut Space, body: Part, from: u32, part: Part) -> Option<u32>
-    requires order { body.from ≤ body.to }
-    requires within { body.to ≤ length space.old.store }
-    requires bounded { body.to ≤ 16777216 }
+    requires body { IsPart space.old.store body.from body.to }
     requires begin { from ≤ body.to - body.from }
     requires text_part { IsTextPart space.old.neutral part.from part.to }
-    requires text_bounded { part.to ≤ 16777216 }
     requires some { part.from < part.to }
     ensures found { let text = part_text space.old.neutral part.from part.to in
         let cells = slice_range space.old.store body.from body.to in
@@ -88,6 +85,7 @@ pub fn find_text(space: &mut Space, body: Part, from: u32, part: Part) -> Option
         (λ place. IsFirst (text_cells_at text cells) from (length cells) place) }
     ensures same { space.new ≡ space.old }
 {
+    prove!(space.used() <= space.room());
     lay_borders(space, part);
     let text = space.neutral_part(part.from, part.to);
     let found = first_place(space.store_part(body.from, body.to), from, text);

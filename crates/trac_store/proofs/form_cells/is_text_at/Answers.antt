@@ -8,7 +8,7 @@ byte_in-requires c =
     let cells = c.args.cells.now in
     let from = c.args.from in
     let len = c.args.len in
-    let some : 0 < len = omega (arith, c.requires.some) in
+    let some : 0 < len = omega (arith, c.requires.name.some) in
     let at = part-last cells from len some c.requires.within in
     byte-seen (get_or cells (from + len - 1) (Byte 0)) (subst IsByte at (c.requires.part_bytes (len - 1) (Byte 0) (omega (arith, part-length cells from len c.requires.within))))
 
@@ -30,17 +30,17 @@ returns-then-len-text c =
       λ e. absurd (false≢true e),
       λ e. elim c.then-len-text.branch [
         | then-len-text-via-then-len-text w ↦ absurd (omega (arith, w.if-len-text.true, ap length e, part-length c.args.cells.now c.args.from len within, length-map c.args.text.now seen))
-        | then-len-text-via-else-len-text+then-byte_in-last w ↦ absurd (let same = w.if-len-text.false in w.if-byte_in-last.true (w.byte_in.ensures ∙ last-differs c.args.cells.now c.args.text.now c.args.from len c.args.last (omega (arith, same, c.requires.some)) within same c.requires.last e))
+        | then-len-text-via-else-len-text+then-byte_in-last w ↦ absurd (let same = w.if-len-text.false in w.if-byte_in-last.true (w.byte_in.ensures ∙ last-differs c.args.cells.now c.args.text.now c.args.from len c.args.last (omega (arith, same, c.requires.name.some)) within same c.requires.last e))
       ],
     )
 
 pub is_text-requires : goal.is_text-requires
 is_text-requires c = record {
   cell_bytes = bytes-of-seen _ c.requires.part_bytes;
-  bytes = bytes-of-seen _ c.requires.bytes;
+  bytes = bytes-of-seen _ c.requires.name.bytes;
   same = omega (arith, length-between c.args.cells.now c.args.from (c.args.from + c.args.len) c.requires.within, c.if-len-text.false);
 }
 
 pub returns : goal.returns
 returns c =
-    seen-decides (slice_range c.args.cells.now c.args.from (c.args.from + c.args.len)) c.args.text.now c.is_text.result c.requires.part_bytes c.requires.bytes c.is_text.ensures
+    seen-decides (slice_range c.args.cells.now c.args.from (c.args.from + c.args.len)) c.args.text.now c.is_text.result c.requires.part_bytes c.requires.name.bytes c.is_text.ensures

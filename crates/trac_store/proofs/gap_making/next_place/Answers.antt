@@ -10,7 +10,7 @@ first_place-requires-clause-borders c =
     let text = c.neutral_part.result.now in
     let part = slice_range c.args.space.now.neutral c.args.text.from c.args.text.to in
     let long : length part ≡ length text = sym (ap length c.neutral_part.ensures) ∙ length-map text seen in
-    borders-seen text part (length text) c.neutral_part.ensures (subst (HaveBorders part) long c.requires.borders)
+    borders-seen text part (length text) c.neutral_part.ensures (subst (HaveBorders part) long c.requires.text.borders)
 
 pub returns-in-None : goal.returns-in-None
 returns-in-None c =
@@ -23,8 +23,8 @@ returns-in-Some c =
     let place = c.in-Some.place in
     let found : IsFirst (text_cells_at (laid_text part) cells) 0 (length cells) place = first-seen (Some place) c.store_part-cells.result.now _ _ _ 0 c.store_part-cells.ensures (sym (laid-seen c.neutral_part.result.now) ∙ ap laid_text c.neutral_part.ensures) c.in-Some.ensures in
     let few = begins-length (laid_text part) (drop place cells) found.passes in
-    let size : length cells ≡ c.args.body.to - c.args.body.from = length-between c.args.space.now.store c.args.body.from c.args.body.to c.requires.within in
-    let long : length (laid_text part) ≡ c.args.text.to - c.args.text.from = length-map part (λ cell. character_of (under cell)) ∙ length-between c.args.space.now.neutral c.args.text.from c.args.text.to c.requires.text_within in
+    let size : length cells ≡ c.args.body.to - c.args.body.from = length-between c.args.space.now.store c.args.body.from c.args.body.to c.requires.body.within in
+    let long : length (laid_text part) ≡ c.args.text.to - c.args.text.from = length-map part (λ cell. character_of (under cell)) ∙ length-between c.args.space.now.neutral c.args.text.from c.args.text.to c.requires.text.within in
     let e : c.args.body.from + place - c.args.body.from ≡ place = omega arith in (
       omega arith,
       omega (arith, few, length-drop place cells, size, long, found.within),

@@ -9,17 +9,21 @@ returns-then-text-clause-after c =
     let s = c.args.space.now in
     let text = part_text s.neutral c.args.text.from c.args.text.to in
     let null = nil_from_length text (omega (arith, length-part_text s.neutral c.args.text.from c.args.text.to c.requires.text_part.within, c.if-text.true)) in
-    let all : take c.args.body.from s.store ++ slice_range s.store c.args.body.from c.args.body.to ++ drop c.args.body.to s.store ≡ s.store = append_assoc (take c.args.body.from s.store) (slice_range s.store c.args.body.from c.args.body.to) (drop c.args.body.to s.store) ∙ sym (split_between s.store c.args.body.from c.args.body.to c.requires.order) in
+    let all : take c.args.body.from s.store ++ slice_range s.store c.args.body.from c.args.body.to ++ drop c.args.body.to s.store ≡ s.store = append_assoc (take c.args.body.from s.store) (slice_range s.store c.args.body.from c.args.body.to) (drop c.args.body.to s.store) ∙ sym (split_between s.store c.args.body.from c.args.body.to c.requires.body.order) in
     rw (null, all)
 
 -- the borders are those of all of the text
-pub make_gaps-end-requires-clause-borders : goal.make_gaps-end-requires-clause-borders
-make_gaps-end-requires-clause-borders c =
+pub make_gaps-end-requires-clause-text : goal.make_gaps-end-requires-clause-text
+make_gaps-end-requires-clause-text c =
     let s = c.args.space.now in
     let laid = c.lay_borders.ensures.laid in
     let cells = slice_range c.lay_borders.new.space.neutral c.args.text.from c.args.text.to in
     let size : length cells ≡ c.args.text.to - c.args.text.from = length-between c.lay_borders.new.space.neutral c.args.text.from c.args.text.to (omega (arith, c.requires.text_part.within, laid.long)) in
-    subst (HaveBorders cells) (sym size) laid.borders
+    record {
+      some = omega (arith, c.if-text.false, c.requires.text_part.order);
+      within = omega (arith, c.requires.text_part.within, laid.long);
+      borders = subst (HaveBorders cells) (sym size) laid.borders;
+    }
 
 -- the gaps are those of the text under its borders
 gapped : (c : After-lay_borders) → segment_cells (laid_text (slice_range c.lay_borders.new.space.neutral c.args.text.from c.args.text.to)) c.args.ordinal 0 (slice_range c.lay_borders.new.space.store c.args.body.from c.args.body.to) ≡ segmented_cells (part_text c.args.space.now.neutral c.args.text.from c.args.text.to) c.args.ordinal (slice_range c.args.space.now.store c.args.body.from c.args.body.to)

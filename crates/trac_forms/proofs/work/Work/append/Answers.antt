@@ -1,4 +1,4 @@
-use Rattle.trac_forms.proofs.Words.{◌≡◌, ◌+◌, ◌++◌, ◌∷◌, [], ◌∙◌, List, length, take, sym, ap, subst, refl, arith, length_push, take_at, sum_by_push, Form, form_cells, Lists, new_form, forms_in, start_of, flat_forms, IsStored, IsIndexed, index-kept, forms_in-flat, count-le, length-flat, length-new_form}
+use Rattle.trac_forms.proofs.Words.{◌≡◌, ◌+◌, ◌++◌, ◌∷◌, [], ◌∙◌, List, length, take, sym, ap, subst, arith, length_push, take_at, sum_by_push, Form, form_cells, Lists, new_form, forms_in, start_of, flat_forms, IsStored, IsIndexed, index-kept, forms_in-flat, count-le, length-flat, length-new_form}
 use Rattle.trac_forms.proofs.Strings.{used-stored, shown-restored}
 use Rattle.trac_forms.proofs.StoreChanges.{added, added-stored}
 use Rattle.trac_forms.proofs.work.Work.append.Goals as goal
@@ -23,40 +23,36 @@ store_form-requires-clause-room c =
     let s = c.self.inside.space in
     omega (arith, used-stored s c.self.invariant.forms.whole, rw (← c.self.view_is) at c.requires.room)
 
-pub index_last-requires-clause-forms : goal.index_last-requires-clause-forms
-index_last-requires-clause-forms c =
+pub index_last-requires-clause-state : goal.index_last-requires-clause-state
+index_last-requires-clause-state c =
     let s = c.self.inside.space in
     let h = c.self.invariant in
-    let k = (goal.at.index_last-requires-clause-forms c).After-store_form in
-    let name_in = rw (← c.self.view_is) at c.requires.name_part.within in
-    let text_in = rw (← c.self.view_is) at c.requires.text_part.within in
+    let k = (goal.at.index_last-requires-clause-state c).After-store_form in
+    let count = c.self.inside.count in
+    let all = forms k ++ form k ∷ [] in
+    let name_in = rw (← c.self.view_is) at c.requires.parts.name_part.within in
+    let text_in = rw (← c.self.view_is) at c.requires.parts.text_part.within in
     let room = rw (← c.self.view_is) at c.requires.room in
     let there = ap (λ (w : Lists). length w.store) (put k) in
     let size = length-new_form s.neutral c.args.name.from c.args.name.to c.args.text.from c.args.text.to name_in text_in in
     let more = sum_by_push form_cells (forms k) (form k) in
+    let front = take_at (forms k) (form k ∷ []) count (sym h.count_is) in
     record {
-      whole = ap flat_forms (read k) ∙ sym (ap (λ (w : Lists). w.store) (put k));
-      bounded = omega (arith, there, length-flat (forms k ++ form k ∷ []), length-flat (forms k), size, more, used-stored s h.forms.whole, h.sound.bounded, room);
+      forms = record {
+        whole = ap flat_forms (read k) ∙ sym (ap (λ (w : Lists). w.store) (put k));
+        bounded = omega (arith, there, length-flat all, length-flat (forms k), size, more, used-stored s h.forms.whole, h.sound.bounded, room);
+      };
+      place = record {
+        within = omega (arith, ap length (read k), length_push (forms k) (form k), h.count_is);
+        start_is = c.store_len.ensures ∙ ap length (sym h.forms.whole) ∙ ap (λ fs. length (flat_forms fs)) (sym front) ∙ ap (λ fs. start_of fs count) (sym (read k));
+      };
+      index = subst (IsIndexed c.store_form.new.space.spare) (sym (ap (take count) (read k) ∙ front)) (index-kept s.spare c.store_form.new.space.spare (forms k) c.store_form.ensures.kept h.index);
     }
 
 pub index_last-requires-clause-last : goal.index_last-requires-clause-last
 index_last-requires-clause-last c =
     let k = (goal.at.index_last-requires-clause-last c).After-store_form in
     omega (arith, ap length (read k), length_push (forms k) (form k), c.self.invariant.count_is)
-
-pub index_last-requires-clause-begins : goal.index_last-requires-clause-begins
-index_last-requires-clause-begins c =
-    let k = (goal.at.index_last-requires-clause-begins c).After-store_form in
-    let first = take_at (forms k) (form k ∷ []) (length (forms k)) refl in
-    c.store_len.ensures ∙ ap length (sym c.self.invariant.forms.whole) ∙ ap (λ fs. length (flat_forms fs)) (sym first)
-    ∙ ap (start_of (forms k ++ form k ∷ [])) (sym c.self.invariant.count_is) ∙ ap (λ fs. start_of fs c.self.inside.count) (sym (read k))
-
-pub index_last-requires-clause-index : goal.index_last-requires-clause-index
-index_last-requires-clause-index c =
-    let k = (goal.at.index_last-requires-clause-index c).After-store_form in
-    let count = c.self.inside.count in
-    let front = ap (take count) (read k) ∙ take_at (forms k) (form k ∷ []) count (sym c.self.invariant.count_is) in
-    subst (IsIndexed c.store_form.new.space.spare) (sym front) (index-kept c.self.inside.space.spare c.store_form.new.space.spare (forms k) c.store_form.ensures.kept c.self.invariant.index)
 
 pub overflow_add-self : goal.overflow_add-self
 overflow_add-self c =
@@ -67,8 +63,8 @@ stored : (c : After-index_last) → IsStored c.index_last.new.space (c.self.insi
 stored c =
     let s = c.self.inside.space in
     let h = c.self.invariant in
-    let name_in = rw (← c.self.view_is) at c.requires.name_part.within in
-    let text_in = rw (← c.self.view_is) at c.requires.text_part.within in
+    let name_in = rw (← c.self.view_is) at c.requires.parts.name_part.within in
+    let text_in = rw (← c.self.view_is) at c.requires.parts.text_part.within in
     let room = rw (← c.self.view_is) at c.requires.room in
     added-stored s c.store_form.new.space c.index_last.new.space c.self.inside.count c.self.inside.last.number c.self.inside.last.start c.args.name.from c.args.name.to c.args.text.from c.args.text.to c.store_len.result h name_in text_in (omega (arith, used-stored s h.forms.whole, room)) (rw (← c.self.view_is) at c.requires.unnamed) c.store_len.ensures c.store_form.ensures.stored c.index_last.ensures.index c.index_last.ensures.same
 

@@ -4,8 +4,8 @@ use Rattle.trac_forms.proofs.work.Work.define_form.Goals as goal
 
 pub returns-then-free-need-clause-full : goal.returns-then-free-need-clause-full
 returns-then-free-need-clause-full c =
-    let name_in = rw (← c.self.view_is) at c.requires.name_part.within in
-    let text_in = rw (← c.self.view_is) at c.requires.text_part.within in
+    let name_in = rw (← c.self.view_is) at c.requires.parts.name_part.within in
+    let text_in = rw (← c.self.view_is) at c.requires.parts.text_part.within in
     rw (← c.self.view_is) (λ _. omega (arith, used-stored, c.free-free.ensures), λ _. refl)
 
 pub append-requires-clause-unnamed : goal.append-requires-clause-unnamed
@@ -22,6 +22,6 @@ append-requires-clause-room c =
 
 pub returns-clause-full : goal.returns-clause-full
 returns-clause-full c =
-    let name_in = rw (← c.self.view_is) at c.requires.name_part.within in
-    let text_in = rw (← c.self.view_is) at c.requires.text_part.within in
+    let name_in = rw (← c.self.view_is) at c.requires.parts.name_part.within in
+    let text_in = rw (← c.self.view_is) at c.requires.parts.text_part.within in
     rw (← c.self.view_is) (λ e. absurd (false≢true e), λ less. absurd (omega (arith, used-stored, c.free-free.ensures)))

@@ -1,7 +1,7 @@
 use Rattle.trac_forms.proofs.Words.{◌≡◌, ◌-◌, length, refl, sym, ap, ◌∙◌, arith, remove, length-remove, Lists, flat_forms, forms_in, IsStore-remove, cells-remove, Stands, stands, removed-lists}
 use Rattle.trac_forms.proofs.Strings.{used-stored, restored, shown-restored}
 use Rattle.trac_forms.proofs.work.Work.remove.Goals as goal
-use Rattle.trac_forms.proofs.work.Work.remove.Goals.{After-unindex, After-remove_form}
+use Rattle.trac_forms.proofs.work.Work.remove.Goals.{After-unindex, After-remove_store}
 
 -- the form still stands in the store, once the index is without it
 here : (c : After-unindex) → Stands (forms_in c.self.inside.space.store) c.unindex.new.space.store c.args.form.number c.args.form.start
@@ -9,21 +9,12 @@ here c =
     let same = ap (λ (w : Lists). w.store) c.unindex.ensures.same in
     stands _ _ _ _ (c.self.invariant.forms.whole ∙ sym same) (rw (← c.self.view_is) at c.requires.form).within (rw (← c.self.view_is) at c.requires.form).start_is
 
-pub remove_form-requires-clause-bounded : goal.remove_form-requires-clause-bounded
-remove_form-requires-clause-bounded c =
-    omega (arith, ap (λ (w : Lists). length w.store) c.unindex.ensures.same, c.self.invariant.forms.bounded)
-
-pub remove_form-requires-clause-within : goal.remove_form-requires-clause-within
-remove_form-requires-clause-within c =
-    let f = here (goal.at.remove_form-requires-clause-within c).After-unindex in
-    omega (arith, f.end, f.name_len, f.body_len)
-
 -- the lists without it
-gone : (c : After-remove_form) → c.remove_form.new.space ≡ record c.self.inside.space { store = flat_forms (remove (forms_in c.self.inside.space.store) c.args.form.number); spare = c.unindex.new.space.spare }
+gone : (c : After-remove_store) → c.remove_store.new.self ≡ record c.self.inside.space { store = flat_forms (remove (forms_in c.self.inside.space.store) c.args.form.number); spare = c.unindex.new.space.spare }
 gone c =
     let s = c.self.inside.space in
     let rest = flat_forms (remove (forms_in s.store) c.args.form.number) in
-    removed-lists c.unindex.new.space c.remove_form.new.space (forms_in s.store) c.args.form.number c.args.form.start (here c.before.before) c.remove_form.ensures
+    removed-lists c.unindex.new.space c.remove_store.new.self (forms_in s.store) c.args.form.number c.args.form.start c.end_of-end.result (here c.before.before) c.end_of-end.ensures.next c.remove_store.ensures
     ∙ ap (λ (w : Lists). record w { store = rest }) c.unindex.ensures.same
 
 pub invariant_of-self : goal.invariant_of-self
@@ -34,11 +25,11 @@ invariant_of-self c =
     let k = c.args.form.number in
     let within = (rw (← c.self.view_is) at c.requires.form).within in
     let fewer = length-remove forms k within in
-    restored _ s c.remove_form.new.space (remove forms k) (c.self.inside.count - 1) 0 0 c.unindex.ensures.index h.sound (IsStore-remove forms k h.sound.forms) (omega (arith, ap length h.forms.whole, cells-remove forms k within, used-stored s h.forms.whole, h.sound.fits)) (gone (goal.at.invariant_of-self c).After-remove_form) (omega (arith, h.count_is, fewer)) (omega arith) refl
+    restored _ s c.remove_store.new.self (remove forms k) (c.self.inside.count - 1) 0 0 c.unindex.ensures.index h.sound (IsStore-remove forms k h.sound.forms) (omega (arith, ap length h.forms.whole, cells-remove forms k within, used-stored s h.forms.whole, h.sound.fits)) (gone (goal.at.invariant_of-self c).After-remove_store) (omega (arith, h.count_is, fewer)) (omega arith) refl
 
 pub returns-clause-gone : goal.returns-clause-gone
 returns-clause-gone c =
-    rw (← c.self.view_is) (shown-restored _ c.self.inside.space _ (remove (forms_in c.self.inside.space.store) c.args.form.number) (gone (goal.at.returns-clause-gone c).After-remove_form))
+    rw (← c.self.view_is) (shown-restored _ c.self.inside.space _ (remove (forms_in c.self.inside.space.store) c.args.form.number) (gone (goal.at.returns-clause-gone c).After-remove_store))
 
 pub returns-clause-sound : goal.returns-clause-sound
 returns-clause-sound c = (invariant_of-self c).sound

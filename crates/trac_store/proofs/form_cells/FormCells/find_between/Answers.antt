@@ -83,7 +83,7 @@ loop-left-preserved c =
     let len = name_len k _ c.number_in_head-len.ensures in
     let body : c.number_in_head.result ≡ length (next_form k).body = c.number_in_head.ensures ∙ number_is _ _ (body_head k) in
     let following : i + 1 ≡ c.args.end - (c.loop-left.left - 1) = omega (arith, c.loop-left.invariant.fewer) in
-    let more = NoneNamed-further (text_of_cells name) forms c.args.from.number i (omega (arith, c.requires.order, c.loop-left.invariant.fewer)) (omega (arith, (rw (← c.self.view_is) at c.requires.within), c.requires.order, c.loop-left.invariant.fewer)) c.loop-left.invariant.none (λ e. both_ways c.is_text_at.result c.if-is_text_at.false (c.is_text_at.ensures.1 (name_part k _ len ∙ ap flat_text e ∙ Byte-character_of name c.requires.bytes))) in
+    let more = NoneNamed-further (text_of_cells name) forms c.args.from.number i (omega (arith, c.requires.order, c.loop-left.invariant.fewer)) (omega (arith, (rw (← c.self.view_is) at c.requires.within), c.requires.order, c.loop-left.invariant.fewer)) c.loop-left.invariant.none (λ e. both_ways c.is_text_at.result c.if-is_text_at.false (c.is_text_at.ensures.1 (name_part k _ len ∙ ap flat_text e ∙ Byte-character_of name c.requires.name.bytes))) in
     record {
       fewer = omega (arith, c.loop-left.invariant.fewer);
       begins = omega (arith, len, body, place k, (next k).next, ap (start_of forms) following);

@@ -1,0 +1,76 @@
+use Rattle.trac_forms.proofs.Words.{◌≡◌, ◌+◌, ◌-◌, ◌<◌, length, sym, ap, ◌∙◌, subst, arith, Lists, name_at, forms_in, start_of, IsIndexBut, buried, forward, start_in, home_in, slots}
+use Rattle.trac_store.proofs.Places.{stands}
+use Rattle.trac_forms.proofs.FormTables.{names_now, starts_now, home-within, index-buried, index-gap, next-home, next-start, index-forward, index-removed}
+use Rattle.trac_forms.proofs.index.unindex.Goals as goal
+
+pub bury-requires-clause-home : goal.bury-requires-clause-home
+bury-requires-clause-home c =
+    let forms = forms_in c.args.space.now.store in
+    let index = c.requires.forms.index (omega (arith, c.spare_len.ensures.value, c.if-spare_len-eq0.false)) in
+    home-within c.args.space.now.spare (length forms) c.args.form.number (name_at forms) (start_of forms) index c.requires.form.within
+
+pub loop-next-init : goal.loop-next-init
+loop-next-init c =
+    let s = c.args.space.now in
+    let forms = forms_in s.store in
+    let k = c.args.form.number in
+    let within : k < length forms = c.requires.form.within in
+    let index = c.requires.forms.index (omega (arith, c.spare_len.ensures.value, c.if-spare_len-eq0.false)) in
+    let spare = c.bury.new.space.spare in
+    let is : spare ≡ buried s.spare k = ap (λ (w : Lists). w.spare) c.bury.ensures in
+    let gap = index-gap forms k within (buried s.spare k) (index-buried s.spare (length forms) k (name_at forms) (start_of forms) index within) in
+    let e : k + 1 - 1 ≡ k = omega arith in
+    record {
+      same = c.bury.ensures ∙ ap (λ t. record s { spare = t }) (sym is);
+      index = subst (λ g. IsIndexBut spare (length forms) g (names_now forms k g) (starts_now forms k g)) (sym e) (subst (λ t. IsIndexBut t (length forms) k (names_now forms k k) (starts_now forms k k)) (sym is) gap);
+    }
+
+pub bring_forward-requires-clause-home : goal.bring_forward-requires-clause-home
+bring_forward-requires-clause-home c =
+    let forms = forms_in c.args.space.now.store in
+    let spare = c.loop-next.space.spare in
+    let next = c.loop-next.next in
+    let e : next - 1 + 1 ≡ next = omega (arith, c.loop-next.auto.next) in
+    let less = next-home forms c.args.form.number c.requires.form.within spare (next - 1) (omega (arith, e, c.loop-next-test.true, c.requires.forms.count_is)) c.loop-next.invariant.index in
+    subst (λ n. home_in spare n < slots spare) e less
+
+-- the cells of the form that leaves
+pub bring_forward-requires-clause-cells : goal.bring_forward-requires-clause-cells
+bring_forward-requires-clause-cells c =
+    let forms = forms_in c.args.space.now.store in
+    let spare = c.loop-next.space.spare in
+    let next = c.loop-next.next in
+    let within : c.args.form.number < length forms = c.requires.form.within in
+    let f = stands forms c.args.space.now.store c.args.form.number c.args.form.start c.requires.forms.forms.whole within c.requires.form.start_is in
+    let e : next - 1 + 1 ≡ next = omega (arith, c.loop-next.auto.next) in
+    let there = next-start forms c.args.form.number within spare (next - 1) (omega (arith, c.loop-next.auto.next)) (omega (arith, e, c.loop-next-test.true, c.requires.forms.count_is)) c.loop-next.invariant.index in
+    omega (arith, there, ap (start_in spare) e, f.next, c.end_of.ensures.next)
+
+pub loop-next-preserved : goal.loop-next-preserved
+loop-next-preserved c =
+    let s = c.args.space.now in
+    let forms = forms_in s.store in
+    let k = c.args.form.number in
+    let spare = c.loop-next.space.spare in
+    let next = c.loop-next.next in
+    let cells = c.end_of.result - c.args.form.start in
+    let within : k < length forms = c.requires.form.within in
+    let f = stands forms s.store k c.args.form.start c.requires.forms.forms.whole within c.requires.form.start_is in
+    let e : next - 1 + 1 ≡ next = omega (arith, c.loop-next.auto.next) in
+    let e2 : next ≡ next + 1 - 1 = omega arith in
+    let more = index-forward forms k within spare (next - 1) cells (omega (arith, c.loop-next.auto.next)) (omega (arith, e, c.loop-next-test.true, c.requires.forms.count_is)) (omega (arith, f.next, c.end_of.ensures.next)) c.loop-next.invariant.index in
+    let here = subst (λ n. IsIndexBut (forward spare n cells) (length forms) n (names_now forms k n) (starts_now forms k n)) e more in
+    let now = c.bring_forward.new.space.spare in
+    let is : now ≡ forward spare next cells = ap (λ (w : Lists). w.spare) c.bring_forward.ensures in
+    record {
+      same = c.bring_forward.ensures ∙ ap (λ (w : Lists). record w { spare = forward spare next cells }) c.loop-next.invariant.same ∙ ap (λ t. record s { spare = t }) (sym is);
+      index = subst (λ g. IsIndexBut now (length forms) g (names_now forms k g) (starts_now forms k g)) e2 (subst (λ t. IsIndexBut t (length forms) next (names_now forms k next) (starts_now forms k next)) (sym is) here);
+    }
+
+pub returns : goal.returns
+returns c =
+    let forms = forms_in c.args.space.now.store in
+    record {
+      same = c.loop-next.invariant.same;
+      index = λ _. index-removed forms c.args.form.number c.requires.form.within c.loop-next.space.spare (c.loop-next.next - 1) (omega (arith, c.loop-next.auto.next, c.loop-next.auto.next-end, c.loop-next-test.false, c.requires.form.within, c.requires.forms.count_is)) c.loop-next.invariant.index;
+    }

@@ -1,0 +1,45 @@
+//! Writes the cells of a new form into the store.
+ghost use Rattle.std.specs.Prelude.{◌≡◌, ◌+◌, ◌≤◌, ◌++◌, length};
+ghost use Rattle.std.specs.Prelude.{take};
+ghost use Rattle.trac_space.specs.Lists as lists;
+ghost use Rattle.trac_store.specs.FlatForms.{flat_form};
+ghost use Rattle.trac_store.specs.Parts.{new_form};
+ghost use Rattle.trac_forms.specs.Defining.{AreNameAndText, cells_for};
+ghost use Rattle.trac_store.specs.Index.{IsKept};
+
+use trac_space::{Cell, Part, Space};
+
+// Appends the cells of a new form to the store: three head cells, its name and its text, both copied from
+// neutral, and pointer 0. They must fit; the spare list is dropped if they fit only without it.
+pub(crate) fn store_form(space: &mut Space, name: Part, text: Part)
+    requires parts { AreNameAndText space.old.neutral name text }
+    requires room { lists.used space.old + cells_for name text ≤ space.old.room }
+    ensures kept { IsKept space.old.spare space.new.spare }
+    ensures stored { let form = new_form space.old.neutral name.from name.to text.from text.to in
+        space.new ≡ record space.old {
+          store = space.old.store ++ flat_form form;
+          spare = space.new.spare;
+        } }
+{
+    prove!(space.used() <= space.room());
+    let need = 3 + (name.to - name.from) + (text.to - text.from);
+    space.claim(need);
+    let start = space.store_len();
+    space.open_store(need);
+    write_form(space, start, name, text);
+}
+
+// Writes the cells of a new form over the last cells of the store, from place `start` on.
+fn write_form(space: &mut Space, start: u32, name: Part, text: Part)
+    requires parts { AreNameAndText space.old.neutral name text }
+    requires last { length space.old.store ≡ start + cells_for name text }
+    ensures { let form = new_form space.old.neutral name.from name.to text.from text.to in
+        space.new ≡ record space.old { store = take start space.old.store ++ flat_form form } }
+{
+    prove!(space.used() <= space.room());
+    space.write_store(start, Cell::Head(name.to - name.from));
+    space.write_store(start + 1, Cell::Head(text.to - text.from));
+    space.write_store(start + 2, Cell::Head(0));
+    space.write_part(start + 3, name.from, name.to);
+    space.write_part(start + 3 + (name.to - name.from), text.from, text.to);
+}

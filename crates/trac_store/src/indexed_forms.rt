@@ -1,0 +1,177 @@
+//! The index: a table by which a form is found from its name.
+//!
+//! The first half of the table is slots: a form's number stands in the slot that the hash of its name
+//! gives, or in the next open one behind it. The third quarter says where each form begins in the store,
+//! the last quarter which slot it has.
+ghost use Rattle.std.specs.Prelude.{◌≡◌, ◌≢◌, ◌<◌, ◌≤◌, ◌^◌, ◌+◌};
+ghost use Rattle.std.specs.Prelude.{length, map, not, slice_range, All};
+ghost use Rattle.std.specs.Prelude.{MatchOption, IfSome, Decides};
+ghost use Rattle.trac_space.specs.Cells.{seen};
+ghost use Rattle.trac_space.specs.Texts.{text_of_cells, IsByte};
+ghost use Rattle.trac_store.specs.Forms.{name_at};
+ghost use Rattle.trac_store.specs.Stored.{IsAnswer, IsFoundAt};
+ghost use Rattle.trac_store.specs.Index.{hash, slots, IsIndex, IsOpenFor, is_open};
+
+use crate::form_cells::{FormCells, is_text};
+use crate::form_heads::{number, number_in_head};
+use crate::located::Located;
+use std::marker::Model;
+use trac_space::{Cell, byte_in};
+
+// An odd number near 2^64 divided by the golden ratio.
+const MIXER: u64 = 11_400_714_819_323_198_485;
+
+/// The hash of a name: its first slot is the remainder by the number of slots.
+#[inline]
+pub fn hash(name: &[Cell]) -> usize
+    requires { All IsByte name.now }
+    ensures value { result ≡ hash (text_of_cells name.now) }
+    ensures bounded { result < 2 ^ 32 }
+{
+    let mut number = 0u64;
+    let mut left = name.len();
+    while left > 0 {
+        left -= 1;
+        number = number
+            .wrapping_add(u64::from(byte_in(&name[left])))
+            .wrapping_mul(MIXER);
+    }
+    (number / 0x1_0000_0000) as usize
+}
+
+// Whether the `len` cells from place `from` on are the text.
+#[inline]
+fn is_name(cells: &[Cell], from: usize, len: usize, text: &[Cell]) -> bool
+    requires within { from + len ≤ length cells.now }
+    requires part_bytes { All IsByte (map seen (slice_range cells.now from (from + len))) }
+    requires bytes { All IsByte (map seen text.now) }
+    ensures { Decides result
+        (map seen (slice_range cells.now from (from + len)) ≡ map seen text.now) }
+{
+    if len != text.len() {
+        return false;
+    }
+    is_text(&cells[from..from + len], text)
+}
+
+/// The cells of forms, one form behind the other, and the table by which a form is found from its name.
+#[derive(Drop)]
+pub struct IndexedForms<'s> {
+    cells: &'s [Cell],
+    table: &'s [Cell],
+}
+
+impl<'s> Model for IndexedForms<'s> {
+    ghost use Rattle.std.specs.Prelude.{List, map};
+    ghost use Rattle.trac_language.specs.Form.{Form};
+    ghost use Rattle.trac_space.specs.Cells.{seen};
+    ghost use Rattle.trac_store.specs.Stored.{forms_in};
+    ghost use Rattle.trac_store.specs.Index.{AreIndexedCells};
+
+    ghost Value = { List Form };
+
+    ghost view = { λ f. forms_in (map seen f.cells.now) };
+
+    ghost invariant = { λ f. AreIndexedCells f.cells.now f.table.now };
+}
+
+impl<'s> IndexedForms<'s> {
+    /// The forms, and their table.
+    #[inline(always)]
+    pub fn of(forms: &FormCells<'s>, table: &'s [Cell]) -> IndexedForms<'s>
+        requires few { length table.now ≤ 16777216 }
+        requires index { IsIndex (map seen table.now) forms.now }
+        ensures { result ≡ forms.now }
+    {
+        IndexedForms {
+            cells: forms.cells,
+            table,
+        }
+    }
+
+    // Where form `k` begins, by the table, if it has this name. None if it has another.
+    #[inline]
+    fn start_if_named(&self, k: u32, name: &[Cell]) -> Option<u32>
+        requires within { k < length self.now }
+        requires bytes { All IsByte (map seen name.now) }
+        ensures { let text = text_of_cells (map seen name.now) in
+            MatchOption result
+            (name_at self.now k ≢ text)
+            (λ start. IsFoundAt self.now text k start) }
+    {
+        let cells = self.cells;
+        let slots = 2 * (self.table.len() / 4);
+        let start = number(self.table[slots + k as usize]);
+        let at = start as usize + 3;
+        let len = number_in_head(cells[at - 3]) as usize;
+        if is_name(cells, at, len, name) {
+            Some(start)
+        } else {
+            None
+        }
+    }
+
+    /// Finds the form with this name by the table. None if no form has it. Adds to `search_cost` how many
+    /// slots the search looked at beyond a few.
+    #[inline(always)]
+    pub fn look_up(&self, name: &[Cell], search_cost: &mut u32) -> Option<Located>
+        requires bytes { All IsByte (map seen name.now) }
+        ensures { IsAnswer self.now (text_of_cells (map seen name.now)) result }
+    {
+        let table = self.table;
+        let slots = 2 * (table.len() / 4);
+        let first = hash(name);
+        for i in 0..slots {
+            if i >= SLOTS_AT_NO_COST {
+                *search_cost = search_cost.saturating_add(1);
+            }
+            match table[(first + i) & (slots - 1)] {
+                Cell::Byte(_) => return None,
+                Cell::Head(k) => {
+                    if let Some(start) = self.start_if_named(k, name) {
+                        return Some(Located { number: k, start });
+                    }
+                }
+                _ => {}
+            }
+        }
+        None
+    }
+}
+
+// A search looks at this many slots without cost.
+const SLOTS_AT_NO_COST: usize = 6;
+
+// If none of this many slots is open for a new form, the table is dropped. With many names of one hash it
+// would take long to fill, and be no faster to search than the forms.
+const MOST_SLOTS: usize = 128;
+
+/// The first open slot of a table for a name with the hash `first`. None if as many slots as a search for
+/// one looks at are taken.
+#[inline]
+pub fn open_slot(table: &[Cell], first: usize) -> Option<u32>
+    requires few { length table.now ≤ 16777216 }
+    requires bounded { first < 2 ^ 32 }
+    ensures open { IfSome result (λ s. IsOpenFor (map seen table.now) first s) }
+    ensures within { IfSome result (λ s. s < slots (map seen table.now)) }
+{
+    let slots = 2 * (table.len() / 4);
+    for i in 0..slots.min(MOST_SLOTS) {
+        let slot = (first + i) & (slots - 1);
+        if !is_taken(table[slot]) {
+            return Some(slot as u32);
+        }
+    }
+    None
+}
+
+// Whether a form has the slot.
+#[inline]
+fn is_taken(cell: Cell) -> bool
+    ensures { result ≡ not (is_open cell) }
+{
+    match cell {
+        Cell::Head(_) => true,
+        _ => false,
+    }
+}
