@@ -6,4 +6,5 @@ pub mod Shifts
 pub mod SuffixCells
 pub mod Suffixes
 pub mod Texts
+pub mod TwoParts
 mod Words

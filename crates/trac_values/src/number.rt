@@ -17,6 +17,12 @@ use std::cmp::Ordering;
 use trac_language::Arith;
 use trac_space::{Cell, byte_in, character_of};
 
+/// Each number of this many decimal digits fits in 64 bits.
+const DIGITS_IN_64_BITS: usize = 19;
+
+// 10 ^ 19.
+const POWER: u128 = 10_000_000_000_000_000_000;
+
 /// The number at the end of a text, as `tail_number` finds it, and where it begins.
 #[derive(Clone, Copy)]
 pub struct TailNumber {
@@ -66,6 +72,7 @@ fn short_number(cells: &[Cell]) -> Option<(usize, u64)>
     requires bytes { All IsByte cells.now }
     ensures start { IfSome result (λ r. r.0 ≡ length (before_digits (text_of_cells cells.now))) }
     ensures value { IfSome result (λ r. r.1 ≡ digits_value 10 (digits (text_of_cells cells.now))) }
+    ensures below { IfSome result (λ r. r.1 < 10 ^ 19) }
     ensures few { length (digits (text_of_cells cells.now)) < 19 → IsSome result }
 {
     let least = cells.len().saturating_sub(19);
@@ -83,9 +90,6 @@ fn short_number(cells: &[Cell]) -> Option<(usize, u64)>
     }
     if least == 0 { Some((0, value)) } else { None }
 }
-
-/// Each number of this many decimal digits fits in 64 bits.
-const DIGITS_IN_64_BITS: usize = 19;
 
 /// The number of at most 19 digits, and ten to the power of how many they are.
 fn part_value(digits: &[Cell]) -> (u64, u64)
@@ -141,7 +145,8 @@ fn is_last(cells: &[Cell], character: u8) -> bool
 #[inline(always)]
 fn may_be_long(cells: &[Cell]) -> bool
     requires { All IsByte cells.now }
-    ensures { length cells.now < 20 → result ≡ false }
+    ensures short { length cells.now < 20 → result ≡ false }
+    ensures long { IsTrue result → 20 ≤ length cells.now }
 {
     cells.len() > 19 && byte_in(&cells[cells.len() - 20]).is_ascii_digit()
 }
@@ -157,17 +162,64 @@ fn short_tail(cells: &[Cell]) -> Option<(usize, i128)>
     ensures few { length (digits (text_of_cells cells.now)) < 19 → IsSome result }
 {
     let (start, size) = short_number(cells)?;
+    Some(with_sign(cells, start, i128::from(size)))
+}
+
+/// The length of the prefix of a text, in cells, and the number at its end, whose digits begin at `start`
+/// and have the value `size`.
+#[inline(always)]
+fn with_sign(cells: &[Cell], start: usize, size: i128) -> (usize, i128)
+    requires text { IsText cells.now }
+    requires start { start ≡ length (before_digits (text_of_cells cells.now)) }
+    requires size { size ≡ pos (digits_value 10 (digits (text_of_cells cells.now))) }
+    ensures start { result.0 ≡ length (prefix (text_of_cells cells.now)) }
+    ensures value { result.1 ≡ number_in cells.now }
+    ensures in_range { IsTrue (in_range result.1) }
+{
     let front = cells.split_at(start).0;
-    let number = i128::from(size);
     if start == cells.len() {
-        Some((start, number))
+        (start, size)
     } else if is_last(front, b'-') {
-        Some((start - 1, -number))
+        (start - 1, -size)
     } else if is_last(front, b'+') {
-        Some((start - 1, number))
+        (start - 1, size)
     } else {
-        Some((start, number))
+        (start, size)
     }
+}
+
+/// Where the longest suffix of decimal digits begins, and its number, in a text of 19 characters or more.
+/// None if it may have more than 38 digits, which can be too many for 127 bits.
+#[inline(always)]
+fn number_in_two_parts(cells: &[Cell]) -> Option<(usize, u128)>
+    requires bytes { All IsByte cells.now }
+    requires long { 19 ≤ length cells.now }
+    ensures start { IfSome result (λ r. r.0 ≡ length (before_digits (text_of_cells cells.now))) }
+    ensures value { IfSome result (λ r. r.1 ≡ digits_value 10 (digits (text_of_cells cells.now))) }
+    ensures below { IfSome result (λ r. r.1 < 10 ^ 38) }
+{
+    let behind = cells.len() - DIGITS_IN_64_BITS;
+    let (front, back) = cells.split_at(behind);
+    let (start, low) = short_number(back)?;
+    if start > 0 {
+        return Some((behind + start, u128::from(low)));
+    }
+    let (start, high) = short_number(front)?;
+    Some((start, u128::from(high) * POWER + u128::from(low)))
+}
+
+/// The length of the prefix of a text, in cells, and the number at its end, in a text of 19 characters or
+/// more. None if the number may have more than 38 digits.
+#[inline(never)]
+fn tail_in_two_parts(cells: &[Cell]) -> Option<(usize, i128)>
+    requires text { IsText cells.now }
+    requires long { 19 ≤ length cells.now }
+    ensures start { IfSome result (λ r. r.0 ≡ length (prefix (text_of_cells cells.now))) }
+    ensures value { IfSome result (λ r. r.1 ≡ number_in cells.now) }
+    ensures in_range { IfSome result (λ r. IsTrue (in_range r.1)) }
+{
+    let (start, size) = number_in_two_parts(cells)?;
+    Some(with_sign(cells, start, size as i128))
 }
 
 /// The number at the end of a text, of any length, and where it begins.
@@ -210,12 +262,12 @@ pub fn tail_number(cells: &[Cell]) -> TailNumber
     ensures start { result.start ≡ length (prefix (text_of_cells cells.now)) }
     ensures value { result.value ≡ if_in_range (Some (number_in cells.now)) }
 {
-    let short = if may_be_long(cells) {
-        None
+    let known = if may_be_long(cells) {
+        tail_in_two_parts(cells)
     } else {
         short_tail(cells)
     };
-    match short {
+    match known {
         Some((start, number)) => TailNumber {
             start: start as u32,
             value: Some(number),

@@ -2,6 +2,7 @@ use Rattle.trac_values.proofs.Words.{◌≡◌, ◌-◌, ◌*◌, ◌+◌, ◌<�
 use Rattle.trac_values.proofs.DigitsFromEnd.{value_before, fits_before}
 use Rattle.trac_values.proofs.Suffixes.{digit_facts, suffix_more, suffix_stops}
 use Rattle.trac_values.proofs.SuffixCells.{place}
+use Rattle.trac_values.proofs.TwoParts.{below-power}
 use Rattle.trac_values.proofs.number.short_number.Goals as goal
 
 pub returns-then-not-is_ascii_digit-clause-start : goal.returns-then-not-is_ascii_digit-clause-start
@@ -12,6 +13,14 @@ pub returns-then-not-is_ascii_digit-clause-value : goal.returns-then-not-is_asci
 returns-then-not-is_ascii_digit-clause-value c =
     c.loop-start.invariant.value
     ∙ ap (λ k. digits_value 10 (drop k (text_of_cells c.args.cells.now))) (place is_ascii_digit c.args.cells.now c.loop-start.start (returns-then-not-is_ascii_digit-clause-start c))
+
+pub returns-then-not-is_ascii_digit-clause-below : goal.returns-then-not-is_ascii_digit-clause-below
+returns-then-not-is_ascii_digit-clause-below c =
+    below-power c.loop-start.value (length c.args.cells.now - c.loop-start.start) (omega (arith, c.loop-start.invariant.least, c.saturating_sub-least.ensures)) c.loop-start.invariant.below
+
+pub returns-then-least-eq0-clause-below : goal.returns-then-least-eq0-clause-below
+returns-then-least-eq0-clause-below c =
+    below-power c.loop-start.value (length c.args.cells.now - c.loop-start.start) (omega (arith, c.loop-start.invariant.least, c.saturating_sub-least.ensures)) c.loop-start.invariant.below
 
 pub overflow_mul-value : goal.overflow_mul-value
 overflow_mul-value c =
