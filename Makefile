@@ -67,7 +67,7 @@ proofs:
 	        tar -cf - --exclude=.git --exclude=out --exclude=./build --exclude=./dist . | tar -xf - -C "$$copy" && \
 	        { setsid nice make -C "$$copy" dist/libtrac.a dist/trac.wasm >"$$copy/said" 2>&1 & }; \
 	    fi; \
-	    $(RT) . rt ci || status=$$?; wait; [ ! -f "$$copy/said" ] || cat "$$copy/said"; \
+	    $(RT) . rt ci || status=$$?; [ ! -f "$$copy/said" ] || tail -n +1 -f --pid="$$!" "$$copy/said"; \
 	    [ ! -f "$$copy/dist/trac.wasm" ] || { rm -rf crates/*/out/rlib && \
 	        (cd "$$copy" && tar -cf - build dist crates/*/out/rlib crates/trac_c/out) | tar -xf -; }; exit "$$status"
 

@@ -13,7 +13,7 @@ use Rattle.trac_core.specs.Performed.{performed_by, performs, calls_device, need
 use Rattle.trac_core.specs.Machine.{Answers}
 use Rattle.trac_core.specs.Advancing.{GoesAlone, StopsAlone, Advanced}
 use Rattle.trac_c.specs.declared.turn.Turn.TheVariants.{Waits, Full}
-use Rattle.trac_c.specs.Turned.{TurnsTo, EndsTurn}
+use Rattle.trac_c.specs.Turns.{TurnsTo, EndsTurn}
 
 -- it waits for nothing
 awaits-none : (f : Option Function) (given : List Text) → calls_device f given ≡ false → awaited f ≡ Nothing

@@ -4,7 +4,7 @@ use Rattle.std.specs.Prelude.{true}
 use Rattle.std.proofs.lemmas.Bool.{cases_lt}
 use Rattle.trac_functions.proofs.FlatLemmas.{neutral_of-push, with_cells-append}
 use Rattle.std.proofs.lemmas.List.{drop-append-le, drop_more, take-append-drop, take-take, take_all}
-use Rattle.trac_c.proofs.Laid.{laid-next, laid-over}
+use Rattle.trac_c.proofs.Buffers.{laid-next, laid-over}
 use Rattle.std.proofs.lemmas.List.Sums.{sum_by-cons}
 use Rattle.trac_space.specs.declared.cell.Cell.{Cell}
 use Rattle.trac_space.specs.declared.cell.Cell.TheVariants.{Call, Comma, Gap, Head}
@@ -75,7 +75,7 @@ calls-length (call ∷ outer) base =
 pub codes-size : (n : Neutral) → length (codes_of_neutral n) ≡ length n.base + sum_by call_cells n.calls
 codes-size n = calls-length n.calls n.base
 
--- the same of the cells of this neutral string
+-- a neutral string has as many codes as it has cells
 pub neutral-length : (cells : List Cell) (n : Neutral) → neutral_of cells ≡ n → length cells ≡ length (codes_of_neutral n)
 neutral-length cells n e = sym (codes-count cells) ∙ ap (λ n. length (codes_of_neutral n)) e
 

@@ -16,7 +16,7 @@ use Rattle.trac_core.specs.declared.machine.session.Awaits.TheVariants.{Nothing,
 use Rattle.trac_core.specs.Performed.{performed_by, performs}
 use Rattle.trac_core.proofs.MetaCharacters.{before-none}
 use Rattle.trac_c.specs.declared.turn.Turn.TheVariants.{Waits}
-use Rattle.trac_c.specs.Turned.{MayGetMore}
+use Rattle.trac_c.specs.Turns.{MayGetMore}
 
 -- ---- a step that fits the room and doesn't wait doesn't read to the end
 

@@ -1,6 +1,6 @@
 -- A call of C that only looks at the machine that it keeps: the machine is lent for the call, and is as it was. Assumes `Logic`.
 use Rattle.trac_c.proofs.Walking.{ℕ, suc, ◌≡◌, refl, List, [], ◌∷◌, eqb_refl, Ura, ftrue, fsep, full_share, id⊢, sep, emp, fact, Running, MachineTables, tables, RefMutOf, SliceRefMutOf, usize, yes, UInt, uint_vals, uint_Tells, uint_Lawful, block_ptr, lies_at, Slot, AllWithin, plain, types_at, mut_slice_vals, mut_slice_Tells, Ended, Clauses, closing, lasts, alive, Kepts, Fins, Outs, outs, lasts_of, Meets, framed, says, Fn, Callee, Code, Ty, Width, w64, Lifetime, named, erased, mut, Local, local, value_local, ty_int, ty_ptr, ty_ref, ty_struct, tcons, tnil, place, field, deref, copy, rv_opd, addr_of, aggregate, assign, call, seq, return, Val, vptr, bytes, Model, Closed, alloc_all, pass_all, free_all, look_at, look_in_at, get, get_in, sets, lands_as, through, Sq, ‵, raw, prop, ◌$◌, ◌∵◌, !, qed, rewrite, done, Logic, sem, agg, whole, sub, stop, fld, hop, from, addr, no_more, and_then, returns, enter, of_opd, MachineState, Lfts, Shares, Denots, machine, lent_as, Owed, Holding, Ensures, holding_clauses, meets_holding, gives, lends}
-use Rattle.trac_c.specs.Laid.{Lays}
+use Rattle.trac_c.specs.Buffers.{Lays}
 
 -- a machine that is lent for the first lifetime, a buffer that is for one, and a buffer as MIR has it
 abbrev lent : {n : ℕ} → Slot (suc n)

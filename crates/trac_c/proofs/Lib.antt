@@ -1,10 +1,10 @@
 mod Again
 mod Alone
-mod Coding
 mod Blocks
+mod Buffers
+mod Coding
 mod Further
 mod KeptLooks
-mod Laid
 mod ListedForms
 mod Printing
 mod Roomy

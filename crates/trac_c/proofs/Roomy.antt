@@ -12,7 +12,7 @@ use Rattle.trac_core.specs.Session.{output_after}
 use Rattle.trac_core.proofs.Outputs.{later_outcome, step-later}
 use Rattle.trac_c.specs.Held.{listed, buffer_code}
 use Rattle.trac_c.specs.declared.devices.RoomySink.{RoomySink}
-use Rattle.trac_c.specs.Turned.{written_to, NoDeviceFailed}
+use Rattle.trac_c.specs.Turns.{written_to, NoDeviceFailed}
 
 -- a step that goes on adds to the output what it prints
 adds : (written : Text) (o : Outcome) (next : State) → later_outcome written o ≡ Next next → next.output ≡ written ++ output_after o

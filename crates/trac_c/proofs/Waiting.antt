@@ -16,7 +16,7 @@ use Rattle.trac_core.specs.declared.machine.session.Awaits.TheVariants.{Text as 
 use Rattle.trac_core.specs.Machine.{KeepsLimits}
 use Rattle.trac_core.specs.Performed.{performed_by, performs}
 use Rattle.trac_core.proofs.MetaCharacters.{before-at}
-use Rattle.trac_c.specs.Turned.{MayGetMore}
+use Rattle.trac_c.specs.Turns.{MayGetMore}
 
 both : (a b : Bool) → (not a && b) ≡ true → (a ≡ false) × (b ≡ true)
 both false b e = (refl, e)

@@ -6,8 +6,8 @@ use Rattle.trac_devices.specs.Devices.{Stream}
 use Rattle.trac_lent.specs.Arenas.{Lists}
 use Rattle.trac_checker.specs.Warned.{Found, lines_of}
 use Rattle.trac_checker.specs.WatchedRuns.{WatchesRun}
-use Rattle.trac_c.specs.Laid.{laid}
-use Rattle.trac_c.specs.Told.{number, refused}
+use Rattle.trac_c.specs.Buffers.{laid}
+use Rattle.trac_c.specs.Reports.{number, refused}
 use Rattle.trac_c.specs.declared.report.TracReport.{TracReport}
 
 -- the report where the memory ran out

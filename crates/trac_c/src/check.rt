@@ -3,7 +3,7 @@ ghost use Rattle.std.specs.Prelude.{◌≡◌, ◌≤◌, IfErr, IfOk, length, m
 ghost use Rattle.trac_lent.specs.Units.{units_at};
 ghost use Rattle.trac_space.specs.contracts.cell.Cell.{the_row as CellRow};
 ghost use Rattle.trac_c.specs.Checked.{CheckTold, Checked, Findings};
-ghost use Rattle.trac_c.specs.Laid.{laid};
+ghost use Rattle.trac_c.specs.Buffers.{laid};
 ghost use denote.Array.{Array};
 ghost use denote.RawPtr.{room_at};
 ghost use types.Logic.{sem};

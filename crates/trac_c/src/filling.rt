@@ -1,7 +1,7 @@
 //! Buffers of a caller's, filled from the front as far as they reach.
 ghost use Rattle.std.specs.Prelude.{◌≡◌, ◌+◌, ◌<◌, ◌≤◌, [], ◌∷◌, length, take};
 ghost use Rattle.std.specs.Prelude.{◌++◌};
-ghost use Rattle.trac_c.specs.Laid.{laid_from};
+ghost use Rattle.trac_c.specs.Buffers.{laid_from};
 
 use trac_core::{Characters, Sink, SinkFailed};
 

@@ -2,9 +2,9 @@
 ghost use Rattle.std.specs.Prelude.{◌≡◌, ◌≤◌, length, map, slice_get, take};
 ghost use Rattle.trac_language.specs.Meaning.{show_form};
 ghost use Rattle.trac_space.specs.Texts.{text_of_cells};
-ghost use Rattle.trac_c.specs.Laid.{Lays, laid};
-ghost use Rattle.trac_c.specs.Shown.{item_code, code_of, name_of, display_of, codes_of};
-ghost use Rattle.trac_c.specs.Shown.{pointer_of};
+ghost use Rattle.trac_c.specs.Buffers.{Lays, laid};
+ghost use Rattle.trac_c.specs.Forms.{item_code, code_of, name_of, display_of, codes_of};
+ghost use Rattle.trac_c.specs.Forms.{pointer_of};
 
 use crate::filling::{FillingSink, put};
 use trac_core::{Cell, Item, Machine, StoredForm, display_len, show_form};

@@ -1,9 +1,9 @@
 //! A machine that C keeps between calls, with the block that it was opened over.
 ghost use Rattle.std.specs.Prelude.{◌≡◌};
 ghost use Rattle.trac_core.specs.Machine.{MachineState};
-ghost use Rattle.trac_c.specs.Kept.{machine_at, machine_room, machine_after, cells_room, opened};
-ghost use Rattle.trac_c.specs.Kept.{begun_again, machine_bytes};
-ghost use Rattle.trac_c.specs.Turned.{TurnedOrOver, is_ended};
+ghost use Rattle.trac_c.specs.Machines.{machine_at, machine_room, machine_after, cells_room, opened};
+ghost use Rattle.trac_c.specs.Machines.{begun_again, machine_bytes};
+ghost use Rattle.trac_c.specs.Turns.{TurnedOrOver, is_ended};
 ghost use types.Logic.{sem};
 
 use crate::report::{REFUSED, TracReport};

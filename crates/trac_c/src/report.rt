@@ -1,7 +1,7 @@
 //! What C is told of a run.
 ghost use Rattle.std.specs.Prelude.{◌≡◌};
 ghost use Rattle.trac_c.specs.Checked.{no_memory};
-ghost use Rattle.trac_c.specs.Told.{number, refused};
+ghost use Rattle.trac_c.specs.Reports.{number, refused};
 
 use trac_core::Fate;
 

@@ -1,7 +1,7 @@
 //! A run at once.
 ghost use Rattle.std.specs.Prelude.{◌≡◌, ℕ, ◌+◌, ◌-◌, ◌^◌, ◌<◌, ◌≤◌, List, length};
 ghost use Rattle.trac_space.specs.contracts.cell.Cell.{the_row as CellRow};
-ghost use Rattle.trac_c.specs.Told.{Told, Ran};
+ghost use Rattle.trac_c.specs.Reports.{Told, Ran};
 ghost use base.Fml.{fex};
 ghost use base.Fraction.{full_share};
 ghost use denote.Array.{Array};

@@ -7,7 +7,7 @@ ghost use Rattle.trac_space.specs.Texts.{text_of_cells};
 ghost use Rattle.trac_functions.specs.Flat.{neutral_of};
 ghost use Rattle.trac_core.specs.Session.{awaited, next_function};
 ghost use Rattle.trac_core.specs.View.{neutral_in, row_of};
-ghost use Rattle.trac_c.specs.Laid.{Lays, laid};
+ghost use Rattle.trac_c.specs.Buffers.{Lays, laid};
 ghost use Rattle.trac_c.specs.View.{codes_of_neutral, cell_code, rule_number, awaits_number};
 ghost use Rattle.trac_c.specs.View.{part_cells, mark_code, comma_code, is_open_after, has_call};
 ghost use Rattle.trac_c.specs.View.{call_places};

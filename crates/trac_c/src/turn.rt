@@ -3,8 +3,8 @@ ghost use Rattle.std.specs.Prelude.{◌≡◌, ℕ, ◌+◌, ◌^◌, ◌<◌, �
 ghost use Rattle.trac_devices.specs.Devices.{has_byte};
 ghost use Rattle.trac_core.specs.Session.{awaited, next_function, next_printed};
 ghost use Rattle.trac_language.specs.State.{Input};
-ghost use Rattle.trac_c.specs.Turned.{TurnsTo, LacksRoom, is_short, is_ended, stands, SomeTurned};
-ghost use Rattle.trac_c.specs.Turned.{TurnedOrOver, turn_number, last_over, wanted_by, MayGetMore};
+ghost use Rattle.trac_c.specs.Turns.{TurnsTo, LacksRoom, is_short, is_ended, stands, SomeTurned};
+ghost use Rattle.trac_c.specs.Turns.{TurnedOrOver, turn_number, last_over, wanted_by, MayGetMore};
 ghost use Rattle.trac_core.specs.Machine.{KeepsLimits};
 
 use crate::devices::{GivenSource, RoomySink};

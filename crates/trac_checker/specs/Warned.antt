@@ -22,12 +22,12 @@ column_of_value column form =
     codes "in the value of " ++ shown_text form ++ codes ", column "
     ++ decimal (min (column + 1) (2 ^ 64 - 1)) ++ codes ": "
 
--- the same, where it is in one
+-- the place in the value of a form, where a warning is in one
 abbrev pub value_in : Option ℕ → ℕ → List ℕ → List ℕ
 value_in None column form = []
 value_in (Some number) column form = column_of_value column form
 
--- the same of an origin
+-- the place in the value of a form that an origin tells
 abbrev pub value_text : Origin → List ℕ → List ℕ
 value_text origin form = value_in origin.form origin.column form
 

@@ -22,7 +22,7 @@ const SHOWN: &str = "#(ds,F,a-b)#(ss,F,-)#(pf,F)'";
 
 const LETTERS: &str = "#(ps,abcdefghijklmnopqrst)'";
 
-/// A source of a text and then so many letters, after which it fails or ends. It counts its calls.
+/// A source of a text and then a number of letters, after which it fails or ends. It counts its calls.
 #[derive(Drop)]
 struct FakeSource<'a> {
     text: &'a [u8],
@@ -155,7 +155,7 @@ impl Write for FlushedWriter<'_> {
     }
 }
 
-/// Counts calls of the system, each of which is interrupted so many times before it is done.
+/// Counts calls of the system, each of which is interrupted a number of times before it is done.
 #[derive(Drop)]
 struct Interruptions {
     each: u32,

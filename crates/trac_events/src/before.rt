@@ -52,8 +52,8 @@ impl Before {
         }
     }
 
-    /// How many calls are open in the machine after the step, where so many were open before it. If the step
-    /// was done, its rule tells.
+    /// How many calls are open in the machine after the step. `depth` were open before it; if the step was
+    /// done, its rule tells what changed.
     pub fn depth_after(&self, machine: &Machine, depth: usize) -> usize
         ensures { result ≡ depth_in self.now machine.now depth }
     {

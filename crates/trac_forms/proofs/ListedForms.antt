@@ -1,6 +1,6 @@
 -- The first of the forms that cells stand for, and those behind it.
 use Rattle.trac_forms.proofs.Words.{◌≡◌, ◌≢◌, ℕ, ◌+◌, ◌-◌, ◌<◌, ◌≤◌, List, [], ◌∷◌, length, take, drop, map, get_or, slice_range, Some, refl, sym, ap, ◌∙◌, subst, arith, take-length, length-map, length-drop, drop_more, length-between, Form, IsStore, Cell, Byte, Call, Comma, Head, seen}
-use Rattle.trac_forms.proofs.Words.{text_of_cells, flat_forms, form_at, item_of, forms_in, start_of, head_number, head_at, form_of, IsListed, IsForm, character_of-Byte, item_of-cell, forms_in-flat, part-seen, bytes-seen, number-at, stands, pointer-within}
+use Rattle.trac_forms.proofs.Words.{text_of_cells, flat_forms, form_at, item_of, forms_in, start_of, head_number, form_of, IsListed, IsForm, character_of-Byte, item_of-cell, forms_in-flat, part-seen, bytes-seen, number-at, stands, pointer-within}
 use Rattle.trac_forms.proofs.Strings.{name-there, body-there}
 
 item_of-seen : (cells : List Cell) → map item_of (map seen cells) ≡ map item_of cells
@@ -10,11 +10,11 @@ item_of-seen (Head k ∷ cells) = ap (λ items. item_of Comma ∷ items) (item_o
 item_of-seen (cell ∷ cells) = ap (λ items. item_of cell ∷ items) (item_of-seen cells)
 
 -- the cells of a form in the store, and what they are seen as
-module _ (forms : List Form) (store name body : List Cell) (k at n m p : ℕ) (whole : flat_forms forms ≡ store) (within : k < length forms) (begins : at ≡ start_of forms k) (n_is : n ≡ head_at store at) (m_is : m ≡ head_at store (at + 1)) (p_is : p ≡ head_at store (at + 2)) where
+module _ (forms : List Form) (store name body : List Cell) (k at n m p : ℕ) (whole : flat_forms forms ≡ store) (within : k < length forms) (begins : at ≡ start_of forms k) (n_is : n ≡ length (form_at forms k).name) (m_is : m ≡ length (form_at forms k).body) (p_is : p ≡ (form_at forms k).pointer) where
   pub stored-end : at + 3 + n + m ≤ length store
   stored-end =
       let f = stands forms store k at whole within begins in
-      omega (arith, f.end, f.name_len, f.body_len, n_is, m_is)
+      omega (arith, f.end, n_is, m_is)
 
   module _ (named : map seen name ≡ slice_range store (at + 3) (at + 3 + n)) (bodied : map seen body ≡ slice_range store (at + 3 + n) (at + 3 + n + m)) where
     pub stored-form : form_of name body p ≡ form_at forms k
@@ -23,19 +23,17 @@ module _ (forms : List Form) (store name body : List Cell) (k at n m p : ℕ) (w
         let f = stands forms store k at whole within begins in
         let text : text_of_cells name ≡ form.name = sym (bytes-seen name) ∙ ap text_of_cells (named ∙ name-there f n n_is) ∙ character_of-Byte form.name in
         let items : map item_of body ≡ form.body = sym (item_of-seen body) ∙ ap (map item_of) (bodied ∙ body-there f n n_is m m_is) ∙ item_of-cell form.body in
-        let pointer : p ≡ form.pointer = p_is ∙ f.pointer in
-        λ i. record { name = text i; body = items i; pointer = pointer i }
+        λ i. record { name = text i; body = items i; pointer = p_is i }
 
     pub stored-is_form : length store ≤ 16777216 → IsStore forms → IsForm name body p
     stored-is_form bounded sound =
-        let f = stands forms store k at whole within begins in
         let end = stored-end in
         let name_long = ap length named ∙ length-between store (at + 3) (at + 3 + n) (omega (arith, end)) in
         let body_long = ap length bodied ∙ length-between store (at + 3 + n) (at + 3 + n + m) end in
         record {
           name_bounded = omega (arith, end, bounded, name_long, length-map name seen);
           body_bounded = omega (arith, end, bounded, body_long, length-map body seen);
-          pointer_within = omega (arith, body_long, length-map body seen, m_is, f.body_len, p_is, f.pointer, pointer-within forms k sound);
+          pointer_within = omega (arith, body_long, length-map body seen, m_is, p_is, pointer-within forms k sound);
         }
 
 -- the first form stands in its cells, and the others in the rest
@@ -54,9 +52,9 @@ module _ (cells : List Cell) (count n m p : ℕ) (listed : IsListed cells count)
       let long : length store ≡ length cells = length-map cells seen in
       let within : 0 < length forms = omega (arith, listed.forms.count_is, some) in
       let f = stands forms store 0 0 listed.forms.whole within refl in
-      let name_at : n ≡ head_at store 0 = n_is ∙ number-at cells store 0 refl (omega (arith, f.end, long)) in
-      let body_at : m ≡ head_at store 1 = m_is ∙ number-at cells store 1 refl (omega (arith, f.end, long)) in
-      let pointer_at : p ≡ head_at store 2 = p_is ∙ number-at cells store 2 refl (omega (arith, f.end, long)) in
+      let name_at : n ≡ length form.name = n_is ∙ number-at cells store 0 refl (omega (arith, f.end, long)) ∙ f.name_len in
+      let body_at : m ≡ length form.body = m_is ∙ number-at cells store 1 refl (omega (arith, f.end, long)) ∙ f.body_len in
+      let pointer_at : p ≡ form.pointer = p_is ∙ number-at cells store 2 refl (omega (arith, f.end, long)) ∙ f.pointer in
       let e = 3 + n + m in
       let name = slice_range cells 3 (3 + n) in
       let body = slice_range cells (3 + n) e in
@@ -65,7 +63,7 @@ module _ (cells : List Cell) (count n m p : ℕ) (listed : IsListed cells count)
       let here : forms ≡ form ∷ drop 1 forms = drop_more forms 0 (record { name = []; body = []; pointer = 0 }) within in
       let is_form = stored-form forms store name body 0 0 n m p listed.forms.whole within refl name_at body_at pointer_at (part-seen cells 3 (3 + n)) (part-seen cells (3 + n) e) in
       let whole_length : length cells - e ≡ length (drop e store) = omega (arith, length-drop e store, long) in
-      let same_end : e ≡ 0 + (3 + length form.name + length form.body) = omega (arith, name_at, body_at, f.name_len, f.body_len) in
+      let same_end : e ≡ 0 + (3 + length form.name + length form.body) = omega (arith, name_at, body_at) in
       let others : map seen rest ≡ flat_forms (drop 1 forms) =
       part-seen cells e (length cells) ∙ ap (λ k. take k (drop e store)) whole_length ∙ take-length (drop e store)
       ∙ ap (λ k. drop k store) same_end ∙ f.behind in

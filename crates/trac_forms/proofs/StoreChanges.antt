@@ -1,6 +1,6 @@
 -- What `define` and `segment` leave in a store, from what they put there.
 use Rattle.trac_forms.proofs.Words.{◌≡◌, ℕ, ◌+◌, ◌-◌, ◌<◌, ◌≤◌, List, ◌∷◌, [], ◌++◌, length, take, drop, map, set, slice_range, refl, sym, ap, subst, ◌∙◌, arith, length_push, length-append, length-map, length-set, length-take-le, length-drop, take_at, length-between, sum_by_push, items_of}
-use Rattle.trac_forms.proofs.Words.{segment, form_cells, Text, Cell, Head, character_of, Lists, flat_item, flat_form, flat_forms, form_at, name_at, part_text, new_form, IsTextPart, segmented_cells, IsIndexed, IsIndexBut, started, forms_in, head_at, start_of}
+use Rattle.trac_forms.proofs.Words.{segment, form_cells, Text, Cell, Head, character_of, Lists, flat_item, flat_form, flat_forms, form_at, name_at, part_text, new_form, IsTextPart, segmented_cells, IsIndexed, IsIndexBut, started, forms_in, start_of}
 use Rattle.trac_forms.proofs.Words.{NoneNamed, IsStore-push, flat_map_more, IsStored, forms_in-flat, length-flat, length-new_form, flat_items_of, Byte-character_of, stands, start_of-set, IsStore-set, cells-set, index-replaced, flat-segment, regapped, written, length-flat_form}
 use Rattle.trac_forms.proofs.FormTables.{index-set}
 use Rattle.trac_language.specs.declared.item.Item.TheVariants as item
@@ -67,8 +67,8 @@ written-long s t at a b within inside is =
     omega (arith, ap (λ v. length v.store) is, length-append (take at s.store ++ slice_range s.neutral a b) (drop (at + (b - a)) s.store), length-append (take at s.store) (slice_range s.neutral a b), length-take-le at s.store (omega (arith, inside)), length-between s.neutral a b within, length-drop (at + (b - a)) s.store, inside)
 
 -- form k with the characters of a part of neutral as its body, which is as long as the one that it had: they are written over that, and two heads after it
-pub rewritten-stored : (s t u v : Lists) (count last begins k start body a b : ℕ) → IsStored s count last begins → k < length (forms_in s.store) → start ≡ start_of (forms_in s.store) k → body ≡ start + 3 + head_at s.store start → IsTextPart s.neutral a b → b - a ≡ length (form_at (forms_in s.store) k).body → t ≡ record s { store = take body s.store ++ slice_range s.neutral a b ++ drop (body + (b - a)) s.store } → u ≡ record t { store = set t.store (start + 1) (Head (b - a)) } → v ≡ record u { store = set u.store (start + 2) (Head 0) } → (v ≡ record s { store = flat_forms (set (forms_in s.store) k (record (form_at (forms_in s.store) k) { body = items_of (part_text s.neutral a b); pointer = 0 })) }) × IsStored v count k start
-rewritten-stored s t u v count last begins k start body a b h within start_is body_is part same over first second =
+pub rewritten-stored : (s t u v : Lists) (count last begins k start body a b : ℕ) → IsStored s count last begins → k < length (forms_in s.store) → start ≡ start_of (forms_in s.store) k → body ≡ start + 3 + length (form_at (forms_in s.store) k).name → IsTextPart s.neutral a b → b - a ≡ length (form_at (forms_in s.store) k).body → t ≡ record s { store = take body s.store ++ slice_range s.neutral a b ++ drop (body + (b - a)) s.store } → u ≡ record t { store = set t.store (start + 1) (Head (b - a)) } → v ≡ record u { store = set u.store (start + 2) (Head 0) } → (v ≡ record s { store = flat_forms (set (forms_in s.store) k (record (form_at (forms_in s.store) k) { body = items_of (part_text s.neutral a b); pointer = 0 })) }) × IsStored v count k start
+rewritten-stored s t u v count last begins k start body a b h within start_is from_is part same over first second =
     let forms = forms_in s.store in
     let f = stands forms s.store k start h.forms.whole within start_is in
     let form = form_at forms k in
@@ -76,7 +76,6 @@ rewritten-stored s t u v count last begins k start body a b h within start_is bo
     let items = items_of text in
     let new = record form { body = items; pointer = 0 } in
     let size : length items ≡ b - a = length-map text item.Byte ∙ length-map (slice_range s.neutral a b) character_of ∙ length-between s.neutral a b part.within in
-    let from_is : body ≡ start + 3 + length form.name = omega (arith, body_is, f.name_len) in
     let to_is : body + (b - a) ≡ body + length form.body = omega (arith, same) in
     let cells : slice_range s.neutral a b ≡ map flat_item items = sym (flat_items_of text ∙ Byte-character_of (slice_range s.neutral a b) part.bytes) in
     let number : Head (b - a) ≡ Head (length items) = ap (λ n. Head n) (sym size) in

@@ -32,7 +32,7 @@ impl Lent {
         }
     }
 
-    // The memory, if a block of so many bytes may be given of it.
+    // The memory, if a block of `size` bytes may be given of it.
     fn take(&self, size: usize) -> Option<Units>
         ensures { IfSome result (λ units. (size ≤ units.count * 16) × (size % 16 ≡ 0) × (size < 2 ^ 63)) }
     {

@@ -167,7 +167,7 @@ fn status(fate: Fate) -> u8
     fate_status(fate)
 }
 
-// The status after a run with this fate and so many warnings: that of a fault, or 7 if there are any warnings.
+// The status after a run with this fate: that of a fault, or 7 if no fault ended it and there are warnings.
 fn warned_status(fate: Fate, warnings: usize) -> u8
     ensures { result ≡ warned_status fate warnings }
 {

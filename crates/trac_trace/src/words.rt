@@ -154,7 +154,7 @@ fn command<'a>(alloc: Global, name: &'a str) -> Result<Command<'a>, AllocError>
             "The last step to show, 1 to 1000000000000",
         ))?
         .arg(number(alloc, "last", last, "0").help(
-            "So many of the last steps of the view, 0 for all, to 1000000",
+            "How many of the last steps of the view to show, 0 for all, to 1000000",
         ))?
         .arg(number(alloc, "width", width, "100").help(
             "Bytes of a text in a line, 0 for all, to 16777216",

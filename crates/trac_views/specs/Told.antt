@@ -162,7 +162,7 @@ open_text skip width (Head _) cells = []
 abbrev pub skip_behind : ℕ → Cell → ℕ
 skip_behind skip cell = if is_call cell then skip - 1 else skip
 
--- the lines of the open calls, so many of them passed over
+-- the lines of the open calls without the outermost of them, whose number is given
 abbrev pub opened_text : ℕ → ℕ → List Cell → List ℕ
 opened_text skip width [] = []
 opened_text skip width (cell ∷ cells) =

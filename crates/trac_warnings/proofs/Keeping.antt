@@ -27,5 +27,5 @@ on_ok (Err e) P Q f p = p
 -- What the functions that note warnings go by.
 pub ruleset keeping = (kept_same, kept_more, kept_pushed)
 
--- The same of those that say what a warning is.
+-- What the functions that say which warning they note go by.
 pub ruleset saying = (kept_same, kept_more, kept_pushed, said_pushed)

@@ -152,7 +152,7 @@ abbrev pub is_dropped : Option Said → Bool
 is_dropped None = false
 is_dropped (Some said) = tells_dropped said.suspicion
 
--- the same of what was said
+-- whether what was said last is that characters were dropped
 abbrev pub is_dropped_last : List Said → Bool
 is_dropped_last told = is_dropped (slice_get told (length told - 1))
 

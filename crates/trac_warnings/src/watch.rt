@@ -279,7 +279,7 @@ impl<A: Allocator + Copy> Watch<A> {
         }
     }
 
-    // Looks at what a step read, whose value this is, and behind which so many cells are active.
+    // Looks at what a step read: its value, behind which `active` cells stand in the active string.
     fn tell_read(
         &mut self,
         before: &Before,
@@ -430,7 +430,7 @@ impl<A: Allocator + Copy> Watch<A> {
         Ok(())
     }
 
-    // Looks at a call that was performed, behind which the strings have so many cells.
+    // Looks at a call that was performed. Afterwards the strings have `active` and `neutral` cells.
     fn tell_call(
         &mut self,
         before: &Before,
@@ -583,7 +583,7 @@ impl<A: Allocator + Copy> Watch<A> {
         }
     }
 
-    // Looks at a string that was read, with so many characters, and behind which so many cells are active.
+    // Looks at a string of `len` characters that was read, behind which `active` cells are active.
     fn tell_string(
         &mut self,
         before: &Before,

@@ -5,12 +5,12 @@ use trac_core::{Fate, Report};
 use trac_lines::{fault_line, memory_line, status};
 use trac_words::Settings;
 
-/// The settings of a run with so many steps.
+/// The settings of a run that may make this number of steps.
 fn settings(cells: usize, steps: u64) -> Option<Settings> {
     Settings::new(u32::try_from(cells).ok()?, steps, false)
 }
 
-/// A run in so many cells ends with this line and this status.
+/// A run in this number of cells ends with this line and this status.
 fn told(rt: &impl Abort, got: &Ended, cells: usize, steps: u64, line: &str, code: u8) {
     let Some(settings) = settings(cells, steps) else {
         assert!(rt; false, "{line}");

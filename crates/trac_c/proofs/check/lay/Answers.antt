@@ -1,5 +1,5 @@
 use Rattle.trac_c.proofs.Words.{◌++◌, drop, sym, ap, ◌∙◌}
-use Rattle.trac_c.proofs.Laid.{laid-front}
+use Rattle.trac_c.proofs.Buffers.{laid-front}
 use Rattle.trac_c.proofs.check.lay.Goals as goal
 
 pub returns-clause-laid : goal.returns-clause-laid

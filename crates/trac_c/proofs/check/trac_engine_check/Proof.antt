@@ -9,7 +9,7 @@ use Rattle.trac_lent.proofs.units.Units.TheLaws as U'
 use Rattle.trac_lent.specs.contracts.units.Units.from_raw as owner
 use Rattle.trac_lent.proofs.units.Units.from_raw.Met as owner_thm
 use Rattle.trac_c.specs.Checked.{Checked}
-use Rattle.trac_c.specs.Told.{refused}
+use Rattle.trac_c.specs.Reports.{refused}
 use Rattle.trac_c.specs.contracts.report.refused as refusal
 use Rattle.trac_c.proofs.report.refused.Met as refusal_thm
 use Rattle.trac_c.specs.contracts.report.TracReport as T

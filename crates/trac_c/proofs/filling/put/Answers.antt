@@ -1,5 +1,5 @@
 use Rattle.trac_c.proofs.Words.{arith, ◌∷◌, []}
-use Rattle.trac_c.proofs.Laid.{laid-put, laid-behind}
+use Rattle.trac_c.proofs.Buffers.{laid-put, laid-behind}
 use Rattle.trac_c.proofs.filling.put.Goals as goal
 
 pub returns-then-place-room : goal.returns-then-place-room

@@ -1,5 +1,5 @@
 use Rattle.trac_c.proofs.Words.{◌∙◌, arith, character_of}
-use Rattle.trac_c.proofs.Laid.{laid-mapped, laid-enough}
+use Rattle.trac_c.proofs.Buffers.{laid-mapped, laid-enough}
 use Rattle.trac_c.proofs.forms.lay_characters.Goals as goal
 
 pub loop-i-preserved : goal.loop-i-preserved

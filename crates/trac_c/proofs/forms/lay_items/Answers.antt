@@ -1,8 +1,8 @@
 use Rattle.trac_c.proofs.Words.{◌∙◌, ap, arith, item_code}
 use Rattle.std.proofs.lemmas.Option.{slice_get-get_or}
 use Rattle.trac_language.specs.declared.item.Item.TheVariants.{Byte}
-use Rattle.trac_c.specs.Shown.{code_of}
-use Rattle.trac_c.proofs.Laid.{laid-mapped}
+use Rattle.trac_c.specs.Forms.{code_of}
+use Rattle.trac_c.proofs.Buffers.{laid-mapped}
 use Rattle.trac_c.proofs.forms.lay_items.Goals as goal
 
 pub loop-i-preserved : goal.loop-i-preserved

@@ -1,6 +1,6 @@
 use Rattle.trac_c.proofs.Words.{◌≡◌, ◌++◌, length, min, take, drop, sym, ap, ◌∙◌, arith, length-take-le}
 use Rattle.trac_language.specs.Meaning.{show_form}
-use Rattle.trac_c.proofs.Laid.{laid-front}
+use Rattle.trac_c.proofs.Buffers.{laid-front}
 use Rattle.trac_c.proofs.forms.lay_shown.Goals as goal
 
 pub returns-clause-laid : goal.returns-clause-laid

@@ -1,6 +1,6 @@
 -- `trac_engine_again` lends the machine for the call. Assumes `Logic`.
 use Rattle.trac_c.proofs.Walking.{◌≡◌, refl, subst, [], ◌∷◌, ftrue, fsep, full_share, ent, id⊢, tables, unit, uint_vals, uint_Tells, Nothing-Lawful, block_ptr, lies_at, triple_of, framed, w64, vptr, vunit, alloc_all, pass_all, free_all, look_at, get, sets, lands_as, through, ◌$◌, !, drop, feq_i, sem, stop, addr, no_more, and_then, returns, enter, of_opd, unit_lit, MachineState, machine, behind, lent_as, meets_holding, gives, lends}
-use Rattle.trac_c.specs.Kept.{begun_again}
+use Rattle.trac_c.specs.Machines.{begun_again}
 use Rattle.trac_c.specs.contracts.kept.begin_again as on
 use Rattle.trac_c.proofs.kept.begin_again.Met as on_thm
 use Rattle.trac_c.specs.contracts.kept.trac_engine_again as f

@@ -7,7 +7,7 @@ use Rattle.trac_core.specs.contracts.machine.Machine as M
 use Rattle.trac_core.proofs.machine.Machine.TheLaws as M'
 use Rattle.trac_core.specs.contracts.machine.Machine.over as over
 use Rattle.trac_core.proofs.machine.Machine.over.Met as over_thm
-use Rattle.trac_c.specs.Kept.{Opening, opened_by}
+use Rattle.trac_c.specs.Machines.{Opening, opened_by}
 use Rattle.trac_c.specs.contracts.kept.trac_engine_open as f
 use Rattle.trac_c.proofs.Blocks.{most_cells, block_as, fills}
 use Rattle.trac_c.proofs.run.fill.Met as fill_thm

@@ -1,6 +1,6 @@
 -- `trac_engine_turn` lends the machine for the turn. Assumes `Logic`.
 use Rattle.trac_c.proofs.Walking.{ℕ, refl, List, [], ◌∷◌, full_share, id⊢, ex_i, tables, u8, uint_vals, uint_Tells, block_ptr, lies_at, Bor, MutBor, mut_slice_vals, mut_slice_Tells, shr_slice_vals, shr_slice_Tells, lasts_of, triple_of, framed, w32, w64, named, vptr, alloc_all, pass_all, free_all, look_at, look_in_at, get, get_in, sets, lands_as, through, ◌$◌, !, sem, agg, whole, sub, stop, fld, hop, from, addr, no_more, and_then, returns, enter, of_opd, MachineState, machine, behind, lent_as, meets_holding, gives, lends}
-use Rattle.trac_c.specs.Turned.{TurnedOrOver, is_ended}
+use Rattle.trac_c.specs.Turns.{TurnedOrOver, is_ended}
 use Rattle.trac_c.specs.contracts.report.TracReport as T
 use Rattle.trac_c.proofs.report.TracReport.TheLaws as T'
 use Rattle.trac_c.specs.contracts.turn.take_turn as on

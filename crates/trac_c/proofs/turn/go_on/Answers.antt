@@ -1,6 +1,6 @@
 use Rattle.trac_c.proofs.Words.{◌≡◌, ◌+◌, ◌-◌, ◌∙◌, ap, subst, arith, stands, stream_in, moment, Went}
 use Rattle.std.proofs.lemmas.Grind.{common_steps}
-use Rattle.trac_c.specs.Turned.{TurnsTo, written_to}
+use Rattle.trac_c.specs.Turns.{TurnsTo, written_to}
 use Rattle.trac_c.proofs.Alone.{goes-on, goes-further, ends-on, ends-full, is-going}
 use Rattle.trac_c.proofs.turn.go_on.Goals as goal
 

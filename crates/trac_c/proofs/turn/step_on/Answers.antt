@@ -5,7 +5,7 @@ use Rattle.std.proofs.lemmas.Bool.{and_left, and_right}
 use Rattle.std.proofs.lemmas.Grind.{common_steps}
 use Rattle.trac_language.specs.declared.fate.Fate.TheVariants.{InputFailed, OutputFailed}
 use Rattle.trac_core.specs.Machine.{MachineState, Answers, input_failures, output_failures}
-use Rattle.trac_c.specs.Turned.{written_to}
+use Rattle.trac_c.specs.Turns.{written_to}
 use Rattle.trac_c.proofs.Again.{prints-none}
 use Rattle.trac_c.proofs.Alone.{is-going}
 use Rattle.trac_c.proofs.Waiting.{may-get-more}

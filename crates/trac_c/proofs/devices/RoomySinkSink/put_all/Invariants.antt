@@ -1,5 +1,5 @@
 use Rattle.trac_c.proofs.Words.{◌≡◌, ◌++◌, length, take}
-use Rattle.trac_c.specs.Turned.{written_to}
+use Rattle.trac_c.specs.Turns.{written_to}
 use Rattle.trac_c.proofs.devices.RoomySinkSink.put_all.Given as goal
 
 -- the characters so far were written

@@ -1,12 +1,6 @@
 use Rattle.trac_forms.proofs.Words.{◌+◌, ◌≤◌, length, ap, ◌∙◌, arith, IsSound, part_text, defined-last}
-use Rattle.trac_forms.proofs.Strings.{known, used-stored}
+use Rattle.trac_forms.proofs.Strings.{used-stored}
 use Rattle.trac_forms.proofs.work.Work.replace_last.Goals as goal
-
-pub write_body-requires-clause-same : goal.write_body-requires-clause-same
-write_body-requires-clause-same c =
-    let found = rw c.in-Some.is at c.requires.found in
-    let f = known c.self.invariant c.self.view_is found.named.within found.start_is in
-    rw (← c.self.view_is) (omega (arith, f.body_len, c.head.ensures, c.if-head-len.false))
 
 pub returns-clause-fits : goal.returns-clause-fits
 returns-clause-fits c = λ _.

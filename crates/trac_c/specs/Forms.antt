@@ -21,7 +21,7 @@ abbrev pub item_code : Item → ℕ
 item_code (Byte c) = c
 item_code (Gap k) = min (k + 255) 4294967295
 
--- the same of an item that may be missing, which has 0
+-- the code of an item, 0 where it is missing
 abbrev pub code_of : Option Item → ℕ
 code_of None = 0
 code_of (Some item) = item_code item

@@ -13,7 +13,7 @@ use Rattle.trac_core.specs.declared.machine.session.Awaits.TheVariants.{Nothing,
 use Rattle.trac_core.specs.declared.machine.session.Awaits.TheVariants.{Text as AwaitsText}
 use Rattle.trac_core.specs.Machine.{MachineState, Moment, moment, ending, state_with, GoesOn, Answers}
 use Rattle.trac_core.specs.Session.{awaited, next_function, next_printed}
-use Rattle.trac_c.specs.Told.{number}
+use Rattle.trac_c.specs.Reports.{number}
 use Rattle.trac_c.specs.Held.{listed}
 use Rattle.trac_c.specs.declared.devices.GivenSource.{GivenSource}
 use Rattle.trac_c.specs.declared.devices.RoomySink.{RoomySink}
