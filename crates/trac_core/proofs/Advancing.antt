@@ -1,11 +1,14 @@
 -- Steps that need no device, one after the other.
-use Rattle.trac_core.proofs.Words.{◌≡◌, ℕ, zero, suc, ◌+◌, ◌<◌, ◌≤◌, max, Option, Some, None, refl, sym, ap, ◌∙◌, subst, arith, ◌⊎◌, ⊎_elim, inl, inr, min, cases_lt, Function, Fate, Halted, InputEnded, Workspace, Steps, InputFailed, OutputFailed, Memory, size, Contents, used, IsSound, memory_of, MachineState, counted, Passes, PassesTimes, peak_after, passed, running, KeepsFormsAndMeta, TriedAlone, StepsAlone, GoesAlone, EndsAlone, NeedsMore, Advanced, Advances, advanced_to}
+use Rattle.trac_core.proofs.Words.{◌≡◌, ℕ, zero, suc, ◌+◌, ◌<◌, ◌≤◌, max, Option, Some, None, refl, sym, ap, ◌∙◌, subst, arith, ◌⊎◌, ⊎_elim, inl, inr, min, cases_lt, [], cells, scene, Tried, Function, Fate, Halted, InputEnded, Workspace, Steps, InputFailed, OutputFailed, Memory, size, Contents, used, IsSound, memory_of, MachineState, counted, Passes, PassesTimes, peak_after, passed, running, KeepsFormsAndMeta, TriedAlone, StepsAlone, GoesAlone, EndsAlone, NeedsMore, Advanced, Advances, advanced_to}
 use Rattle.trac_functions.proofs.FlatLemmas.{size-used}
 use Rattle.trac_core.specs.declared.machine.Counters.{Counters}
 use Rattle.trac_core.specs.declared.machine.advancing.Advance.{Advance}
 use Rattle.trac_core.proofs.Performed.{unperformed}
 use Rattle.trac_core.proofs.Moments.{one_passed, goes_on-passes, peak_after-same}
-use Rattle.trac_core.proofs.StepsInRow.{peak-some}
+use Rattle.trac_core.proofs.StepsInRow.{peak-some, tried-scanned}
+use Rattle.trac_core.proofs.Scanning.{scans-idling}
+use Rattle.trac_core.specs.StepsInRow.{idling_begun, idling_loaded}
+use Rattle.trac_core.proofs.Idling.{idling-advances, idling-sound}
 use Rattle.trac_core.proofs.RunningOn.{IsNeed}
 
 -- the counters after so many steps, with this peak
@@ -104,6 +107,23 @@ module _ (start : MachineState) (w new : Contents) (meta : ℕ) (at : Counters) 
       let same : last ≡ advanced_to new after at told = counted-parts m (memory_of after new) need fate ∙ (λ i. record (advanced_to new after at told) { room = sym stays i }) in
       let whole : Advanced most told.progress.done start (advanced_to new after at told) = (m, (goes, (few, subst (EndsAlone m fate) same ends))) in
       subst (λ (to : Advance). Advanced most to.progress.done start (advanced_to new after at to)) (sym is) whole
+
+module _ (start : MachineState) (w new : Contents) (meta : ℕ) (at : Counters) (k peak : ℕ) where
+  -- the idling procedure is loaded, and its calls are opened
+  pub alone-idling : (need top all : ℕ) → IsSound w → w.active ≡ [] → cells w.forms + 11 ≤ w.room → new ≡ idling_begun w → at.steps + (k + 8) ≤ at.allowance → need ≡ cells w.forms + 11 → top ≡ max peak need → all ≡ k + 8 → GoesAlone k start (running w meta (counters_after at k peak)) → GoesAlone all start (running new meta (counters_after at all top))
+  alone-idling need top all sound none fits is within need_is top_is all_is goes =
+      let middle = idling_loaded w in
+      let loads = scans-idling w none in
+      let tried : TriedAlone w meta None need middle meta = record {
+        alone = unperformed (memory_of meta w) (loads.no_call meta);
+        tried = λ source written. subst (λ n. Tried (scene w meta source written) None n (scene middle meta source written)) (sym need_is)
+            (tried-scanned None w middle (cells w.forms + 11) loads fits meta source written);
+        none_failed = (λ e. absurd cc, λ e. absurd cc, λ e. absurd cc);
+        keeps = λ some. absurd (some refl);
+      } in
+      let loaded = alone-step start w middle meta at k peak meta need top (suc k) refl (omega arith) tried top_is refl goes in
+      let begun = alone-run start middle (idling_begun w) meta at (suc k) top 7 need top all refl (idling-sound w sound fits) (omega arith) (omega arith) (idling-advances w) (inl (omega arith)) (omega arith) (omega arith) loaded in
+      subst (λ (w : Contents). GoesAlone all start (running w meta (counters_after at all top))) (sym is) begun
 
 -- the less of two numbers is one of them
 pub least-of : (a b n : ℕ) → n ≡ min a b → (n ≡ a) ⊎ (n ≡ b)

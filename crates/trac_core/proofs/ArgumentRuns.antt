@@ -1,8 +1,8 @@
 -- Runs of ordinary characters and commas in a call: each is added or begins an argument.
 use Rattle.trac_core.proofs.Words.{◌≡◌, ℕ, zero, suc, ◌<◌, ◌≤◌, ◌+◌, Bool, true, false, List, [], ◌∷◌, ◌++◌, length, take, drop, map, All, Some, slice_get, get_or, refl, sym, ap, ◌∙◌, subst, arith, append_assoc, append-nil, length-append, ⊎_elim, inl, inr, ◌==◌, ◌⊎◌, if◌then◌else◌, range_with_len, ne_eqb, eqb-true, cases_lt, get_or_past, get_or_append_left, drop-append-le, get_or-map-range_with_len, length-map-range_with_len, All-head, All-tail, All-push, drop-append-add, Cell, Byte, Comma, IsLastCall, is_call, IsNoCall, NoComma, text_of_cells, character_of, IsByte, turned, Contents, used, memory_of, Scans, is_special, kind_of, IsOrdinary, IsPlainFrom, PassesTimes}
 use Rattle.trac_space.specs.Runs.{IsInRun, number_in, turned_by}
-use Rattle.trac_core.proofs.Scanning.{scans-other, scans-comma}
-use Rattle.trac_core.proofs.StepsInRow.{passes-scans, ordinary-layout, ordinary-not}
+use Rattle.trac_core.proofs.Scanning.{scans-comma}
+use Rattle.trac_core.proofs.StepsInRow.{passes-scans, scans-ordinary}
 
 -- a number over 255 has no rule of its own
 kind-past : (c : ℕ) → 256 ≤ c → kind_of c ≡ 0
@@ -35,7 +35,7 @@ scans-run w c place first last less =
     (λ ordinary.
     let stays : turned_by (map kind_of (range_with_len 0 256)) (Byte c) ≡ Byte c = ap (λ n. if n == 0 then Byte c else Comma) (number-kind c ∙ ordinary.1) in
     subst (λ cell. Scans w (record w { active = drop 1 w.active; neutral = w.neutral ++ cell ∷ [] }) (used w)) (sym stays)
-    (scans-other w c first (ordinary-layout c ordinary.0) (ordinary-not c 40 ordinary.0 refl) (ordinary-not c 41 ordinary.0 refl) (ordinary-not c 44 ordinary.0 refl) (ordinary-not c 35 ordinary.0 refl)))
+    (scans-ordinary w c first ordinary.0))
     (λ comma.
     let turns : turned_by (map kind_of (range_with_len 0 256)) (Byte c) ≡ Comma = ap (λ n. if n == 0 then Byte c else Comma) (number-kind c ∙ comma.1) in
     subst (λ cell. Scans w (record w { active = drop 1 w.active; neutral = w.neutral ++ cell ∷ [] }) (used w)) (sym turns)

@@ -1,10 +1,13 @@
 -- A run of a machine whose parts stand apart, turn by turn beside the run of the definition.
-use Rattle.trac_core.proofs.Words.{◌≡◌, ◌≢◌, ℕ, ◌+◌, ◌-◌, ◌<◌, ◌≤◌, max, ◌⊎◌, inl, inr, ◌++◌, Some, None, refl, sym, ap, ◌∙◌, subst, arith, Fate, Steps, Text, size, Stream, Contents, used, IsSound, memory_of, Report, scene, Tried, MachineState, moment, counted, Resumes, KeepsFormsAndMeta, LeavesMemory, Advances, peak_after, passed, running}
+use Rattle.trac_core.proofs.Words.{◌≡◌, ◌≢◌, ℕ, ◌+◌, ◌-◌, ◌<◌, ◌≤◌, max, ◌⊎◌, inl, inr, [], ◌++◌, cells, Some, None, refl, sym, ap, ◌∙◌, subst, arith, Fate, Steps, Text, size, Stream, Contents, used, IsSound, memory_of, Report, scene, Tried, MachineState, moment, counted, Resumes, KeepsFormsAndMeta, LeavesMemory, Advances, peak_after, passed, running}
 use Rattle.trac_functions.proofs.FlatLemmas.{size-used}
 use Rattle.trac_core.specs.declared.machine.Counters.{Counters}
 use Rattle.trac_core.proofs.Moments.{OnCourse, course-more, course-passes}
 use Rattle.trac_core.proofs.Reported.{reported, left-behind, report_of, course_to}
-use Rattle.trac_core.proofs.StepsInRow.{passes-smaller, peak-some}
+use Rattle.trac_core.proofs.StepsInRow.{passes-smaller, peak-some, tried-scanned}
+use Rattle.trac_core.proofs.Scanning.{scans-idling}
+use Rattle.trac_core.specs.StepsInRow.{idling_begun, idling_loaded}
+use Rattle.trac_core.proofs.Idling.{idling-advances, idling-sound}
 
 -- the counters where so many steps are left
 abbrev pub with_left : (allowance left peak : ℕ) → Counters
@@ -84,3 +87,16 @@ module _ (start : MachineState) (bytes before : Text) (w new : Contents) (meta a
       let told = reported start bytes before (moment m source written) (moment (counted m m.memory 0 (Some Steps)) source written) room_is allowance_is course Steps
       (record { used_up = all; memory = refl; counts = record { steps = omega arith; peak = omega arith }; source = refl; written = refl }) in
       subst (λ n. Resumes start Steps (course_to start bytes before (moment start source written)) (record { fate = Steps; steps = n; peak = peak })) all told
+
+module _ (start : MachineState) (bytes before : Text) (w new : Contents) (meta allowance left peak : ℕ) (room_is : w.room ≡ start.room) (few : left ≤ allowance) where
+  -- the idling procedure is loaded, and its calls are opened
+  pub course-idling : (need top : ℕ) (source : Stream) (written : Text) → IsSound w → w.active ≡ [] → cells w.forms + 11 ≤ w.room → new ≡ idling_begun w → 8 ≤ left → need ≡ cells w.forms + 11 → top ≡ max peak need → OnCourse start bytes before (moment (running w meta (with_left allowance left peak)) source written) → OnCourse start bytes before (moment (running new meta (with_left allowance (left - 8) top)) source written)
+  course-idling need top source written sound none fits is some need_is top_is course =
+      let middle = idling_loaded w in
+      let loads = scans-idling w none in
+      let tried = tried-scanned None w middle (cells w.forms + 11) loads fits meta source written in
+      let loaded = course-step start bytes before w middle meta allowance left peak room_is few meta (cells w.forms + 11) top [] source source written written refl (omega arith) (top_is ∙ ap (max peak) need_is) refl tried course in
+      let begun = course-run start bytes before middle (idling_begun w) meta allowance (left - 1) top room_is (omega arith) 7 (cells w.forms + 11) top source written refl (idling-sound w sound fits) (omega arith) (omega arith) (idling-advances w) (inl (omega arith)) (omega arith) loaded in
+      let steps : left - 1 - 7 ≡ left - 8 = omega arith in
+      subst (λ (w : Contents). OnCourse start bytes before (moment (running w meta (with_left allowance (left - 8) top)) source written)) (sym is)
+      (subst (λ n. OnCourse start bytes before (moment (running (idling_begun w) meta (with_left allowance n top)) source written)) steps begun)

@@ -15,6 +15,11 @@ ordinary-layout c h = go (is_layout c) (c == 35) (c == 40) (c == 41) (c == 44) h
 pub ordinary-not : (c b : ℕ) → IsOrdinary c → is_special b ≡ true → c ≢ b
 ordinary-not c b h special e = let f : is_special b ≡ false = subst IsOrdinary e h in cc
 
+-- an ordinary character is added
+pub scans-ordinary : (old : Contents) (c : ℕ) → slice_get (text_of_cells old.active) 0 ≡ Some c → IsOrdinary c → Scans old (record old { active = drop 1 old.active; neutral = old.neutral ++ Byte c ∷ [] }) (used old)
+scans-ordinary old c first h =
+    scans-other old c first (ordinary-layout c h) (ordinary-not c 40 h refl) (ordinary-not c 41 h refl) (ordinary-not c 44 h refl) (ordinary-not c 35 h refl)
+
 -- a step over the contents of a workspace, as one over the memory that they stand for
 pub passes-scans : (meta : ℕ) (old new : Contents) → Scans old new (used old) → used new ≤ used old → Passes (memory_of meta old) (memory_of meta new)
 passes-scans meta old new scans same =
@@ -40,7 +45,7 @@ characters-pass meta n w = go n w w.active
         let special = All-head IsOrdinary c (take n (text_of_cells rest)) ordinary in
         let old : Contents = record w { active = Byte c ∷ rest } in
         let next : Contents = record w { active = rest; neutral = w.neutral ++ Byte c ∷ [] } in
-        let scans = scans-other old c refl (ordinary-layout c special) (ordinary-not c 40 special refl) (ordinary-not c 41 special refl) (ordinary-not c 44 special refl) (ordinary-not c 35 special refl) in
+        let scans = scans-ordinary old c refl special in
         let pushed = length-append w.neutral (Byte c ∷ []) in
         let others = go n next rest (All-tail IsByte (Byte c) rest bytes) (omega arith) (All-tail IsOrdinary c (take n (text_of_cells rest)) ordinary) in
         let same : used next ≤ used old = omega arith in

@@ -1,15 +1,18 @@
 -- Steps that perform no call in a row, which are done at once.
 use Rattle.std.specs.Prelude.{◌≡◌, ℕ, zero, suc, max, Bool, true, false, ◌||◌, ◌==◌, ◌+◌, ◌<◌, ◌≤◌}
-use Rattle.std.specs.Prelude.{if◌then◌else◌, length, List, [], drop, Some, None, Result, Ok, Err, slice_get}
+use Rattle.std.specs.Prelude.{if◌then◌else◌, length, List, [], ◌∷◌, ◌++◌, drop, Some, None, Result}
+use Rattle.std.specs.Prelude.{Ok, Err, slice_get, codes}
+use Rattle.trac_language.specs.declared.mode.Mode.TheVariants.{Active}
 use Rattle.trac_language.specs.Text.{Text}
 use Rattle.trac_language.specs.State.{Input, Memory, size}
 use Rattle.trac_language.specs.Rule.{is_layout}
-use Rattle.trac_language.specs.Step.{Next, step, need}
+use Rattle.trac_language.specs.Step.{Next, idling, step, need}
 use Rattle.trac_laws.specs.LastRead.{reads_to_end}
 use Rattle.trac_space.specs.declared.cell.Cell.{Cell}
+use Rattle.trac_space.specs.declared.cell.Cell.TheVariants.{Call, Comma}
 use Rattle.trac_space.specs.Calls.{IsLastCall}
 use Rattle.trac_space.specs.Cells.{NoComma}
-use Rattle.trac_space.specs.Texts.{text_of_cells, character_of}
+use Rattle.trac_space.specs.Texts.{text_of_cells, character_of, flat_text}
 use Rattle.trac_forms.specs.Contents.{Contents}
 use Rattle.trac_functions.specs.Flat.{memory_of}
 use Rattle.trac_core.specs.declared.scan.Pending.{Pending}
@@ -86,6 +89,20 @@ AsksFor (EndOfCall call) w =
 abbrev pub ComesTo : Result ℕ Pending → ℕ → Contents → Contents → Type 0
 ComesTo (Ok n) most old new = SomeSteps n most old new
 ComesTo (Err front) most old new = (new ≡ old) × AsksFor front old
+
+-- the idling procedure is loaded
+abbrev pub idling_loaded : Contents → Contents
+idling_loaded w = record w { neutral = []; active = flat_text idling }
+
+-- the idling procedure up to the right parentheses, with its two calls open and their names scanned
+abbrev pub idling_begun : Contents → Contents
+idling_begun w =
+    record w {
+      neutral =
+          Call Active 0 ∷ flat_text (codes "ps")
+          ++ Comma ∷ Call Active 0 ∷ flat_text (codes "rs");
+      active = flat_text (codes "))");
+    }
 
 -- the peak after so many steps, of which the first needs this many cells and none needs more
 abbrev pub peak_after : ℕ → ℕ → ℕ → ℕ

@@ -15,7 +15,9 @@ ghost use Rattle.trac_functions.specs.Calls.{KeepsRoom};
 ghost use Rattle.trac_functions.specs.Flat.{memory_of};
 
 use crate::call::perform_pending;
-use crate::scan::{Attempt, scan_once, scan_steps};
+use crate::scan::{
+    Attempt, IDLING_STEPS, Pending, begin_idling, may_begin_idling, scan_once, scan_steps,
+};
 use std::marker::Model;
 use trac_devices::{Sink, Source};
 use trac_forms::Work;
@@ -282,6 +284,13 @@ fn run_to_end<I: Source, O: Sink>(
             Ok(done) => {
                 left -= done;
                 peak = peak.max(need);
+            }
+            Err(Pending::Idling) if may_begin_idling(work, left) => {
+                peak = peak.max(begin_idling(work));
+                left -= IDLING_STEPS;
+                need = work.used();
+                plain = work.neutral_len();
+                long = 0;
             }
             Err(pending) => {
                 let last = perform_pending(work, pending, meta, source, sink);

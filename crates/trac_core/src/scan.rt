@@ -7,6 +7,9 @@ ghost use Rattle.trac_forms.specs.Contents.{used, IsSound};
 ghost use Rattle.trac_core.specs.Attempts.{Scans, Scanned, NoneFailed};
 ghost use Rattle.trac_core.specs.StepsInRow.{IsOrdinary, IsLayout, Advances, SomeSteps};
 ghost use Rattle.trac_core.specs.StepsInRow.{ComesTo, AsksFor, IsPlainFrom, KeepsPlain, kind_of};
+ghost use Rattle.trac_core.specs.StepsInRow.{idling_begun, idling_loaded};
+ghost use Rattle.std.specs.Bool.{OnTrue, OnFalse};
+ghost use Rattle.trac_language.specs.Store.{cells};
 ghost use Rattle.trac_core.specs.Rules.{Begins, Opens};
 ghost use Rattle.trac_space.specs.Calls.{IsLastCall};
 ghost use Rattle.trac_functions.specs.Calls.{KeepsRoom};
@@ -21,6 +24,9 @@ use trac_space::{Cell, byte_in};
 /// The idling procedure, which reads and scans a string and
 /// prints what is left of it (Mooers 1966).
 const IDLING: &[u8; 11] = b"#(ps,#(rs))";
+
+/// How many steps `begin_idling` makes.
+pub(crate) const IDLING_STEPS: u64 = 8;
 
 // Up to this many characters of a run in a call are moved as they are looked at; a longer run is long.
 // Up to twelve, the compiler makes code without a loop.
@@ -327,8 +333,7 @@ pub(crate) fn load_idling(work: &mut Work) -> Attempt
     ensures fits { result.need ≤ work.old.room }
     ensures keeps { KeepsRoom work.old work.new }
 {
-    work.clear_neutral();
-    if work.load_active(IDLING) {
+    if load_procedure(work) {
         Attempt {
             fate: None,
             need: work.used(),
@@ -339,6 +344,52 @@ pub(crate) fn load_idling(work: &mut Work) -> Attempt
             need: 0,
         }
     }
+}
+
+/// The neutral string is cleared, and the idling procedure becomes the active string, which is empty,
+/// if there are cells for it.
+#[inline(always)]
+fn load_procedure(work: &mut Work) -> bool
+    requires { work.old.active ≡ [] }
+    ensures loaded { IsTrue result ↔ (cells work.old.forms + 11 ≤ work.old.room) }
+    ensures procedure { OnTrue result (work.new ≡ idling_loaded work.old) }
+    ensures full { OnFalse result (work.new ≡ record work.old { neutral = [] }) }
+    ensures keeps { KeepsRoom work.old work.new }
+{
+    work.clear_neutral();
+    work.load_active(IDLING)
+}
+
+/// Whether `most` steps and the room are enough for `begin_idling`. The active string is empty.
+#[inline(always)]
+pub(crate) fn may_begin_idling(work: &Work, most: u64) -> bool
+    requires { work.now.active ≡ [] }
+    ensures { IsTrue result ↔ (8 ≤ most) × (cells work.now.forms + 11 ≤ work.now.room) }
+{
+    most >= IDLING_STEPS && work.free() + work.neutral_len() >= 11
+}
+
+/// The active string is empty. Makes eight steps: the idling procedure is loaded, and its two calls
+/// are opened and their names scanned. Gives the cells that the first of these steps needs; the others
+/// need no more.
+#[inline(never)]
+pub(crate) fn begin_idling(work: &mut Work) -> u32
+    requires empty { work.old.active ≡ [] }
+    requires room { cells work.old.forms + 11 ≤ work.old.room }
+    ensures begun { work.new ≡ idling_begun work.old }
+    ensures need { result ≡ cells work.old.forms + 11 }
+    ensures keeps { KeepsRoom work.old work.new }
+{
+    load_procedure(work);
+    let need = work.used();
+    work.active_to_cell(2, Cell::Call(Mode::Active, 0));
+    work.active_to_cell(1, Cell::Byte(b'p'));
+    work.active_to_cell(1, Cell::Byte(b's'));
+    work.active_to_cell(1, Cell::Comma);
+    work.active_to_cell(2, Cell::Call(Mode::Active, 0));
+    work.active_to_cell(1, Cell::Byte(b'r'));
+    work.active_to_cell(1, Cell::Byte(b's'));
+    need
 }
 
 /// The text between a left parenthesis and its match is added unscanned; where there is no match

@@ -9,7 +9,7 @@ ghost use Rattle.trac_core.specs.Session.{next_function};
 
 use super::{Counters, Machine, ended};
 use crate::call::perform_pending_alone;
-use crate::scan::scan_steps;
+use crate::scan::{IDLING_STEPS, Pending, begin_idling, may_begin_idling, scan_steps};
 use trac_forms::Work;
 use trac_language::{Fate, Function};
 
@@ -105,6 +105,13 @@ fn go_alone(work: &mut Work, meta: &mut u8, plain: u32, at: Counters, most: u64)
             Ok(done) => {
                 left -= done;
                 peak = peak.max(need);
+            }
+            Err(Pending::Idling) if may_begin_idling(work, left) => {
+                peak = peak.max(begin_idling(work));
+                left -= IDLING_STEPS;
+                need = work.used();
+                plain = work.neutral_len();
+                long = 0;
             }
             Err(pending) => {
                 let last = match perform_pending_alone(work, pending, meta) {

@@ -1,6 +1,7 @@
-use Rattle.trac_core.proofs.Words.{◌≡◌, ◌-◌, Some, None, refl, sym, ap, ◌∙◌, subst, arith, inl, length-drop, Contents, memory_of, scene, Tried, moment, input_failures, output_failures, running}
+use Rattle.trac_core.proofs.Words.{◌≡◌, ◌≤◌, ◌+◌, ◌-◌, Some, None, cells, AsksFor, refl, sym, ap, ◌∙◌, subst, arith, inl, length-drop, Contents, memory_of, scene, Tried, moment, input_failures, output_failures, running}
+use Rattle.trac_core.specs.StepsInRow.{idling_begun}
 use Rattle.trac_core.proofs.Moments.{OnCourse, course-none}
-use Rattle.trac_core.proofs.RunningOn.{with_left, need-fits, need-counted, course-run, course-step, ends-step, leaves-step, ends-allowance, leaves-allowance}
+use Rattle.trac_core.proofs.RunningOn.{with_left, need-fits, need-counted, course-run, course-step, course-idling, ends-step, leaves-step, ends-allowance, leaves-allowance}
 use Rattle.trac_core.proofs.Sending.{sent-more}
 use Rattle.trac_core.proofs.machine.run_to_end.Goals as goal
 
@@ -54,6 +55,38 @@ loop-left-preserved-in-Ok g c =
       course = λ told_source told_sink.
           course-run (running c.args.work.now c.args.meta.now c.args.at) (g.I.Source.stream c.args.source.now).bytes (g.O.Sink.written c.args.sink.now) old new c.loop-left.meta c.args.at.allowance c.loop-left.left c.loop-left.peak i.room (omega arith)
           c.in-Ok.done c.loop-left.need c.max-peak.result (g.I.Source.stream c.loop-left.source) (g.O.Sink.written c.loop-left.sink) h.keeps.room i.sound within some.some some.passes i.need c.max-peak.ensures (i.course told_source told_sink);
+    }
+
+pub loop-left-preserved-then-may_begin_idling : goal.loop-left-preserved-then-may_begin_idling
+loop-left-preserved-then-may_begin_idling g c =
+    let i = c.loop-left.invariant in
+    let same = c.in-Err-Idling.ensures.comes.0 in
+    let none = subst (λ pending. AsksFor pending c.loop-left.work) c.in-Err-Idling.field-0-is c.in-Err-Idling.ensures.comes.1 in
+    let may = c.if-may_begin_idling.ensures.0 refl in
+    let h = c.begin_idling.ensures in
+    let len = c.neutral_len-plain-in-Err-Idling.ensures.value in
+    let peak_is = c.max-peak-in-Err-Idling.ensures in
+    let old = c.loop-left.work in
+    let new = c.begin_idling.new.work in
+    let fits = subst (λ (w : Contents). cells w.forms + 11 ≤ w.room) same may.1 in
+    let begun = subst (λ (w : Contents). new ≡ idling_begun w) same h.begun in
+    let need = subst (λ (w : Contents). c.begin_idling.result ≡ cells w.forms + 11) same h.need in
+    record {
+      few = omega arith;
+      sound = h.keeps.sound;
+      room = h.keeps.room ∙ c.in-Err-Idling.ensures.keeps.room ∙ i.room;
+      plain = λ k d within. absurd (omega (arith, len, length-drop c.neutral_len-plain-in-Err-Idling.result new.neutral));
+      peak = omega (arith, h.keeps.room, c.in-Err-Idling.ensures.keeps.room, i.peak, peak_is, fits, need);
+      need = inl c.used-need-in-Err-Idling.ensures.value;
+      source_failures = i.source_failures;
+      sink_failures = i.sink_failures;
+      kept = i.kept;
+      told_source = i.told_source;
+      told_sink = i.told_sink;
+      sent = i.sent;
+      course = λ told_source told_sink.
+          course-idling (running c.args.work.now c.args.meta.now c.args.at) (g.I.Source.stream c.args.source.now).bytes (g.O.Sink.written c.args.sink.now) old new c.loop-left.meta c.args.at.allowance c.loop-left.left c.loop-left.peak i.room (omega arith)
+          c.begin_idling.result c.max-peak-in-Err-Idling.result (g.I.Source.stream c.loop-left.source) (g.O.Sink.written c.loop-left.sink) i.sound none fits begun may.0 need peak_is (i.course told_source told_sink);
     }
 
 pub returns-in-Some : goal.returns-in-Some

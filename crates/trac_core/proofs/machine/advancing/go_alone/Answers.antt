@@ -1,6 +1,7 @@
-use Rattle.trac_core.proofs.Words.{◌≡◌, ◌⊎◌, ◌-◌, refl, sym, ap, ◌∙◌, subst, arith, inl, inr, None, Some, length-drop, Contents, memory_of, TriedAlone, NeedsMore, GoesAlone, running}
+use Rattle.trac_core.proofs.Words.{◌≡◌, ◌⊎◌, ◌≤◌, ◌+◌, ◌-◌, cells, AsksFor, refl, sym, ap, ◌∙◌, subst, arith, inl, inr, None, Some, length-drop, Contents, memory_of, TriedAlone, NeedsMore, GoesAlone, running}
+use Rattle.trac_core.specs.StepsInRow.{idling_begun}
 use Rattle.trac_core.proofs.RunningOn.{need-fits, need-counted}
-use Rattle.trac_core.proofs.Advancing.{counters_after, alone-run, alone-step, alone-stays, alone-ends, least-of}
+use Rattle.trac_core.proofs.Advancing.{counters_after, alone-run, alone-step, alone-idling, alone-stays, alone-ends, least-of}
 use Rattle.trac_core.proofs.machine.advancing.go_alone.Goals as goal
 
 pub loop-left-preserved-in-Ok : goal.loop-left-preserved-in-Ok
@@ -25,6 +26,33 @@ loop-left-preserved-in-Ok c =
           c.in-Ok.done c.loop-left.need c.max-peak.result (c.min-reach.result - (c.loop-left.left - c.in-Ok.done)) h.keeps.room i.sound (omega (arith, i.allowed, i.few)) some.some some.passes i.need c.max-peak.ensures (omega (arith, i.few)) i.goes;
     }
 
+pub loop-left-preserved-then-may_begin_idling : goal.loop-left-preserved-then-may_begin_idling
+loop-left-preserved-then-may_begin_idling c =
+    let i = c.loop-left.invariant in
+    let same = c.in-Err-Idling.ensures.comes.0 in
+    let none = subst (λ pending. AsksFor pending c.loop-left.work) c.in-Err-Idling.field-0-is c.in-Err-Idling.ensures.comes.1 in
+    let may = c.if-may_begin_idling.ensures.0 refl in
+    let h = c.begin_idling.ensures in
+    let len = c.neutral_len-plain.ensures.value in
+    let peak_is = c.max-peak-in-Err-Idling.ensures in
+    let old = c.loop-left.work in
+    let new = c.begin_idling.new.work in
+    let fits = subst (λ (w : Contents). cells w.forms + 11 ≤ w.room) same may.1 in
+    let begun = subst (λ (w : Contents). new ≡ idling_begun w) same h.begun in
+    let need = subst (λ (w : Contents). c.begin_idling.result ≡ cells w.forms + 11) same h.need in
+    record {
+      few = omega arith;
+      allowed = i.allowed;
+      wanted = i.wanted;
+      sound = h.keeps.sound;
+      room = h.keeps.room ∙ c.in-Err-Idling.ensures.keeps.room ∙ i.room;
+      plain = λ k d within. absurd (omega (arith, len, length-drop c.neutral_len-plain.result new.neutral));
+      peak = omega (arith, h.keeps.room, c.in-Err-Idling.ensures.keeps.room, i.peak, peak_is, fits, need);
+      need = inl c.used-need-in-Err-Idling.ensures.value;
+      goes = alone-idling (running c.args.work.now c.args.meta.now c.args.at) old new c.loop-left.meta c.args.at (c.min-reach.result - c.loop-left.left) c.loop-left.peak
+          c.begin_idling.result c.max-peak-in-Err-Idling.result (c.min-reach.result - (c.loop-left.left - 8)) i.sound none fits begun (omega (arith, i.allowed, i.few, may.0)) need peak_is (omega (arith, i.few, may.0)) i.goes;
+    }
+
 pub returns-in-Some-clause-advanced : goal.returns-in-Some-clause-advanced
 returns-in-Some-clause-advanced c =
     let i = c.loop-left.invariant in
@@ -47,7 +75,7 @@ loop-left-preserved c =
     let same = c.in-Err.ensures.comes.0 in
     let h = c.in-Ok-perform_pending_alone.ensures in
     let none = c.in_default.is in
-    let len = c.neutral_len-plain.ensures.value in
+    let len = c.neutral_len-plain-in-Err.ensures.value in
     let peak_is = c.max-peak-in-Err.ensures in
     let start = running c.args.work.now c.args.meta.now c.args.at in
     let done = c.min-reach.result - c.loop-left.left in
@@ -60,7 +88,7 @@ loop-left-preserved c =
       wanted = i.wanted;
       sound = h.keeps.sound;
       room = h.keeps.room ∙ c.in-Err.ensures.keeps.room ∙ i.room;
-      plain = λ k d within. absurd (omega (arith, len, length-drop c.neutral_len-plain.result c.perform_pending_alone.new.work.neutral));
+      plain = λ k d within. absurd (omega (arith, len, length-drop c.neutral_len-plain-in-Err.result c.perform_pending_alone.new.work.neutral));
       peak = omega (arith, h.keeps.room, c.in-Err.ensures.keeps.room, h.fits, i.peak, peak_is);
       need = inl c.used-need-in-Err.ensures.value;
       goes = alone-step start w c.perform_pending_alone.new.work c.loop-left.meta c.args.at done c.loop-left.peak
