@@ -66,7 +66,7 @@ marked-lists {s = s} {t = t} {count = count} {k = k} {at = at} {name = name} h n
     let forms = forms_in s.store in
     let form = marked (form_at forms k) in
     let new = set forms k form in
-    let f = stands forms s.store k at h.forms.whole named.within begins in
+    let f = stands forms s.store k at h.kept.has.forms.whole named.within begins in
     let cells = repointed forms s.store k at mark named.within begins f in
     let is : t ≡ record s { store = flat_forms new } = written ∙ ap (λ cells. record s { store = cells }) cells in
     let read = forms_in-flat new in
@@ -74,11 +74,15 @@ marked-lists {s = s} {t = t} {count = count} {k = k} {at = at} {name = name} h n
     let fewer = cells-set forms k form named.within (omega arith) in (
       is ∙ ap (λ fs. record s { store = flat_forms fs }) (sym (mark-at name forms k h.distinct named)),
       subst (λ (l : Lists). IsFormed l count k at) (sym is) (record {
-        forms = record { whole = rw read refl; bounded = omega (arith, h.forms.bounded, fewer, ap length h.forms.whole) };
-        count_is = rw read (omega (arith, h.count_is, size));
-        place = rw read (record { within = omega (arith, named.within, size); start_is = begins ∙ sym (start_of-set forms k form) });
+        kept = record {
+          has = record {
+            forms = record { whole = rw read refl; bounded = omega (arith, h.kept.has.forms.bounded, fewer, ap length h.kept.has.forms.whole) };
+            count_is = rw read (omega (arith, h.kept.has.count_is, size));
+            index = rw read (index-pointer forms k mark s.spare h.kept.has.index);
+          };
+          place = rw read (record { within = omega (arith, named.within, size); start_is = begins ∙ sym (start_of-set forms k form) });
+        };
         distinct = rw read (own-set forms k form refl h.distinct);
-        index = rw read (index-pointer forms k mark s.spare h.index);
       }),
     )
 

@@ -20,11 +20,11 @@ none-marked s count last start h =
 pub formed : (s : Lists) (count last start : ℕ) → IsStored s count last start → IsFormed s count last start
 formed s count last start h =
     record {
-      forms = h.forms;
-      count_is = h.count_is;
-      place = record { within = omega (arith, h.last_is, h.count_is); start_is = h.start_is };
+      kept = record {
+        has = record { forms = h.forms; count_is = h.count_is; index = h.index };
+        place = record { within = omega (arith, h.last_is, h.count_is); start_is = h.start_is };
+      };
       distinct = own-names (forms_in s.store) h.sound.forms;
-      index = h.index;
     }
 
 -- the forms of these names are marked, and then gone

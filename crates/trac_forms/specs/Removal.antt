@@ -1,5 +1,5 @@
 -- Forms that are removed by their names.
-use Rattle.std.specs.Prelude.{◌≡◌, ℕ, ◌==◌, ◌<◌, Bool, false, List, [], ◌∷◌, length, map, filter, not}
+use Rattle.std.specs.Prelude.{◌≡◌, ℕ, ◌==◌, ◌<◌, Bool, false, List, [], ◌∷◌, map, filter, not}
 use Rattle.std.specs.Prelude.{bytes_eq, if◌then◌else◌}
 use Rattle.std.specs.List.{list_any}
 use Rattle.trac_language.specs.Text.{Text}
@@ -8,8 +8,8 @@ use Rattle.trac_language.specs.Store.{NoneNamed}
 use Rattle.trac_space.specs.Lists.{Lists}
 use Rattle.trac_store.specs.declared.located.Located.{Located}
 use Rattle.trac_store.specs.Forms.{form_at}
-use Rattle.trac_store.specs.Index.{IsIndexed}
-use Rattle.trac_store.specs.Stored.{AreForms, forms_in, IsPlace}
+use Rattle.trac_store.specs.Stored.{forms_in, IsPlace}
+use Rattle.trac_forms.specs.Stored.{HasFormsFrom}
 
 -- whether the form has one of these names
 abbrev pub is_among : List Text → Form → Bool
@@ -47,14 +47,11 @@ abbrev pub HaveOwnNames : List Form → Type 0
 HaveOwnNames [] = Unit {0}
 HaveOwnNames (form ∷ forms) = NoneNamed form.name forms × HaveOwnNames forms
 
--- the store is the cells of so many forms and nothing else, marked or not, and the index is theirs;
--- the form at place `last` begins at `start`
+-- a space has so many forms, marked or not, of which no two have one name; the form at place `last`
+-- begins at `start`
 pub record IsFormed (s : Lists) (count last start : ℕ) : Type 0 where
-  pub forms : AreForms s.store
-  pub count_is : count ≡ length (forms_in s.store)
-  pub place : IsPlace (forms_in s.store) last start
+  pub kept : HasFormsFrom s count last start
   pub distinct : HaveOwnNames (forms_in s.store)
-  pub index : IsIndexed s.spare (forms_in s.store)
 
 -- no form before form k is marked, and form k begins at `start`
 pub record IsMarkedFrom (forms : List Form) (k start : ℕ) : Type 0 where

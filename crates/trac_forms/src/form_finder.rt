@@ -1,7 +1,7 @@
-//! Finds forms in a space, by their names and by their numbers.
+//! Finds forms in a space by their names.
 //!
-//! A search takes the form that was used last. To read that form again costs no walk over the others,
-//! and to read all forms in order costs one walk.
+//! A `FormFinder` isn't a part of `Work`, because forms are also found while some of them are marked for
+//! removal; what a `Work` keeps doesn't hold then.
 ghost use Rattle.std.specs.Prelude.{◌≡◌, ◌<◌, length, map, All, IsTrue};
 ghost use Rattle.trac_space.specs.Cells.{seen};
 ghost use Rattle.trac_space.specs.Texts.{text_of_cells, IsByte};

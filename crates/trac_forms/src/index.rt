@@ -1,6 +1,6 @@
 //! The index of the forms: it is made once searches have cost enough, and follows each change of the forms.
 //!
-//! It stands in the spare list, as `trac_store` says.
+//! It is a table in the spare list, laid out as the `IndexedForms` of `trac_store` read it.
 ghost use Rattle.std.specs.Prelude.{◌≡◌, [], ◌<◌, ◌≤◌, ◌^◌, ◌+◌, ◌*◌};
 ghost use Rattle.std.specs.Prelude.{ℕ, length, take, remove, IsTrue};
 ghost use Rattle.std.specs.Bool.{OnTrue, OnFalse};
@@ -8,7 +8,7 @@ ghost use Rattle.trac_language.specs.Text.{Text};
 ghost use Rattle.trac_space.specs.Lists as lists;
 ghost use Rattle.trac_store.specs.Stored.{forms_in, IsLocated};
 ghost use Rattle.trac_store.specs.Index.{quarter, slots, IsIndexBut, IsIndexed};
-ghost use Rattle.trac_store.specs.Index.{IsOpenFor, with_entry, start_in, home_in, buried};
+ghost use Rattle.trac_store.specs.Index.{IsOpenFor, with_entry, start_in, buried, HasHome};
 ghost use Rattle.trac_store.specs.Index.{forward, earlier, started, HasStartsFrom};
 ghost use Rattle.trac_forms.specs.Stored.{HasForms, HoldsForms, IsIndexedUpTo};
 
@@ -103,8 +103,7 @@ fn grow_index(space: &mut Space, count: u32)
 // Frees the slot of form `k`: a search goes on past it, and a new form may take it.
 #[inline]
 fn bury(space: &mut Space, k: u32)
-    requires place { k < quarter space.old.spare }
-    requires home { home_in space.old.spare k < slots space.old.spare }
+    requires { HasHome space.old.spare k }
     ensures { space.new ≡ record space.old { spare = buried space.old.spare k } }
 {
     let quarter = space.spare_len() / 4;
@@ -116,8 +115,7 @@ fn bury(space: &mut Space, k: u32)
 #[inline]
 fn bring_forward(space: &mut Space, k: u32, cells: u32)
     requires some { 0 < k }
-    requires place { k < quarter space.old.spare }
-    requires home { home_in space.old.spare k < slots space.old.spare }
+    requires home { HasHome space.old.spare k }
     requires cells { cells ≤ start_in space.old.spare k }
     ensures { space.new ≡ record space.old { spare = forward space.old.spare k cells } }
 {

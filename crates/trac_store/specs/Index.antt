@@ -128,6 +128,11 @@ start_in table k = number_of (cell_at table (start_place table k))
 abbrev pub home_in : List Cell → ℕ → ℕ
 home_in table k = number_of (cell_at table (home_place table k))
 
+-- the table has a place for form k, and says which slot it has
+pub record HasHome (table : List Cell) (k : ℕ) : Type 0 where
+  pub place : k < quarter table
+  pub home : home_in table k < slots table
+
 -- the table without form k
 abbrev pub buried : List Cell → ℕ → List Cell
 buried table k = set table (home_in table k) Comma

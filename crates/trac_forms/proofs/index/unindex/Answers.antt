@@ -3,11 +3,14 @@ use Rattle.trac_store.proofs.Places.{stands}
 use Rattle.trac_forms.proofs.FormTables.{names_now, starts_now, home-within, index-buried, index-gap, next-home, next-start, index-forward, index-removed}
 use Rattle.trac_forms.proofs.index.unindex.Goals as goal
 
-pub bury-requires-clause-home : goal.bury-requires-clause-home
-bury-requires-clause-home c =
+pub bury-requires : goal.bury-requires
+bury-requires c =
     let forms = forms_in c.args.space.now.store in
     let index = c.requires.forms.index (omega (arith, c.spare_len.ensures.value, c.if-spare_len-eq0.false)) in
-    home-within c.args.space.now.spare (length forms) c.args.form.number (name_at forms) (start_of forms) index c.requires.form.within
+    record {
+      place = omega (arith, index.roomy, c.requires.form.within);
+      home = home-within c.args.space.now.spare (length forms) c.args.form.number (name_at forms) (start_of forms) index c.requires.form.within;
+    }
 
 pub loop-next-init : goal.loop-next-init
 loop-next-init c =
@@ -32,7 +35,10 @@ bring_forward-requires-clause-home c =
     let next = c.loop-next.next in
     let e : next - 1 + 1 ≡ next = omega (arith, c.loop-next.auto.next) in
     let less = next-home forms c.args.form.number c.requires.form.within spare (next - 1) (omega (arith, e, c.loop-next-test.true, c.requires.forms.count_is)) c.loop-next.invariant.index in
-    subst (λ n. home_in spare n < slots spare) e less
+    record {
+      place = omega (arith, c.loop-next.invariant.index.roomy, c.loop-next-test.true, c.requires.forms.count_is);
+      home = subst (λ n. home_in spare n < slots spare) e less;
+    }
 
 -- the cells of the form that leaves
 pub bring_forward-requires-clause-cells : goal.bring_forward-requires-clause-cells

@@ -58,7 +58,7 @@ returns c =
     let forms : forms_in s.store ≡ with_marks (texts_between old.neutral c.args.names.from c.args.names.to) (forms_in old.store) =
     sym (ap (λ texts. with_marks texts (forms_in s.store)) none ∙ marks-none (forms_in s.store)) ∙ i.marks in
     record {
-      marked = i.same ∙ ap (λ cells. record old { store = cells; spare = s.spare }) (sym i.marking.formed.forms.whole ∙ ap flat_forms forms);
+      marked = i.same ∙ ap (λ cells. record old { store = cells; spare = s.spare }) (sym i.marking.formed.kept.has.forms.whole ∙ ap flat_forms forms);
       first = i.marking.first;
-      index = i.marking.formed.index;
+      index = i.marking.formed.kept.has.index;
     }

@@ -5,12 +5,12 @@ use Rattle.trac_forms.proofs.marked_forms.mark_named.Goals as goal
 
 pub overflow_add-form : goal.overflow_add-form
 overflow_add-form c =
-    let f = stands _ _ _ _ c.requires.marking.formed.forms.whole (rw c.new.ensures at c.in-Some.ensures).named.within (rw c.new.ensures at c.in-Some.ensures).start_is in
-    omega (arith, f.end, c.requires.marking.formed.forms.bounded)
+    let f = stands _ _ _ _ c.requires.marking.formed.kept.has.forms.whole (rw c.new.ensures at c.in-Some.ensures).named.within (rw c.new.ensures at c.in-Some.ensures).start_is in
+    omega (arith, f.end, c.requires.marking.formed.kept.has.forms.bounded)
 
 pub write_store-requires-clause-within : goal.write_store-requires-clause-within
 write_store-requires-clause-within c =
-    let f = stands _ _ _ _ c.requires.marking.formed.forms.whole (rw c.new.ensures at c.in-Some.ensures).named.within (rw c.new.ensures at c.in-Some.ensures).start_is in
+    let f = stands _ _ _ _ c.requires.marking.formed.kept.has.forms.whole (rw c.new.ensures at c.in-Some.ensures).named.within (rw c.new.ensures at c.in-Some.ensures).start_is in
     omega (arith, f.end)
 
 pub returns-in-Some-clause-marked : goal.returns-in-Some-clause-marked
@@ -21,7 +21,7 @@ pub returns-in-None-clause-marked : goal.returns-in-None-clause-marked
 returns-in-None-clause-marked c =
     let s = c.args.space.now in
     let none = mark-none (part_text s.neutral c.args.name.from c.args.name.to) (forms_in s.store) (rw c.new.ensures at c.in-None.ensures) in
-    ap (λ cells. record s { store = cells }) (sym c.requires.marking.formed.forms.whole ∙ ap flat_forms (sym none))
+    ap (λ cells. record s { store = cells }) (sym c.requires.marking.formed.kept.has.forms.whole ∙ ap flat_forms (sym none))
 
 pub returns-in-Some-clause-marking : goal.returns-in-Some-clause-marking
 returns-in-Some-clause-marking c =
