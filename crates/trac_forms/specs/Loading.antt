@@ -1,9 +1,11 @@
--- Bodies without gaps, copied to the front of the active string.
-use Rattle.std.specs.Prelude.{◌≡◌, ℕ, ◌+◌, ◌≤◌, List, ◌++◌, length}
+-- Bodies without gaps, copied to the front of the active string, and characters taken one by one.
+use Rattle.std.specs.Prelude.{◌≡◌, ℕ, true, ◌+◌, ◌<◌, ◌≤◌, List, ◌++◌, length, slice_range}
 use Rattle.trac_language.specs.declared.item.Item.{Item}
 use Rattle.trac_language.specs.Form.{text_of}
 use Rattle.trac_space.specs.Texts.{flat_text}
-use Rattle.trac_forms.specs.Contents.{Contents, used}
+use Rattle.trac_language.specs.Text.{Text}
+use Rattle.trac_store.specs.Search.{character_at}
+use Rattle.trac_forms.specs.Contents.{Contents, used, body_at, pointer_at}
 -- what a call goes through
 pub use Rattle.trac_store.specs.Loading.{called_part, AreCharacters}
 
@@ -13,3 +15,14 @@ pub record IsLoaded (old new : Contents) (items : List Item) (n : ℕ) : Type 0 
   pub size : length items ≡ n
   pub fits : used old + n ≤ old.room
   pub stands : new ≡ record old { active = flat_text (text_of items) ++ old.active }
+
+-- the text of the item at the pointer of the form at place k, if that is a character
+abbrev pub next_text : Contents → ℕ → Text
+next_text w k =
+    text_of (slice_range (body_at w.forms k) (pointer_at w.forms k) (pointer_at w.forms k + 1))
+
+-- the item at the pointer of the form at place k is a character, and fits
+pub record HasNext (w : Contents) (k : ℕ) : Type 0 where
+  pub inside : pointer_at w.forms k < length (body_at w.forms k)
+  pub character : character_at (body_at w.forms k) (pointer_at w.forms k) ≡ true
+  pub fits : used w + length (next_text w k) ≤ w.room

@@ -91,6 +91,22 @@ fn take_character(work: &mut Work, form: FormId, default: Part) -> CallResult
     ensures unmade { result ≡ CallResult.Full → work.new.forms ≡ work.old.forms }
     ensures keeps { KeepsRoom work.old work.new }
 {
+    if work.take_character(form) {
+        return CallResult::AtEnd;
+    }
+    take_later_character(work, form, default)
+}
+
+/// Takes the next character after the pointer, which may stand behind gaps.
+fn take_later_character(work: &mut Work, form: FormId, default: Part) -> CallResult
+    requires known { form_place form < length work.old.forms }
+    requires part { IsTextPart work.old.neutral default.from default.to }
+    requires sound { IsSound work.old }
+    ensures takes { TakesOrDefault (next_characters 1) (form_place form) default
+        work.old result work.new }
+    ensures unmade { result ≡ CallResult.Full → work.new.forms ≡ work.old.forms }
+    ensures keeps { KeepsRoom work.old work.new }
+{
     let from = work.pointer(form);
     match work.next_char(form, from) {
         Some(place) => take_one(work, form, place),

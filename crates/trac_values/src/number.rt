@@ -145,8 +145,7 @@ fn is_last(cells: &[Cell], character: u8) -> bool
 #[inline(always)]
 fn may_be_long(cells: &[Cell]) -> bool
     requires { All IsByte cells.now }
-    ensures short { length cells.now < 20 → result ≡ false }
-    ensures long { IsTrue result → 20 ≤ length cells.now }
+    ensures { length cells.now < 20 → result ≡ false }
 {
     cells.len() > 19 && byte_in(&cells[cells.len() - 20]).is_ascii_digit()
 }
@@ -188,43 +187,44 @@ fn with_sign(cells: &[Cell], start: usize, size: i128) -> (usize, i128)
     }
 }
 
-/// Where the longest suffix of decimal digits begins, and its number, in a text of 19 characters or more.
-/// None if it may have more than 38 digits, which can be too many for 127 bits.
+/// Where the longest suffix of decimal digits begins, and its number, read as two numbers of at most 19
+/// digits. None if it may have more than 38 digits, or if the text has fewer than 19 characters.
 #[inline(always)]
 fn number_in_two_parts(cells: &[Cell]) -> Option<(usize, u128)>
-    requires bytes { All IsByte cells.now }
-    requires long { 19 ≤ length cells.now }
+    requires { All IsByte cells.now }
     ensures start { IfSome result (λ r. r.0 ≡ length (before_digits (text_of_cells cells.now))) }
     ensures value { IfSome result (λ r. r.1 ≡ digits_value 10 (digits (text_of_cells cells.now))) }
     ensures below { IfSome result (λ r. r.1 < 10 ^ 38) }
 {
-    let behind = cells.len() - DIGITS_IN_64_BITS;
-    let (front, back) = cells.split_at(behind);
+    let (front, back) = cells.split_last_chunk::<DIGITS_IN_64_BITS>()?;
     let (start, low) = short_number(back)?;
     if start > 0 {
-        return Some((behind + start, u128::from(low)));
+        return Some((front.len() + start, u128::from(low)));
     }
     let (start, high) = short_number(front)?;
     Some((start, u128::from(high) * POWER + u128::from(low)))
 }
 
-/// The length of the prefix of a text, in cells, and the number at its end, in a text of 19 characters or
-/// more. None if the number may have more than 38 digits.
+/// The number at the end of a text, and where it begins. Takes less for a number of 20 to 38 digits.
 #[inline(never)]
-fn tail_in_two_parts(cells: &[Cell]) -> Option<(usize, i128)>
-    requires text { IsText cells.now }
-    requires long { 19 ≤ length cells.now }
-    ensures start { IfSome result (λ r. r.0 ≡ length (prefix (text_of_cells cells.now))) }
-    ensures value { IfSome result (λ r. r.1 ≡ number_in cells.now) }
-    ensures in_range { IfSome result (λ r. IsTrue (in_range r.1)) }
+fn long_tail(cells: &[Cell]) -> TailNumber
+    requires { IsText cells.now }
+    ensures start { result.start ≡ length (prefix (text_of_cells cells.now)) }
+    ensures value { result.value ≡ if_in_range (Some (number_in cells.now)) }
 {
-    let (start, size) = number_in_two_parts(cells)?;
-    Some(with_sign(cells, start, size as i128))
+    let Some((start, size)) = number_in_two_parts(cells) else {
+        return longest_tail(cells);
+    };
+    let (start, number) = with_sign(cells, start, size as i128);
+    TailNumber {
+        start: start as u32,
+        value: Some(number),
+    }
 }
 
 /// The number at the end of a text, of any length, and where it begins.
 #[inline(never)]
-fn long_tail(cells: &[Cell]) -> TailNumber
+fn longest_tail(cells: &[Cell]) -> TailNumber
     requires { IsText cells.now }
     ensures start { result.start ≡ length (prefix (text_of_cells cells.now)) }
     ensures value { result.value ≡ if_in_range (Some (number_in cells.now)) }
@@ -262,12 +262,12 @@ pub fn tail_number(cells: &[Cell]) -> TailNumber
     ensures start { result.start ≡ length (prefix (text_of_cells cells.now)) }
     ensures value { result.value ≡ if_in_range (Some (number_in cells.now)) }
 {
-    let known = if may_be_long(cells) {
-        tail_in_two_parts(cells)
+    let short = if may_be_long(cells) {
+        None
     } else {
         short_tail(cells)
     };
-    match known {
+    match short {
         Some((start, number)) => TailNumber {
             start: start as u32,
             value: Some(number),

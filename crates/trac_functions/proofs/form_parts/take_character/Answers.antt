@@ -1,13 +1,21 @@
-use Rattle.trac_functions.proofs.Words.{refl, form_at}
-use Rattle.trac_functions.proofs.TakenParts.{one-none, one-some, takes-none, takes-some}
+use Rattle.trac_functions.proofs.Words.{◌+◌, refl, arith, length, form_at, body_at, pointer_at}
+use Rattle.trac_forms.specs.Search.{IsFirst, character_at}
+use Rattle.trac_functions.specs.declared.arguments.CallResult.TheVariants.{AtEnd}
+use Rattle.trac_functions.proofs.TakenParts.{one-some, takes-some}
 use Rattle.trac_functions.proofs.form_parts.take_character.Goals as goal
 
-pub returns-in-None-clause-takes : goal.returns-in-None-clause-takes
-returns-in-None-clause-takes c =
-    takes-none c.args.default c.args.form.0 c.args.work.now c.give.result c.give.new.work
-    (one-none (form_at c.args.work.now.forms c.args.form.0) c.pointer-from.result c.pointer-from.ensures.value c.pointer-from.ensures.within c.in-None.ensures) (c.give.ensures.takes refl)
-
-pub returns-in-Some-clause-takes : goal.returns-in-Some-clause-takes
-returns-in-Some-clause-takes c =
-    takes-some c.args.default c.args.form.0 c.args.work.now c.take_one.result c.take_one.new.work
-    (one-some (form_at c.args.work.now.forms c.args.form.0) c.pointer-from.result c.in-Some.place c.pointer-from.ensures.value c.pointer-from.ensures.within c.in-Some.ensures) c.take_one.ensures.takes
+-- the character at the pointer is the first one from there on
+pub returns-then-take_character-clause-takes : goal.returns-then-take_character-clause-takes
+returns-then-take_character-clause-takes c =
+    let old = c.args.work.now in
+    let k = c.args.form.0 in
+    let p = pointer_at old.forms k in
+    let next = c.if-take_character.ensures.taken.0 refl in
+    let inside = next.inside in
+    let first : IsFirst (character_at (body_at old.forms k)) p (length (body_at old.forms k)) p = record {
+      above = omega arith;
+      within = inside;
+      passes = next.character;
+      before = λ i above below. absurd (omega (arith, above, below));
+    } in
+    takes-some c.args.default k old AtEnd c.take_character.new.self (one-some (form_at old.forms k) p p refl (omega (arith, inside)) first) (λ z. record { fits = next.fits; stands = c.if-take_character.ensures.last })
