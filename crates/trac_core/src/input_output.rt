@@ -78,7 +78,6 @@ pub(crate) fn read_character<I: Source>(work: &mut Work, source: &mut I) -> Call
 }
 
 /// `ps,X`: X is printed, and the sink flushed once where X isn't null (Mooers 1966).
-#[inline(never)]
 pub(crate) fn print_string<O: Sink>(
     work: &Work,
     mut arguments: Arguments,
