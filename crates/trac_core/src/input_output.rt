@@ -38,6 +38,7 @@ pub(crate) fn read_string<I: Source>(work: &mut Work, meta: u8, source: &mut I) 
 {
     let from = work.neutral_len();
     match read_text(work, meta, source) {
+        ReadEnd::Meta if work.neutral_len() == from => CallResult::Null(0),
         ReadEnd::Meta => CallResult::AtEnd,
         ReadEnd::Ended if work.neutral_len() == from => CallResult::Over(Fate::InputEnded),
         ReadEnd::Ended => CallResult::AtEnd,
