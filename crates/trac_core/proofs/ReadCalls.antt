@@ -1,4 +1,7 @@
 -- The calls that read.
+use Rattle.std.proofs.lemmas.List.{drop_all, take_all}
+use Rattle.trac_language.specs.declared.mode.Mode.TheVariants.{Neutral}
+use Rattle.trac_core.proofs.Words.{None, Null, Mode, Active, take, append-nil, subst, delivered, mode_at, text_of_cells, TriedCall}
 use Rattle.trac_core.proofs.Words.{◌≡◌, ℕ, ◌+◌, ◌-◌, ◌<◌, ◌≤◌, true, false, not, List, [], ◌∷◌, ◌++◌, length, drop, Some, refl, sym, ap, ◌∙◌, arith, append_assoc, length-append, ⊎_elim, eq-eqb, ◌==◌, before_first, position_or_len, list_any, length-map, cases_lt, ReadString, ReadCharacter, InputEnded, InputFailed, Text, World, meaning_of, built, before_meta, from_meta, read_string, reads_last, read_all, valued, with_input, Byte, flat_text, Contents, used, IsSound, Stream, has_byte, Reads, arguments_at, world, ending, failing, Full, AtEnd, Over, scene, IsCall, settled, AnswersCall, IsValueFrom, TakesFrom, or_parts}
 use Rattle.trac_functions.proofs.PutCharacters.{used-with}
 use Rattle.trac_core.proofs.MetaCharacters.{position-past, before-none, from-none, before-at, from-at, length-before, any-at}
@@ -17,6 +20,22 @@ neutral-reads meta w mid text reads = ap (λ (w : Contents). length w.neutral) r
 -- the same, as a settled value counts them
 put-reads : (meta : ℕ) (w mid : Contents) (text : Text) → Reads meta w mid text → used w + (length mid.neutral - length w.neutral) ≡ used w + length text
 put-reads meta w mid text reads = omega (arith, neutral-reads meta w mid text reads)
+
+-- a value of no characters is null
+null-delivered : (mode : Mode) (place from : ℕ) (w : Contents) → length w.neutral ≡ from → delivered mode false (text_of_cells (drop from w.neutral)) place (record w { neutral = take from w.neutral }) ≡ record w { neutral = take place w.neutral }
+null-delivered mode place from w size =
+    rw (drop_all from w.neutral (omega (arith, size)), take_all from w.neutral (omega (arith, size))) (go mode)
+  where
+    go : (mode : Mode) → delivered mode false [] place w ≡ record w { neutral = take place w.neutral }
+    go Active = refl
+    go Neutral = ap (λ cells. record w { neutral = cells }) (append-nil (take place w.neutral))
+
+pub null-read : (place : ℕ) (w mid : Contents) (meta : ℕ) (source source' : Stream) (written : Text) → length mid.neutral ≡ length w.neutral → AnswersCall place (scene w meta source written) AtEnd (scene mid meta source' written) → AnswersCall place (scene w meta source written) (Null 0) (scene mid meta source' written)
+null-read place w mid meta source source' written size answers =
+    let needs : used w + (length mid.neutral - length w.neutral) ≡ used w + 0 = omega (arith, size) in
+    subst (λ n. TriedCall place (scene w meta source written) None n (scene (settled (Null 0) place (length w.neutral) mid) meta source' written)) needs
+    (subst (λ contents. TriedCall place (scene w meta source written) None (used w + (length mid.neutral - length w.neutral)) (scene contents meta source' written))
+    (null-delivered (mode_at mid.neutral place) place (length w.neutral) mid size) answers)
 
 is-same : (meta : ℕ) → (meta == meta) ≡ true
 is-same meta = eq-eqb meta meta refl

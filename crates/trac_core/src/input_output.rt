@@ -38,6 +38,7 @@ pub(crate) fn read_string<I: Source>(work: &mut Work, meta: u8, source: &mut I) 
 {
     let from = work.neutral_len();
     match read_text(work, meta, source) {
+        ReadEnd::Meta if work.neutral_len() == from => CallResult::Null(0),
         ReadEnd::Meta => CallResult::AtEnd,
         ReadEnd::Ended if work.neutral_len() == from => CallResult::Over(Fate::InputEnded),
         ReadEnd::Ended => CallResult::AtEnd,
@@ -78,7 +79,6 @@ pub(crate) fn read_character<I: Source>(work: &mut Work, source: &mut I) -> Call
 }
 
 /// `ps,X`: X is printed, and the sink flushed once where X isn't null (Mooers 1966).
-#[inline(never)]
 pub(crate) fn print_string<O: Sink>(
     work: &Work,
     mut arguments: Arguments,

@@ -9,6 +9,9 @@ pub(crate) fn count_before(stop: u8, text: &[u8]) -> usize
     ensures before { list_any (λ byte. byte == stop) (take result text.now) ≡ false }
     ensures stops { result < length text.now → slice_get text.now result ≡ Some stop }
 {
+    if matches!(text.first(), Some(first) if *first == stop) {
+        return 0;
+    }
     let done = count_blocks(stop, text);
     done + count_each(stop, &text[done..])
 }

@@ -198,7 +198,8 @@ pub(crate) fn copy_turned(
         let byte = byte_in(&cells[start + count]);
         let number = table[usize::from(byte)];
         if number == 0 {
-            cells[to + count] = Cell::Byte(byte);
+            // A cell that is copied as it stands takes one store.
+            cells.copy_within(start + count..start + count + 1, to + count);
         } else if number == 1 {
             cells[to + count] = Cell::Comma;
             last = count + 1;
