@@ -216,8 +216,8 @@ pub(crate) fn index_from(space: &mut Space, first: Located, count: u32)
     let mut start = first.start;
     for k in first.number..count {
         let form = Located { number: k, start };
-        start = end_of(space, form);
         index_form(space, form);
+        start = end_of(space, form);
     }
 }
 

@@ -7,6 +7,7 @@ ghost use Rattle.trac_store.specs.Gaps.{text_cells_at};
 ghost use Rattle.trac_store.specs.Parts.{IsTextPart};
 ghost use Rattle.trac_store.specs.Search.{NonePasses, IsFirst};
 
+use crate::bound::lists_are_bounded;
 use crate::gap_making::is_same_byte;
 use trac_space::{Cell, Part, Space, cell_under, laid, number_over};
 
@@ -60,7 +61,7 @@ pub(crate) fn lay_borders(space: &mut Space, part: Part)
     ensures laid { AreLaid space.old.neutral space.new.neutral part.from part.to }
     ensures same { space.new ≡ record space.old { neutral = space.new.neutral } }
 {
-    prove!(space.used() <= space.room());
+    lists_are_bounded(space);
     let mut border = 0;
     for count in 1..part.to - part.from {
         let text = space.neutral_part(part.from, part.to);

@@ -6,6 +6,7 @@ ghost use Rattle.trac_store.specs.Stored.{AreForms, IsLocated, forms_in, head_nu
 ghost use Rattle.trac_store.specs.Stored.{start_of};
 ghost use Rattle.trac_store.specs.Stored.{stored_item, item_of};
 
+use crate::bound::lists_are_bounded;
 use crate::located::Located;
 use trac_language::Item;
 use trac_space::{Cell, Space};
@@ -39,7 +40,7 @@ pub fn tested_heads(space: &Space, start: u32) -> Heads
     ensures body { result.body ≡ head_at space.now.store (start + 1) }
     ensures pointer { result.pointer ≡ head_at space.now.store (start + 2) }
 {
-    prove!(space.used() <= space.room());
+    lists_are_bounded(space);
     let cells = space.store_part(start, start + 3);
     Heads {
         name: number(cells[0]),

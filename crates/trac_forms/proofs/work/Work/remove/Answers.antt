@@ -1,4 +1,4 @@
-use Rattle.trac_forms.proofs.Words.{◌≡◌, ◌-◌, length, refl, sym, ap, ◌∙◌, arith, remove, length-remove, Lists, flat_forms, forms_in, IsStore-remove, cells-remove, Stands, stands, removed-lists}
+use Rattle.trac_forms.proofs.Words.{◌≡◌, ◌-◌, length, refl, sym, ap, ◌∙◌, arith, remove, length-remove, Lists, flat_forms, forms_in, start_of, ◌+◌, IsStore-remove, cells-remove, Stands, stands, removed-lists}
 use Rattle.trac_forms.proofs.Strings.{used-stored, restored, shown-restored}
 use Rattle.trac_forms.proofs.work.Work.remove.Goals as goal
 use Rattle.trac_forms.proofs.work.Work.remove.Goals.{After-unindex, After-remove_store}
@@ -14,7 +14,7 @@ gone : (c : After-remove_store) → c.remove_store.new.self ≡ record c.self.in
 gone c =
     let s = c.self.inside.space in
     let rest = flat_forms (remove (forms_in s.store) c.args.form.number) in
-    removed-lists c.unindex.new.space c.remove_store.new.self (forms_in s.store) c.args.form.number c.args.form.start c.end_of-end.result (here c.before.before) c.end_of-end.ensures.next c.remove_store.ensures
+    removed-lists c.unindex.new.space c.remove_store.new.self (forms_in s.store) c.args.form.number c.args.form.start c.end_of-end.result (here c.before.before.before) (c.end_of-end.ensures.next ∙ ap (λ (w : Lists). start_of (forms_in w.store) (c.args.form.number + 1)) c.unindex.ensures.same) c.remove_store.ensures
     ∙ ap (λ (w : Lists). record w { store = rest }) c.unindex.ensures.same
 
 pub invariant_of-self : goal.invariant_of-self
