@@ -39,11 +39,6 @@ plain-none cells k within =
     rw (drop_all k (take k cells) (omega (arith, length-take-le k cells within))) (All-nil (λ cell. is_comma cell ≡ false))
 
 -- a character stays, or becomes a comma mark
--- a character's cell is made again of its character
-pub byte-whole : (cell : Cell) → IsByte cell → Byte (character_of cell) ≡ cell
-byte-whole (Byte c) h = refl
-byte-whole _ h = absurd h
-
 pub turned-byte : (table : List ℕ) (cell : Cell) → number_in table cell ≡ 0 → turned_by table cell ≡ Byte (character_of cell)
 turned-byte table cell none = rw none refl
 

@@ -198,8 +198,7 @@ pub(crate) fn copy_turned(
         let byte = byte_in(&cells[start + count]);
         let number = table[usize::from(byte)];
         if number == 0 {
-            // A cell that is copied as it stands takes one store.
-            cells.copy_within(start + count..start + count + 1, to + count);
+            cells[to + count] = Cell::Byte(byte);
         } else if number == 1 {
             cells[to + count] = Cell::Comma;
             last = count + 1;

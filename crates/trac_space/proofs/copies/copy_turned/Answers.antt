@@ -1,7 +1,5 @@
 use Rattle.trac_space.proofs.Words.{◌≡◌, ◌+◌, ◌-◌, ◌<◌, length, drop, set, sym, ap, ◌∙◌, subst, slice_index_or, arith, length-drop, length-map, paste_more, paste, Byte, is_comma, IsByte, character_of, number_in, turned, turned_by}
-use Rattle.trac_space.proofs.Runs.{run-cell, byte-at, byte-whole, run-more, turned-at, turned-byte, turned-one, plain-more, plain-none}
-use Rattle.std.proofs.lemmas.List.Edits.{length-paste}
-use Rattle.trac_space.proofs.Moves.{move_one}
+use Rattle.trac_space.proofs.Runs.{run-cell, byte-at, run-more, turned-at, turned-byte, turned-one, plain-more, plain-none}
 use Rattle.trac_space.proofs.copies.copy_turned.Goals as goal
 use Rattle.trac_space.proofs.copies.copy_turned.Goals.{then-number-eq0, else-number-eq0+then-number-eq1}
 
@@ -32,19 +30,16 @@ loop-count-preserved c =
     let number : slice_index_or table c.from.result 0 ≡ number_in table cell = ap (λ b. slice_index_or table b 0) (c.from.ensures ∙ c.byte_in-byte.ensures ∙ ap character_of same) in
     let put = sym (turned-at table was start k (Byte 0) inside) in
     let copied : set now (to + k) (turned_by table cell) ≡ paste was to source (k + 1) = ap (set now (to + k)) put ∙ ap (λ cells. set cells (to + k) (slice_index_or source k (turned_by table (Byte 0)))) kept.copied ∙ paste_more was to source k (turned_by table (Byte 0)) (omega (arith, inside, c.requires.before)) (omega (arith, long, inside)) in
-    let size : length now ≡ length was = ap length kept.copied ∙ length-paste was to source k (omega (arith, inside, c.requires.before)) (omega (arith, long, inside)) in
     elim c.if-number-eq0.branch [
       | then-number-eq0 w ↦ (
           let none : number_in table cell ≡ 0 = omega (arith, number, w.if-number-eq0.true) in
-          let byte = byte-whole cell (byte-at was start k c.args.most (Byte 0) less c.requires.within c.requires.bytes) in
-          let stays : slice_index_or now (start + k) (Byte 0) ≡ turned_by table cell = same ∙ sym byte ∙ sym (turned-byte table cell none) in
-          let one = move_one now (start + k) (start + k + 1) (to + k) (omega arith) (omega (arith, inside, size)) (omega (arith, inside, size, c.requires.before)) in
+          let byte : Byte c.byte_in-byte.result ≡ Byte (character_of cell) = ap Byte (c.byte_in-byte.ensures ∙ ap character_of same) in
           record {
             within = omega (arith, less);
             run = run-more table was start k (Byte 0) inside kept.run (omega (arith, none));
             last = omega (arith, w.last-is, kept.last);
             plain = rw w.last-is (plain-more table was start k (Byte 0) inside c.loop-count.last kept.last (ap is_comma (turned-byte table cell none)) kept.plain);
-            copied = w.cells-is ∙ w.copy_within.ensures.after ∙ sym one ∙ ap (set now (to + k)) stays ∙ copied;
+            copied = w.cells-is ∙ ap (set now (to + k)) (byte ∙ sym (turned-byte table cell none)) ∙ copied;
           })
       | else-number-eq0+then-number-eq1 w ↦ (
           let one : number_in table cell ≡ 1 = omega (arith, number, w.if-number-eq1.true) in
