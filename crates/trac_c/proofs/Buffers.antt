@@ -1,5 +1,5 @@
 -- Items that are put into a buffer one after the other.
-use Rattle.trac_c.proofs.Words.{◌≡◌, ℕ, zero, suc, ◌+◌, ◌<◌, ◌≤◌, List, [], ◌∷◌, ◌++◌, length, take, drop, map, min, refl, sym, ap, ◌∙◌, arith, slice_set, get_or, take_more, length-map, map-append, length-take-le, laid, laid_from}
+use Rattle.trac_c.proofs.Imports.{◌≡◌, ℕ, zero, suc, ◌+◌, ◌<◌, ◌≤◌, List, [], ◌∷◌, ◌++◌, length, take, drop, map, min, refl, sym, ap, ◌∙◌, arith, slice_set, get_or, take_more, length-map, map-append, length-take-le, laid, laid_from}
 
 module _ {A : Type 0} where
   pub laid-put : (x : A) (n : ℕ) (room : List A) → n < length room → slice_set room n x ≡ laid_from n (x ∷ []) room

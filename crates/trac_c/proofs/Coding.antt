@@ -1,5 +1,5 @@
 -- The codes of a neutral string, cell by cell.
-use Rattle.trac_c.proofs.Words.{◌≡◌, ℕ, ◌+◌, List, [], ◌∷◌, ◌++◌, length, sum_by, refl, sym, ap, ◌∙◌, arith, append_assoc, append-nil, length-append, Text, OpenCall, arguments, call_cells, Byte, Neutral, no_neutral, with_character, with_comma, with_cell, with_cells, neutral_of, mark_code, with_commas, calls_codes, codes_of_neutral, call_places, comma_code, cell_code, is_open_after, has_call, drop, take, get_or, false, ◌<◌, ◌≤◌, ◌-◌, min, ⊎_elim, length-drop, length-take-le, take_more, laid, laid_from}
+use Rattle.trac_c.proofs.Imports.{◌≡◌, ℕ, ◌+◌, List, [], ◌∷◌, ◌++◌, length, sum_by, refl, sym, ap, ◌∙◌, arith, append_assoc, append-nil, length-append, Text, OpenCall, arguments, call_cells, Byte, Neutral, no_neutral, with_character, with_comma, with_cell, with_cells, neutral_of, mark_code, with_commas, calls_codes, codes_of_neutral, call_places, comma_code, cell_code, is_open_after, has_call, drop, take, get_or, false, ◌<◌, ◌≤◌, ◌-◌, min, ⊎_elim, length-drop, length-take-le, take_more, laid, laid_from}
 use Rattle.std.specs.Prelude.{true}
 use Rattle.std.proofs.lemmas.Bool.{cases_lt}
 use Rattle.trac_functions.proofs.FlatLemmas.{neutral_of-push, with_cells-append}

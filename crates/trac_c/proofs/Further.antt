@@ -1,5 +1,5 @@
 -- The steps of a turn that didn't wait are steps over all bytes that may come behind its input.
-use Rattle.trac_c.proofs.Words.{◌≡◌, ℕ, zero, suc, ◌+◌, ◌-◌, ◌<◌, ◌≤◌, max, Bool, false, not, List, [], ◌∷◌, ◌++◌, length, take, Option, Some, None, refl, sym, ap, subst, ◌∙◌, ⊎_elim, arith, length-append, ◌==◌, nat_le, Text, Input, OpenCall, arguments, size, MachineState, Moment, moment, GoesOn, ending, state_with, state_of, awaited, next_function, next_printed, is_short, waits_for_input, followed_by, Goes, SomeTurned, TellsTurn, turn_number, wanted_by, TracReport, Turn, Full}
+use Rattle.trac_c.proofs.Imports.{◌≡◌, ℕ, zero, suc, ◌+◌, ◌-◌, ◌<◌, ◌≤◌, max, Bool, false, not, List, [], ◌∷◌, ◌++◌, length, take, Option, Some, None, refl, sym, ap, subst, ◌∙◌, ⊎_elim, arith, length-append, ◌==◌, nat_le, Text, Input, OpenCall, arguments, size, MachineState, Moment, moment, GoesOn, ending, state_with, state_of, awaited, next_function, next_printed, is_short, waits_for_input, followed_by, Goes, SomeTurned, TellsTurn, turn_number, wanted_by, TracReport, Turn, Full}
 use Rattle.std.specs.List.{before_first, list_any}
 use Rattle.std.proofs.lemmas.Bool.{and_cases, and_left, and_right, cases_Bool, true≢false, lt-ltb, leb-false, lt-leb, ne_eqb}
 use Rattle.std.proofs.lemmas.List.Folds.{list_any-append}

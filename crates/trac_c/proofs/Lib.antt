@@ -11,4 +11,4 @@ mod Roomy
 mod TurnBytes
 mod Waiting
 mod Walking
-mod Words
+mod Imports

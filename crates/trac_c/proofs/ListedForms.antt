@@ -1,5 +1,5 @@
 -- Forms that are looked at one after the other.
-use Rattle.trac_c.proofs.Words.{◌≡◌, ℕ, zero, suc, ◌+◌, refl, List, [], ◌∷◌, drop, Option, Some, None, sym, ap, ◌∙◌, MatchOption, slice_get, drop-drop}
+use Rattle.trac_c.proofs.Imports.{◌≡◌, ℕ, zero, suc, ◌+◌, refl, List, [], ◌∷◌, drop, Option, Some, None, sym, ap, ◌∙◌, MatchOption, slice_get, drop-drop}
 
 module _ {A : Type 0} where
   get-dropped : (l : List A) (n : ℕ) → slice_get (drop n l) 0 ≡ slice_get l n

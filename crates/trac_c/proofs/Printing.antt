@@ -1,6 +1,6 @@
 -- Characters that are put into a buffer, as far as it reaches, and the others behind it.
 use Rattle.std.specs.Prelude.{IsSome}
-use Rattle.trac_c.proofs.Words.{◌≡◌, ℕ, ◌+◌, ◌≤◌, [], ◌++◌, take, Option, Some, None, sym, ap, ◌∙◌, arith, append-nil, Text}
+use Rattle.trac_c.proofs.Imports.{◌≡◌, ℕ, ◌+◌, ◌≤◌, [], ◌++◌, take, Option, Some, None, sym, ap, ◌∙◌, arith, append-nil, Text}
 use Rattle.trac_c.specs.Held.{listed}
 
 -- where a byte stands behind a full buffer, none of the characters was put before it

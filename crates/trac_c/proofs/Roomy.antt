@@ -1,7 +1,7 @@
 -- What fits the buffer never fails, and stands in it.
 use Rattle.std.specs.Prelude.{IsSome, ◌^◌}
 use Rattle.std.proofs.lemmas.Bool.{lt-ltb}
-use Rattle.trac_c.proofs.Words.{◌≡◌, ◌≢◌, ℕ, ◌+◌, ◌<◌, ◌≤◌, [], ◌∷◌, ◌++◌, length, take, Option, Some, None, refl, sym, ap, subst, ◌∙◌, arith, length-append, append-nil, Text, Fate, MachineState, Moment, ending, state_with, state_of, GoesOn, next_printed, step_prints, length-take-le}
+use Rattle.trac_c.proofs.Imports.{◌≡◌, ◌≢◌, ℕ, ◌+◌, ◌<◌, ◌≤◌, [], ◌∷◌, ◌++◌, length, take, Option, Some, None, refl, sym, ap, subst, ◌∙◌, arith, length-append, append-nil, Text, Fate, MachineState, Moment, ending, state_with, state_of, GoesOn, next_printed, step_prints, length-take-le}
 use Rattle.trac_language.specs.declared.fate.Fate.TheVariants.{InputFailed, OutputFailed, Halted, InputEnded, Workspace, Steps}
 use Rattle.trac_language.specs.State.{State}
 use Rattle.trac_language.specs.Step.{Outcome, Next}

@@ -1,5 +1,5 @@
 -- A turn between a source over its input and a sink over its buffer, in their bytes.
-use Rattle.trac_c.proofs.Words.{◌≡◌, ℕ, [], None, append-nil, Bool, false, ◌+◌, ◌<◌, length, take, Text, Input, stream_in, MachineState, moment, next_printed, SomeTurned, LacksRoom, stands, Turn}
+use Rattle.trac_c.proofs.Imports.{◌≡◌, ℕ, [], None, append-nil, Bool, false, ◌+◌, ◌<◌, length, take, Text, Input, stream_in, MachineState, moment, next_printed, SomeTurned, LacksRoom, stands, Turn}
 use Rattle.trac_c.specs.declared.devices.GivenSource.{GivenSource}
 use Rattle.trac_c.specs.declared.devices.RoomySink.{RoomySink}
 

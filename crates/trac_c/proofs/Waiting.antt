@@ -1,6 +1,6 @@
 -- A turn that waits could take one more byte: the meta character behind what there is.
 use Rattle.std.specs.Prelude.{true, nat_eq}
-use Rattle.trac_c.proofs.Words.{◌≡◌, ℕ, ◌+◌, ◌-◌, ◌<◌, ◌≤◌, Bool, false, not, List, [], ◌∷◌, ◌++◌, length, Option, Some, None, refl, sym, ap, ◌∙◌, arith, ◌==◌, nat_le, ◌&&◌, if◌then◌else◌, is_none, nat_lt, Text, OpenCall, arguments, size, MachineState, ending, state_with, awaited, next_function, is_short}
+use Rattle.trac_c.proofs.Imports.{◌≡◌, ℕ, ◌+◌, ◌-◌, ◌<◌, ◌≤◌, Bool, false, not, List, [], ◌∷◌, ◌++◌, length, Option, Some, None, refl, sym, ap, ◌∙◌, arith, ◌==◌, nat_le, ◌&&◌, if◌then◌else◌, is_none, nat_lt, Text, OpenCall, arguments, size, MachineState, ending, state_with, awaited, next_function, is_short}
 use Rattle.std.specs.List.{before_first, list_any}
 use Rattle.std.proofs.lemmas.Bool.{true≢false, ne_eqb}
 use Rattle.std.proofs.Common.{eq-eqb}

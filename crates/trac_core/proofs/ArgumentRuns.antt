@@ -1,5 +1,5 @@
 -- Runs of ordinary characters and commas in a call: each is added or begins an argument.
-use Rattle.trac_core.proofs.Words.{◌≡◌, ℕ, zero, suc, ◌<◌, ◌≤◌, ◌+◌, Bool, true, false, List, [], ◌∷◌, ◌++◌, length, take, drop, map, All, Some, slice_get, get_or, refl, sym, ap, ◌∙◌, subst, arith, append_assoc, append-nil, length-append, ⊎_elim, inl, inr, ◌==◌, ◌⊎◌, if◌then◌else◌, range_with_len, ne_eqb, eqb-true, cases_lt, get_or_past, get_or_append_left, drop-append-le, get_or-map-range_with_len, length-map-range_with_len, All-head, All-tail, All-push, drop-append-add, Cell, Byte, Comma, IsLastCall, is_call, IsNoCall, NoComma, text_of_cells, character_of, IsByte, turned, Contents, used, memory_of, Scans, is_special, kind_of, IsOrdinary, IsPlainFrom, PassesTimes}
+use Rattle.trac_core.proofs.Imports.{◌≡◌, ℕ, zero, suc, ◌<◌, ◌≤◌, ◌+◌, Bool, true, false, List, [], ◌∷◌, ◌++◌, length, take, drop, map, All, Some, slice_get, get_or, refl, sym, ap, ◌∙◌, subst, arith, append_assoc, append-nil, length-append, ⊎_elim, inl, inr, ◌==◌, ◌⊎◌, if◌then◌else◌, range_with_len, ne_eqb, eqb-true, cases_lt, get_or_past, get_or_append_left, drop-append-le, get_or-map-range_with_len, length-map-range_with_len, All-head, All-tail, All-push, drop-append-add, Cell, Byte, Comma, IsLastCall, is_call, IsNoCall, NoComma, text_of_cells, character_of, IsByte, turned, Contents, used, memory_of, Scans, is_special, kind_of, IsOrdinary, IsPlainFrom, PassesTimes}
 use Rattle.trac_space.specs.Runs.{IsInRun, number_in, turned_by}
 use Rattle.trac_core.proofs.Scanning.{scans-comma}
 use Rattle.trac_core.proofs.StepsInRow.{passes-scans, scans-ordinary}

@@ -1,5 +1,5 @@
 -- The idling procedure, loaded and scanned up to its right parentheses.
-use Rattle.trac_core.proofs.Words.{◌≡◌, ℕ, ◌+◌, ◌≤◌, [], ◌∷◌, drop, map, refl, arith, IsSound, cells, idling, rule, BeginCall, Active, All-cons, IsNoCall, Cell, Byte, Call, Comma, Contents, used, memory_of, Scans, PassesTimes, Advances, IsLastCall}
+use Rattle.trac_core.proofs.Imports.{◌≡◌, ℕ, ◌+◌, ◌≤◌, [], ◌∷◌, drop, map, refl, arith, IsSound, cells, idling, rule, BeginCall, Active, All-cons, IsNoCall, Cell, Byte, Call, Comma, Contents, used, memory_of, Scans, PassesTimes, Advances, IsLastCall}
 use Rattle.trac_core.specs.StepsInRow.{idling_begun, idling_loaded}
 use Rattle.trac_functions.proofs.ArgumentLemmas.{bytes-flat}
 use Rattle.trac_core.proofs.Scanning.{scans-call, scans-comma}

@@ -21,4 +21,4 @@ pub mod OrdinaryBlocks
 pub mod ArgumentRuns
 pub mod OpenCalls
 pub mod Idling
-mod Words
+mod Imports

@@ -1,5 +1,5 @@
 -- The search for the right parenthesis that matches, character by character.
-use Rattle.trac_core.proofs.Words.{◌≡◌, ◌≢◌, ℕ, zero, suc, ◌+◌, ◌-◌, ◌*◌, ◌/◌, ◌%◌, ◌<◌, ◌≤◌, Bool, true, false, ◌&&◌, subst, List, [], ◌∷◌, ◌++◌, length, take, drop, Some, None, get_or, refl, sym, ap, ◌∙◌, arith, eq-eqb, sum_by, ⊎_elim, ◌==◌, if◌then◌else◌, ne_eqb, eqb-true, cases_Bool, drop_more, take_more, length-take, length-map, sum_by-cons, take-add, Cell, text_of_cells, character_of, Text, count, split_at_match, protected, IsAt, side_of, side_in, nat_tests}
+use Rattle.trac_core.proofs.Imports.{◌≡◌, ◌≢◌, ℕ, zero, suc, ◌+◌, ◌-◌, ◌*◌, ◌/◌, ◌%◌, ◌<◌, ◌≤◌, Bool, true, false, ◌&&◌, subst, List, [], ◌∷◌, ◌++◌, length, take, drop, Some, None, get_or, refl, sym, ap, ◌∙◌, arith, eq-eqb, sum_by, ⊎_elim, ◌==◌, if◌then◌else◌, ne_eqb, eqb-true, cases_Bool, drop_more, take_more, length-take, length-map, sum_by-cons, take-add, Cell, text_of_cells, character_of, Text, count, split_at_match, protected, IsAt, side_of, side_in, nat_tests}
 use Rattle.std.proofs.lemmas.List.Sums.{sum_by-append, count_by-le-length}
 use Rattle.std.proofs.Math.ListN.{drop_of_length-le}
 use Rattle.trac_core.proofs.Scanning.{take-text, drop-text}

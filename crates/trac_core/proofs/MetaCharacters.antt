@@ -1,5 +1,5 @@
 -- Texts with and without the meta character, and a text that is read.
-use Rattle.trac_core.proofs.Words.{◌≡◌, ℕ, suc, ◌+◌, ◌≤◌, Bool, true, false, not, ◌||◌, cond, [], ◌∷◌, ◌++◌, length, take, drop, refl, ap, ◌∙◌, arith, before_first, position_or_len, list_any, take_at, drop_at, length-take-le, take-length, drop-length, Text, or_parts, or_right}
+use Rattle.trac_core.proofs.Imports.{◌≡◌, ℕ, suc, ◌+◌, ◌≤◌, Bool, true, false, not, ◌||◌, cond, [], ◌∷◌, ◌++◌, length, take, drop, refl, ap, ◌∙◌, arith, before_first, position_or_len, list_any, take_at, drop_at, length-take-le, take-length, drop-length, Text, or_parts, or_right}
 
 module _ (p : ℕ → Bool) where
   none-head : (c : ℕ) (text : Text) → list_any p (c ∷ text) ≡ false → p c ≡ false

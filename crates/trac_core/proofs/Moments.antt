@@ -1,5 +1,5 @@
 -- A run of the machine, moment by moment, beside the run of the definition.
-use Rattle.trac_core.proofs.Words.{◌≡◌, ℕ, zero, suc, ◌+◌, ◌<◌, ◌≤◌, max, Bool, true, false, [], ◌++◌, refl, sym, ap, ◌∙◌, subst, append_assoc, arith, Text, Memory, size, step, need, reads_to_end, Stream, MachineState, Moment, moment, ending, state_with, state_of, GoesOn, Passes, PassesTimes, peak_after, passed}
+use Rattle.trac_core.proofs.Imports.{◌≡◌, ℕ, zero, suc, ◌+◌, ◌<◌, ◌≤◌, max, Bool, true, false, [], ◌++◌, refl, sym, ap, ◌∙◌, subst, append_assoc, arith, Text, Memory, size, step, need, reads_to_end, Stream, MachineState, Moment, moment, ending, state_with, state_of, GoesOn, Passes, PassesTimes, peak_after, passed}
 use Rattle.trac_laws.proofs.Reached.{Reached, reached_start, reached_next}
 use Rattle.trac_laws.proofs.ReachedWhileReading.{ReachedAnywhere, anywhere_start, anywhere_next}
 

@@ -1,5 +1,5 @@
 -- Runs of characters without a rule of their own, in blocks.
-use Rattle.trac_core.proofs.Words.{◌≡◌, ℕ, ◌+◌, ◌≤◌, ◌<◌, length, get_or, take_more, All-push, Byte, Bool, true, false, List, [], ◌∷◌, take, drop, All, refl, sym, subst, arith, sum_by, ◌==◌, if◌then◌else◌, take-add, All-append, All-cons, sum_by-cons, Cell, text_of_cells, character_of, is_special, kind_of, kind_in, IsOrdinary, nat_tests}
+use Rattle.trac_core.proofs.Imports.{◌≡◌, ℕ, ◌+◌, ◌≤◌, ◌<◌, length, get_or, take_more, All-push, Byte, Bool, true, false, List, [], ◌∷◌, take, drop, All, refl, sym, subst, arith, sum_by, ◌==◌, if◌then◌else◌, take-add, All-append, All-cons, sum_by-cons, Cell, text_of_cells, character_of, is_special, kind_of, kind_in, IsOrdinary, nat_tests}
 use Rattle.trac_core.proofs.Scanning.{take-text, drop-text, read-text}
 
 pub kind-small : (c : ℕ) → kind_of c ≤ 2

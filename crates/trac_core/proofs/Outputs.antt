@@ -1,5 +1,5 @@
 -- A run prints the same after anything that was printed before it.
-use Rattle.trac_core.proofs.Words.{◌≡◌, ℕ, zero, suc, List, [], ◌∷◌, ◌++◌, Bool, true, false, refl, sym, ap, ◌∙◌, append_assoc, append-nil, nat_lt, Mode, Text, OpenCall, Memory, Input, State, Meaning, Gives, Ends, Rule, EndCall, rule, Outcome, Next, deliver, perform, end_call, with_active, follow, end_need, need_by, step, need, Run, run, state_with}
+use Rattle.trac_core.proofs.Imports.{◌≡◌, ℕ, zero, suc, List, [], ◌∷◌, ◌++◌, Bool, true, false, refl, sym, ap, ◌∙◌, append_assoc, append-nil, nat_lt, Mode, Text, OpenCall, Memory, Input, State, Meaning, Gives, Ends, Rule, EndCall, rule, Outcome, Next, deliver, perform, end_call, with_active, follow, end_need, need_by, step, need, Run, run, state_with}
 use Rattle.trac_language.specs.Step.{Over}
 use Rattle.trac_language.specs.Run.{within, go_on, one_more}
 

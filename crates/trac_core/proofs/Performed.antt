@@ -1,5 +1,5 @@
 -- The function that a step performs, by what stands in the active and in the neutral string.
-use Rattle.trac_core.proofs.Words.{◌≡◌, ◌≢◌, ℕ, Bool, true, false, [], ◌∷◌, List, drop, take, slice_get, Option, Some, None, refl, sym, ap, ◌==◌, if◌then◌else◌, bytes_eq, codes, ne_eqb, Active, Text, protected, OpenCall, DeleteLayout, BeginArgument, BeginCall, EndCall, AddCharacter, is_layout, number_sign_rule, parenthesis_rule, rule, NoCall, IsLastCall, text_of_cells, Contents, IsSound, Memory, arguments, arguments_at, memory_of, performed_by, performs, calls_device, needs_device, needs_device_by, function_at}
+use Rattle.trac_core.proofs.Imports.{◌≡◌, ◌≢◌, ℕ, Bool, true, false, [], ◌∷◌, List, drop, take, slice_get, Option, Some, None, refl, sym, ap, ◌==◌, if◌then◌else◌, bytes_eq, codes, ne_eqb, Active, Text, protected, OpenCall, DeleteLayout, BeginArgument, BeginCall, EndCall, AddCharacter, is_layout, number_sign_rule, parenthesis_rule, rule, NoCall, IsLastCall, text_of_cells, Contents, IsSound, Memory, arguments, arguments_at, memory_of, performed_by, performs, calls_device, needs_device, needs_device_by, function_at}
 use Rattle.trac_language.specs.Rule.{Rule}
 use Rattle.trac_language.specs.declared.mode.Mode.TheVariants.{Neutral}
 use Rattle.trac_laws.proofs.Rules.{rule_end}

@@ -1,5 +1,5 @@
 -- The end of the neutral string in which no comma mark stands.
-use Rattle.trac_core.proofs.Words.{◌≡◌, ℕ, ◌-◌, ◌+◌, true, false, List, [], ◌∷◌, ◌++◌, length, length-append, drop, get_or, All, refl, sym, subst, arith, ⊎_elim, cases_lt, drop-append-le, get_or_push, All-append, All-drop, drop-append-add, Cell, Byte, Call, Mode, IsLastCall, is_call, is_comma, NoCall, NoComma, IsByte, IsPlainFrom}
+use Rattle.trac_core.proofs.Imports.{◌≡◌, ℕ, ◌-◌, ◌+◌, true, false, List, [], ◌∷◌, ◌++◌, length, length-append, drop, get_or, All, refl, sym, subst, arith, ⊎_elim, cases_lt, drop-append-le, get_or_push, All-append, All-drop, drop-append-add, Cell, Byte, Call, Mode, IsLastCall, is_call, is_comma, NoCall, NoComma, IsByte, IsPlainFrom}
 
 no-comma : (cell : Cell) → IsByte cell → is_comma cell ≡ false
 no-comma (Byte c) h = refl

@@ -1,5 +1,5 @@
 -- The calls that print, change the meta character and stop.
-use Rattle.trac_core.proofs.Words.{◌≡◌, ◌≢◌, ℕ, List, [], ◌∷◌, ◌++◌, drop, false, length, nat_lt, Some, None, refl, sym, ap, ◌∙◌, arith, slice_get, get_or-drop, PrintString, ChangeMeta, Halt, Halted, OutputFailed, Text, argument, World, change_meta, silent, meaning_of, value_length, Contents, used, Stream, arguments_at, world, ending, Null, Over, scene, IsCall, AnswersCall}
+use Rattle.trac_core.proofs.Imports.{◌≡◌, ◌≢◌, ℕ, List, [], ◌∷◌, ◌++◌, drop, false, length, nat_lt, Some, None, refl, sym, ap, ◌∙◌, arith, slice_get, get_or-drop, PrintString, ChangeMeta, Halt, Halted, OutputFailed, Text, argument, World, change_meta, silent, meaning_of, value_length, Contents, used, Stream, arguments_at, world, ending, Null, Over, scene, IsCall, AnswersCall}
 use Rattle.trac_core.proofs.Performing.{tried-null, quiet-null, tried-end, tried-broken}
 
 -- the first argument after the name

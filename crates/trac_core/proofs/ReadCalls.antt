@@ -1,8 +1,8 @@
 -- The calls that read.
 use Rattle.std.proofs.lemmas.List.{drop_all, take_all}
 use Rattle.trac_language.specs.declared.mode.Mode.TheVariants.{Neutral}
-use Rattle.trac_core.proofs.Words.{None, Null, Mode, Active, take, append-nil, subst, delivered, mode_at, text_of_cells, TriedCall}
-use Rattle.trac_core.proofs.Words.{◌≡◌, ℕ, ◌+◌, ◌-◌, ◌<◌, ◌≤◌, true, false, not, List, [], ◌∷◌, ◌++◌, length, drop, Some, refl, sym, ap, ◌∙◌, arith, append_assoc, length-append, ⊎_elim, eq-eqb, ◌==◌, before_first, position_or_len, list_any, length-map, cases_lt, ReadString, ReadCharacter, InputEnded, InputFailed, Text, World, meaning_of, built, before_meta, from_meta, read_string, reads_last, read_all, valued, with_input, Byte, flat_text, Contents, used, IsSound, Stream, has_byte, Reads, arguments_at, world, ending, failing, Full, AtEnd, Over, scene, IsCall, settled, AnswersCall, IsValueFrom, TakesFrom, or_parts}
+use Rattle.trac_core.proofs.Imports.{None, Null, Mode, Active, take, append-nil, subst, delivered, mode_at, text_of_cells, TriedCall}
+use Rattle.trac_core.proofs.Imports.{◌≡◌, ℕ, ◌+◌, ◌-◌, ◌<◌, ◌≤◌, true, false, not, List, [], ◌∷◌, ◌++◌, length, drop, Some, refl, sym, ap, ◌∙◌, arith, append_assoc, length-append, ⊎_elim, eq-eqb, ◌==◌, before_first, position_or_len, list_any, length-map, cases_lt, ReadString, ReadCharacter, InputEnded, InputFailed, Text, World, meaning_of, built, before_meta, from_meta, read_string, reads_last, read_all, valued, with_input, Byte, flat_text, Contents, used, IsSound, Stream, has_byte, Reads, arguments_at, world, ending, failing, Full, AtEnd, Over, scene, IsCall, settled, AnswersCall, IsValueFrom, TakesFrom, or_parts}
 use Rattle.trac_functions.proofs.PutCharacters.{used-with}
 use Rattle.trac_core.proofs.MetaCharacters.{position-past, before-none, from-none, before-at, from-at, length-before, any-at}
 use Rattle.trac_core.proofs.Performing.{tried-quiet, tried-full, tried-end, tried-failed, delivered-value, text-stands}

@@ -1,5 +1,5 @@
 -- A text that is read in runs.
-use Rattle.trac_core.proofs.Words.{◌≡◌, ℕ, ◌||◌, false, [], ◌∷◌, ◌++◌, refl, sym, ap, ◌∙◌, append_assoc, append-nil, eqb, ◌==◌, map-append, Text, flat_text, Contents, Stream, Streams, has_byte, Reads}
+use Rattle.trac_core.proofs.Imports.{◌≡◌, ℕ, ◌||◌, false, [], ◌∷◌, ◌++◌, refl, sym, ap, ◌∙◌, append_assoc, append-nil, eqb, ◌==◌, map-append, Text, flat_text, Contents, Stream, Streams, has_byte, Reads}
 use Rattle.std.proofs.lemmas.List.Folds.{list_any-append}
 use Rattle.trac_space.specs.declared.cell.Cell.TheVariants.{Byte as ByteCell}
 use Rattle.trac_devices.specs.declared.device.Next.TheVariants.{Byte, End, Failed}

@@ -1,5 +1,5 @@
 -- What a run reports at its last step.
-use Rattle.trac_core.proofs.Words.{◌≡◌, ℕ, ◌+◌, ◌-◌, max, false, true, [], ◌++◌, Some, refl, sym, ap, ◌∙◌, subst, arith, append_assoc, append_cancel_left, Fate, Halted, InputEnded, Workspace, Steps, InputFailed, OutputFailed, Text, Memory, Input, State, first, need, Run, run, Report, MachineState, Moment, ending, failing, state_with, state_of, failing_state_of, StopsAtAllowance, StopsAtRoom, StopsAtInput, StopsAtOutput, EndsRun, Answers, Course, IsReportOf, RanThrough, RanToFailure, BrokeOff, ReportsOf, Reports, Resumes, after_steps, first_runs, later_runs, made, KeepsFormsAndMeta, LeavesMemory, memory_after, state_after}
+use Rattle.trac_core.proofs.Imports.{◌≡◌, ℕ, ◌+◌, ◌-◌, max, false, true, [], ◌++◌, Some, refl, sym, ap, ◌∙◌, subst, arith, append_assoc, append_cancel_left, Fate, Halted, InputEnded, Workspace, Steps, InputFailed, OutputFailed, Text, Memory, Input, State, first, need, Run, run, Report, MachineState, Moment, ending, failing, state_with, state_of, failing_state_of, StopsAtAllowance, StopsAtRoom, StopsAtInput, StopsAtOutput, EndsRun, Answers, Course, IsReportOf, RanThrough, RanToFailure, BrokeOff, ReportsOf, Reports, Resumes, after_steps, first_runs, later_runs, made, KeepsFormsAndMeta, LeavesMemory, memory_after, state_after}
 use Rattle.trac_language.specs.Run.{counted}
 use Rattle.trac_laws.proofs.Reached.{state_none, state_over, reached_over, reached_full, reached_spent, reached_unwritten}
 use Rattle.trac_laws.proofs.ReachedWhileReading.{anywhere_failed}

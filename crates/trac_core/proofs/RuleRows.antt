@@ -1,5 +1,5 @@
 -- The row of the table of scanning rules, by the first characters, as a scanner tells them.
-use Rattle.trac_core.proofs.Words.{if◌then◌else◌, IsOrdinary, is_special, Bool, true, false, codes, bytes_eq, is_layout, number_sign_rule, BeginArgument, BeginCall, DeleteLayout, EndCall, Active, ◌==◌, ◌≡◌, ◌≢◌, ℕ, zero, suc, ◌+◌, ◌-◌, ◌<◌, ◌≤◌, List, [], ◌∷◌, length, take, drop, map, Option, Some, None, refl, sym, ap, ◌∙◌, arith, slice_get, slice_range, ne_eqb, take-length, Text, protected, AddCharacter, parenthesis_rule, rule, Cell, Call, seen, Neutral, no_neutral, with_cell, with_cells, neutral_of, text_of_cells}
+use Rattle.trac_core.proofs.Imports.{if◌then◌else◌, IsOrdinary, is_special, Bool, true, false, codes, bytes_eq, is_layout, number_sign_rule, BeginArgument, BeginCall, DeleteLayout, EndCall, Active, ◌==◌, ◌≡◌, ◌≢◌, ℕ, zero, suc, ◌+◌, ◌-◌, ◌<◌, ◌≤◌, List, [], ◌∷◌, length, take, drop, map, Option, Some, None, refl, sym, ap, ◌∙◌, arith, slice_get, slice_range, ne_eqb, take-length, Text, protected, AddCharacter, parenthesis_rule, rule, Cell, Call, seen, Neutral, no_neutral, with_cell, with_cells, neutral_of, text_of_cells}
 use Rattle.trac_language.specs.declared.mode.Mode.TheVariants.{Neutral as NeutralMode}
 use Rattle.trac_laws.proofs.Rules.{rule_comma, rule_end, rule_active, rule_neutral, rule_other}
 use Rattle.trac_core.specs.declared.rules.ScanningRule.{ScanningRule}

@@ -1,5 +1,5 @@
 -- A run of a machine whose parts stand apart, turn by turn beside the run of the definition.
-use Rattle.trac_core.proofs.Words.{◌≡◌, ◌≢◌, ℕ, ◌+◌, ◌-◌, ◌<◌, ◌≤◌, max, ◌⊎◌, inl, inr, [], ◌++◌, cells, Some, None, refl, sym, ap, ◌∙◌, subst, arith, Fate, Steps, Text, size, Stream, Contents, used, IsSound, memory_of, Report, scene, Tried, MachineState, moment, counted, Resumes, KeepsFormsAndMeta, LeavesMemory, Advances, peak_after, passed, running}
+use Rattle.trac_core.proofs.Imports.{◌≡◌, ◌≢◌, ℕ, ◌+◌, ◌-◌, ◌<◌, ◌≤◌, max, ◌⊎◌, inl, inr, [], ◌++◌, cells, Some, None, refl, sym, ap, ◌∙◌, subst, arith, Fate, Steps, Text, size, Stream, Contents, used, IsSound, memory_of, Report, scene, Tried, MachineState, moment, counted, Resumes, KeepsFormsAndMeta, LeavesMemory, Advances, peak_after, passed, running}
 use Rattle.trac_functions.proofs.FlatLemmas.{size-used}
 use Rattle.trac_core.specs.declared.machine.Counters.{Counters}
 use Rattle.trac_core.proofs.Moments.{OnCourse, course-more, course-passes}

@@ -1,5 +1,5 @@
 -- The rules that perform no call, over the contents of a workspace.
-use Rattle.trac_core.proofs.Words.{length-map, get_or-map, get_or, seen, ◌≡◌, ◌≢◌, ℕ, ◌+◌, ◌-◌, ◌<◌, true, false, List, [], ◌∷◌, ◌++◌, length, take, drop, map, All, Option, Some, None, refl, sym, ap, ◌∙◌, subst, ⊎_elim, arith, slice_get, MatchOption, is_some, slice_range, cases_eq, drop-map, take-map, length-drop, drop-drop, All-take, All-drop, take-length, Mode, Text, Form, cells, protected, Input, OpenCall, add, begin_argument, Rule, LoadIdling, DeleteLayout, AddProtected, ClearActive, BeginArgument, BeginCall, EndCall, AddCharacter, parenthesis_rule, is_layout, rule, Next, idling, follow, end_need, need_by, step, need, reads_last_by, Cell, Byte, Call, Comma, NoCall, IsLastCall, flat_text, text_of_cells, character_of, IsByte, Contents, used, IsSound, Neutral, with_cell, neutral_of, memory_with, memory_of, state_with, Scans, size, State, performed_by, ending}
+use Rattle.trac_core.proofs.Imports.{length-map, get_or-map, get_or, seen, ◌≡◌, ◌≢◌, ℕ, ◌+◌, ◌-◌, ◌<◌, true, false, List, [], ◌∷◌, ◌++◌, length, take, drop, map, All, Option, Some, None, refl, sym, ap, ◌∙◌, subst, ⊎_elim, arith, slice_get, MatchOption, is_some, slice_range, cases_eq, drop-map, take-map, length-drop, drop-drop, All-take, All-drop, take-length, Mode, Text, Form, cells, protected, Input, OpenCall, add, begin_argument, Rule, LoadIdling, DeleteLayout, AddProtected, ClearActive, BeginArgument, BeginCall, EndCall, AddCharacter, parenthesis_rule, is_layout, rule, Next, idling, follow, end_need, need_by, step, need, reads_last_by, Cell, Byte, Call, Comma, NoCall, IsLastCall, flat_text, text_of_cells, character_of, IsByte, Contents, used, IsSound, Neutral, with_cell, neutral_of, memory_with, memory_of, state_with, Scans, size, State, performed_by, ending}
 use Rattle.std.proofs.lemmas.List.{take_all}
 use Rattle.trac_laws.proofs.Rules.{rule_comma, rule_end, rule_sign_last, rule_two_signs_last, rule_sign, rule_two_signs, rule_other}
 use Rattle.trac_functions.proofs.FlatLemmas.{with_cells-append, neutral_of-push, neutral_of-innermost, size-used, with_cells-text, calls-none}

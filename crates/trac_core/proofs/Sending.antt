@@ -1,5 +1,5 @@
 -- What was put into a sink was sent on.
-use Rattle.trac_core.proofs.Words.{sym, subst, inr, ⊎_elim, arith, Text, Sent}
+use Rattle.trac_core.proofs.Imports.{sym, subst, inr, ⊎_elim, arith, Text, Sent}
 
 module _ {S : Type 0} (tells flushed : S → Type 0) (written : S → Text) where
   -- one step after others

@@ -1,6 +1,6 @@
 -- Steps in a row: ordinary characters are added one by one, layout characters deleted, and the steps of any rule that
 -- performs no call follow one another.
-use Rattle.trac_core.proofs.Words.{◌≡◌, ◌≢◌, ℕ, zero, suc, ◌<◌, ◌≤◌, ◌+◌, ◌-◌, max, ◌⊎◌, inl, inr, Bool, true, false, ◌||◌, List, [], ◌∷◌, ◌++◌, length, take, drop, All, Option, Some, None, slice_get, refl, sym, ap, ◌∙◌, subst, arith, append_assoc, append-nil, length-append, ◌==◌, take-take, Fate, Workspace, All-head, All-tail, All-cons, Text, Memory, size, is_layout, need, Cell, Byte, text_of_cells, IsByte, Contents, used, IsSound, Stream, memory_of, moment, ending, state_of, Scans, scene, Scanned, Tried, is_special, IsOrdinary, IsLayout, Passes, PassesTimes, Advances, SomeSteps, peak_after}
+use Rattle.trac_core.proofs.Imports.{◌≡◌, ◌≢◌, ℕ, zero, suc, ◌<◌, ◌≤◌, ◌+◌, ◌-◌, max, ◌⊎◌, inl, inr, Bool, true, false, ◌||◌, List, [], ◌∷◌, ◌++◌, length, take, drop, All, Option, Some, None, slice_get, refl, sym, ap, ◌∙◌, subst, arith, append_assoc, append-nil, length-append, ◌==◌, take-take, Fate, Workspace, All-head, All-tail, All-cons, Text, Memory, size, is_layout, need, Cell, Byte, text_of_cells, IsByte, Contents, used, IsSound, Stream, memory_of, moment, ending, state_of, Scans, scene, Scanned, Tried, is_special, IsOrdinary, IsLayout, Passes, PassesTimes, Advances, SomeSteps, peak_after}
 use Rattle.trac_functions.proofs.FlatLemmas.{size-used}
 use Rattle.trac_core.proofs.Scanning.{scans-other, scans-layout, first-rest}
 

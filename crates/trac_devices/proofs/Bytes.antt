@@ -1,6 +1,6 @@
 -- Known bytes in front of a reader and behind a writer.
-use Rattle.trac_devices.proofs.Words.{Bool, IsSome, unwrap_or, ◌≡◌, ◌∙◌, ◌+◌, ◌-◌, ◌≤◌, ◌<◌, ◌++◌, ◌∷◌, ap, ap₂, refl, ℕ, List, [], get_or, length, take, drop, Option, Some, None, sym, arith, append_assoc, length-take, slice_range, Result, Ok, Err, OnErr, take-add, drop-append-le, drop-drop}
-use Rattle.trac_devices.proofs.Words.{drop-take, take-append-drop, take_all, length-drop, Text, set, drop-cons, between_is, take-put_mid, put_mid, Appends, Consumes, IsAtEnd, Keeps, append_known, prepend_known, BufferedInput, CountedReader, IfTells}
+use Rattle.trac_devices.proofs.Imports.{Bool, IsSome, unwrap_or, ◌≡◌, ◌∙◌, ◌+◌, ◌-◌, ◌≤◌, ◌<◌, ◌++◌, ◌∷◌, ap, ap₂, refl, ℕ, List, [], get_or, length, take, drop, Option, Some, None, sym, arith, append_assoc, length-take, slice_range, Result, Ok, Err, OnErr, take-add, drop-append-le, drop-drop}
+use Rattle.trac_devices.proofs.Imports.{drop-take, take-append-drop, take_all, length-drop, Text, set, drop-cons, between_is, take-put_mid, put_mid, Appends, Consumes, IsAtEnd, Keeps, append_known, prepend_known, BufferedInput, CountedReader, IfTells}
 
 -- a part is its front and the rest
 pub part_split : (xs : List ℕ) (a n b : ℕ) → a + n ≤ b → slice_range xs a b ≡ slice_range xs a (a + n) ++ slice_range xs (a + n) b

@@ -1,3 +1,3 @@
 pub mod Bytes
 pub mod PutTexts
-mod Words
+mod Imports

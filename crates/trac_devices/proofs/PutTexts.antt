@@ -1,5 +1,5 @@
 -- Texts that are put into a sink.
-use Rattle.trac_devices.proofs.Words.{◌≡◌, ℕ, ◌++◌, take, drop, sym, ◌∙◌, Result, Ok, Err, IsErr, take-append-drop, Text, Breaks, Prints}
+use Rattle.trac_devices.proofs.Imports.{◌≡◌, ℕ, ◌++◌, take, drop, sym, ◌∙◌, Result, Ok, Err, IsErr, take-append-drop, Text, Breaks, Prints}
 
 -- the first k characters were put, and no more
 pub breaks-text : (old mid new text : Text) (k : ℕ) → mid ≡ old ++ take k text → new ≡ mid → Breaks old text new

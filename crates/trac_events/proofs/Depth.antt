@@ -1,5 +1,5 @@
 -- How many calls are open after a step.
-use Rattle.trac_events.proofs.Words.{◌≡◌, ℕ, ◌-◌, List, [], ◌∷◌, length, refl, false, Mode, arith}
+use Rattle.trac_events.proofs.Imports.{◌≡◌, ℕ, ◌-◌, List, [], ◌∷◌, length, refl, false, Mode, arith}
 use Rattle.std.proofs.Common.{Bool, true, subst}
 use Rattle.trac_language.specs.declared.mode.Mode.TheVariants.{Active, Neutral}
 use Rattle.trac_language.specs.Text.{Text}

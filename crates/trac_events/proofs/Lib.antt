@@ -1,4 +1,4 @@
 pub mod Depth
 pub mod Failures
 pub mod NextArgument
-mod Words
+mod Imports

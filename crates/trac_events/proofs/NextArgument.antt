@@ -1,5 +1,5 @@
 -- The arguments behind the first one.
-use Rattle.trac_events.proofs.Words.{◌≡◌, ℕ, suc, ◌+◌, ◌-◌, ◌<◌, List, drop, ap, arith, position_or_len, Cell, is_comma, argument_of}
+use Rattle.trac_events.proofs.Imports.{◌≡◌, ℕ, suc, ◌+◌, ◌-◌, ◌<◌, List, drop, ap, arith, position_or_len, Cell, is_comma, argument_of}
 
 -- argument `k - i` is one before it among the arguments behind the first
 pub next_argument : (cells : List Cell) (i k : ℕ) → i < k → argument_of (drop (position_or_len is_comma cells + 1) cells) (k - (i + 1)) ≡ argument_of cells (k - i)

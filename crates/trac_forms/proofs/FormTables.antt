@@ -1,7 +1,7 @@
 -- The table of the forms of a store, as they come and go.
-use Rattle.trac_forms.proofs.Words.{◌≡◌, ◌≢◌, ℕ, zero, suc, ◌+◌, ◌-◌, ◌<◌, ◌≤◌, true, false, List, [], ◌∷◌, length, set, take, if◌then◌else◌, refl, sym, ap, ◌∙◌, arith, subst, nat_lt, nat_le, remove, lt-ltb, le-ltb, ltb-true, ltb-false, lt-leb, leb-true, leb-false, false≢true, get_or-take}
-use Rattle.trac_forms.proofs.Words.{take-take, length-take-le, length-set, length-remove, get_or-remove_below, get_or-remove_above, sum_by-cons, Text, Form, form_cells, cells, Cell, Comma, Head, flat_forms, name_at, form_at, start_of, hash, quarter, slots, cell_at, home_place, is_open, number_of}
-use Rattle.trac_forms.proofs.Words.{home_in, start_in, buried, forward, earlier, started, IsReached, IsIndexBut, IsIndex, IsOpenFor, with_entry, Bool, take-set-le}
+use Rattle.trac_forms.proofs.Imports.{◌≡◌, ◌≢◌, ℕ, zero, suc, ◌+◌, ◌-◌, ◌<◌, ◌≤◌, true, false, List, [], ◌∷◌, length, set, take, if◌then◌else◌, refl, sym, ap, ◌∙◌, arith, subst, nat_lt, nat_le, remove, lt-ltb, le-ltb, ltb-true, ltb-false, lt-leb, leb-true, leb-false, false≢true, get_or-take}
+use Rattle.trac_forms.proofs.Imports.{take-take, length-take-le, length-set, length-remove, get_or-remove_below, get_or-remove_above, sum_by-cons, Text, Form, form_cells, cells, Cell, Comma, Head, flat_forms, name_at, form_at, start_of, hash, quarter, slots, cell_at, home_place, is_open, number_of}
+use Rattle.trac_forms.proofs.Imports.{home_in, start_in, buried, forward, earlier, started, IsReached, IsIndexBut, IsIndex, IsOpenFor, with_entry, Bool, take-set-le}
 use Rattle.trac_store.proofs.TableChanges.{index-put, index-bury, index-begin, index-as, index-renamed, reached-within, head-same}
 use Rattle.trac_store.proofs.FlatLemmas.{length-flat}
 use Rattle.trac_store.proofs.IndexSearch.{name-set}

@@ -1,6 +1,6 @@
 -- The first of the forms that cells stand for, and those behind it.
-use Rattle.trac_forms.proofs.Words.{◌≡◌, ◌≢◌, ℕ, ◌+◌, ◌-◌, ◌<◌, ◌≤◌, List, [], ◌∷◌, length, take, drop, map, get_or, slice_range, Some, refl, sym, ap, ◌∙◌, subst, arith, take-length, length-map, length-drop, drop_more, length-between, Form, IsStore, Cell, Byte, Call, Comma, Head, seen}
-use Rattle.trac_forms.proofs.Words.{text_of_cells, flat_forms, form_at, item_of, forms_in, start_of, head_number, form_of, IsListed, IsForm, character_of-Byte, item_of-cell, forms_in-flat, part-seen, bytes-seen, number-at, stands, pointer-within}
+use Rattle.trac_forms.proofs.Imports.{◌≡◌, ◌≢◌, ℕ, ◌+◌, ◌-◌, ◌<◌, ◌≤◌, List, [], ◌∷◌, length, take, drop, map, get_or, slice_range, Some, refl, sym, ap, ◌∙◌, subst, arith, take-length, length-map, length-drop, drop_more, length-between, Form, IsStore, Cell, Byte, Call, Comma, Head, seen}
+use Rattle.trac_forms.proofs.Imports.{text_of_cells, flat_forms, form_at, item_of, forms_in, start_of, head_number, form_of, IsListed, IsForm, character_of-Byte, item_of-cell, forms_in-flat, part-seen, bytes-seen, number-at, stands, pointer-within}
 use Rattle.trac_forms.proofs.Strings.{name-there, body-there}
 
 item_of-seen : (cells : List Cell) → map item_of (map seen cells) ≡ map item_of cells

@@ -1,6 +1,6 @@
 -- The item at the pointer of a form, copied to the end of neutral.
 use Rattle.std.proofs.Common.{suc}
-use Rattle.trac_forms.proofs.Words.{◌≡◌, ℕ, ◌+◌, ◌-◌, ◌<◌, ◌≤◌, ◌++◌, Bool, true, false, List, [], ◌∷◌, length, take, drop, map, get_or, slice_range, refl, sym, ap, ◌∙◌, arith, drop_more, length-drop, length-map, OnTrue, length-between, rules, Item, is_character, text_of, Cell, Byte, Comma, IsByte, Lists, flat_text, item_of, forms_in, flat_forms, shown, called_part, item_at, form_at}
+use Rattle.trac_forms.proofs.Imports.{◌≡◌, ℕ, ◌+◌, ◌-◌, ◌<◌, ◌≤◌, ◌++◌, Bool, true, false, List, [], ◌∷◌, length, take, drop, map, get_or, slice_range, refl, sym, ap, ◌∙◌, arith, drop_more, length-drop, length-map, OnTrue, length-between, rules, Item, is_character, text_of, Cell, Byte, Comma, IsByte, Lists, flat_text, item_of, forms_in, flat_forms, shown, called_part, item_at, form_at}
 use Rattle.trac_language.specs.declared.item.Item.TheVariants as item
 use Rattle.trac_space.specs.Lists as lists
 use Rattle.trac_forms.specs.Loading.{HasNext, next_text}

@@ -1,6 +1,6 @@
 -- What removing forms by their names leaves of a `Work`.
-use Rattle.trac_forms.proofs.Words.{◌≡◌, ℕ, AreForms, List, length, take, sym, ap, refl, ◌∙◌, subst, arith, not, length-map, take_all, Text, Form, Lists, flat_forms, form_at, IsIndexed, forms_in, start_of, is_among, without_all, marked_if, with_marks, unmarked, IsFormed, IsMarkedFrom, forms_in-flat}
-use Rattle.trac_forms.proofs.Words.{stands, pointer-within, shown, IsStored}
+use Rattle.trac_forms.proofs.Imports.{◌≡◌, ℕ, AreForms, List, length, take, sym, ap, refl, ◌∙◌, subst, arith, not, length-map, take_all, Text, Form, Lists, flat_forms, form_at, IsIndexed, forms_in, start_of, is_among, without_all, marked_if, with_marks, unmarked, IsFormed, IsMarkedFrom, forms_in-flat}
+use Rattle.trac_forms.proofs.Imports.{stands, pointer-within, shown, IsStored}
 use Rattle.trac_forms.proofs.Removals.{own-names, no-mark, unmarked-marks, IsStore-filter, cells-filter, length-marks}
 use Rattle.trac_forms.proofs.Strings.{used-stored, restored, shown-restored}
 

@@ -1,7 +1,7 @@
 -- What `define` and `segment` leave in a store, from what they put there.
-use Rattle.trac_forms.proofs.Words.{◌≡◌, ℕ, ◌+◌, ◌-◌, ◌<◌, ◌≤◌, List, ◌∷◌, [], ◌++◌, length, take, drop, map, set, slice_range, refl, sym, ap, subst, ◌∙◌, arith, length_push, length-append, length-map, length-set, length-take-le, length-drop, take_at, length-between, sum_by_push, items_of}
-use Rattle.trac_forms.proofs.Words.{segment, form_cells, Text, Cell, Head, character_of, Lists, flat_item, flat_form, flat_forms, form_at, name_at, part_text, new_form, IsTextPart, segmented_cells, IsIndexed, IsIndexBut, started, forms_in, start_of}
-use Rattle.trac_forms.proofs.Words.{NoneNamed, IsStore-push, flat_map_more, IsStored, forms_in-flat, length-flat, length-new_form, flat_items_of, Byte-character_of, stands, start_of-set, IsStore-set, cells-set, index-replaced, flat-segment, regapped, written, length-flat_form}
+use Rattle.trac_forms.proofs.Imports.{◌≡◌, ℕ, ◌+◌, ◌-◌, ◌<◌, ◌≤◌, List, ◌∷◌, [], ◌++◌, length, take, drop, map, set, slice_range, refl, sym, ap, subst, ◌∙◌, arith, length_push, length-append, length-map, length-set, length-take-le, length-drop, take_at, length-between, sum_by_push, items_of}
+use Rattle.trac_forms.proofs.Imports.{segment, form_cells, Text, Cell, Head, character_of, Lists, flat_item, flat_form, flat_forms, form_at, name_at, part_text, new_form, IsTextPart, segmented_cells, IsIndexed, IsIndexBut, started, forms_in, start_of}
+use Rattle.trac_forms.proofs.Imports.{NoneNamed, IsStore-push, flat_map_more, IsStored, forms_in-flat, length-flat, length-new_form, flat_items_of, Byte-character_of, stands, start_of-set, IsStore-set, cells-set, index-replaced, flat-segment, regapped, written, length-flat_form}
 use Rattle.trac_forms.proofs.FormTables.{index-set}
 use Rattle.trac_language.specs.declared.item.Item.TheVariants as item
 use Rattle.trac_space.specs.Lists as lists

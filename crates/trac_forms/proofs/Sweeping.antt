@@ -1,7 +1,7 @@
 -- The store while the marked forms are taken out of it, in order.
-use Rattle.trac_forms.proofs.Words.{◌≡◌, ℕ, zero, suc, ◌+◌, ◌-◌, ◌<◌, ◌≤◌, true, false, List, [], ◌∷◌, ◌++◌, length, take, drop, slice_range, slice_get, sym, ap, refl, ◌∙◌, arith, not, append_assoc, append-nil, take-append-drop, length-append, length-drop, length-take-le}
-use Rattle.trac_forms.proofs.Words.{length_push, take_more, take_at, drop_at, drop-drop, flat_map_more, flat_map-append, length-between, slice_get_past, drop-append-drop, filter-append, Form, Cell, Lists, part-on, flat_form, flat_forms, form_at}
-use Rattle.trac_forms.proofs.Words.{IsMarkedFrom, is_marked, unmarked, forms_in, start_of, head_number, head_at, IsPlace, places, rules, same_lists}
+use Rattle.trac_forms.proofs.Imports.{◌≡◌, ℕ, zero, suc, ◌+◌, ◌-◌, ◌<◌, ◌≤◌, true, false, List, [], ◌∷◌, ◌++◌, length, take, drop, slice_range, slice_get, sym, ap, refl, ◌∙◌, arith, not, append_assoc, append-nil, take-append-drop, length-append, length-drop, length-take-le}
+use Rattle.trac_forms.proofs.Imports.{length_push, take_more, take_at, drop_at, drop-drop, flat_map_more, flat_map-append, length-between, slice_get_past, drop-append-drop, filter-append, Form, Cell, Lists, part-on, flat_form, flat_forms, form_at}
+use Rattle.trac_forms.proofs.Imports.{IsMarkedFrom, is_marked, unmarked, forms_in, start_of, head_number, head_at, IsPlace, places, rules, same_lists}
 use Rattle.trac_store.proofs.FlatLemmas.{length-flat_form}
 use Rattle.trac_store.proofs.Places.{Stands, stands}
 

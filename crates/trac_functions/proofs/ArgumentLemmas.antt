@@ -1,7 +1,7 @@
 -- Parts of the neutral string as texts, and arguments cut at comma marks.
-use Rattle.trac_functions.proofs.Words.{◌≡◌, ℕ, suc, ◌+◌, ◌-◌, ◌<◌, ◌≤◌, Bool, true, false, List, [], ◌∷◌, length, take, drop, slice_range, All, map, refl, sym, ap, ◌∙◌, subst, ⊎_elim, arith, get_or, cond, nat_le, cases_lt, length-map, get_or-drop, take-map}
-use Rattle.trac_functions.proofs.Words.{length-between, All-cons, All-take, All-drop, All-map, Text, argument, Cell, Byte, Call, Comma, Gap, Head, seen, is_call, is_comma, NoCall, NoComma, flat_text, text_of_cells, character_of, IsByte, Contents, IsStringCell, IsSound, IsTextPart, part_text}
-use Rattle.trac_functions.proofs.Words.{before_comma, before_comma-within, found-comma, Arguments, in_first, texts_of, texts_from, texts, AreArguments}
+use Rattle.trac_functions.proofs.Imports.{◌≡◌, ℕ, suc, ◌+◌, ◌-◌, ◌<◌, ◌≤◌, Bool, true, false, List, [], ◌∷◌, length, take, drop, slice_range, All, map, refl, sym, ap, ◌∙◌, subst, ⊎_elim, arith, get_or, cond, nat_le, cases_lt, length-map, get_or-drop, take-map}
+use Rattle.trac_functions.proofs.Imports.{length-between, All-cons, All-take, All-drop, All-map, Text, argument, Cell, Byte, Call, Comma, Gap, Head, seen, is_call, is_comma, NoCall, NoComma, flat_text, text_of_cells, character_of, IsByte, Contents, IsStringCell, IsSound, IsTextPart, part_text}
+use Rattle.trac_functions.proofs.Imports.{before_comma, before_comma-within, found-comma, Arguments, in_first, texts_of, texts_from, texts, AreArguments}
 use Rattle.trac_functions.proofs.CellRanges.{drop-range, take-range}
 
 -- ---- cells as contracts see them

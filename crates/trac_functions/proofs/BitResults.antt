@@ -1,8 +1,8 @@
 -- Results of bits: how many digits they have, and that they stay when cells are put behind the neutral string.
 use Rattle.trac_space.specs.declared.part.Part.{Part}
-use Rattle.trac_functions.proofs.Words.{◌≡◌, ℕ, ◌-◌, ◌*◌, ◌≤◌, max, min, Bool, false, ◌||◌, ◌&&◌, not, List, [], ◌++◌, ◌∷◌, length, slice_range, map, replicate, pos, ℤ, refl, sym, ap, ◌∙◌, subst, arith, flat_map, ◌+ℤ◌, int_rem_euclid, length-append, length-replicate, length-drop, length-map}
-use Rattle.trac_functions.proofs.Words.{length-between, length-map-range_with_len, Text, Bits, is_octal, bits_of_digit, bit_at, octal, padded, cut, union, intersection, complement, shifted, rotated, World, bits_result, Function, Form, Some, bits, octal_prefix, meaning_of, built, value_length, world, Valued, Cell, seen, text_of_cells, flat_text, IsOctal, EachIs, bits_of_cells}
-use Rattle.trac_functions.proofs.Words.{signed, length-text, length-octal, length-bits_of, length-bitwise, rotation_same, Contents, BitResult, Rotation, AreDigits, AreFor, bits_at, bits_made}
+use Rattle.trac_functions.proofs.Imports.{◌≡◌, ℕ, ◌-◌, ◌*◌, ◌≤◌, max, min, Bool, false, ◌||◌, ◌&&◌, not, List, [], ◌++◌, ◌∷◌, length, slice_range, map, replicate, pos, ℤ, refl, sym, ap, ◌∙◌, subst, arith, flat_map, ◌+ℤ◌, int_rem_euclid, length-append, length-replicate, length-drop, length-map}
+use Rattle.trac_functions.proofs.Imports.{length-between, length-map-range_with_len, Text, Bits, is_octal, bits_of_digit, bit_at, octal, padded, cut, union, intersection, complement, shifted, rotated, World, bits_result, Function, Form, Some, bits, octal_prefix, meaning_of, built, value_length, world, Valued, Cell, seen, text_of_cells, flat_text, IsOctal, EachIs, bits_of_cells}
+use Rattle.trac_functions.proofs.Imports.{signed, length-text, length-octal, length-bits_of, length-bitwise, rotation_same, Contents, BitResult, Rotation, AreDigits, AreFor, bits_at, bits_made}
 use Rattle.trac_functions.specs.declared.bit_strings.BitResult.TheVariants.{Union, Intersection, Complement, Shift}
 use Rattle.trac_functions.proofs.MadeValues.{valued-of}
 use Rattle.trac_functions.proofs.PutCharacters.{with_text, with-both}

@@ -1,5 +1,5 @@
 -- Parts of cells that other cells follow, and the front and the back of a part.
-use Rattle.trac_functions.proofs.Words.{◌≡◌, ℕ, ◌+◌, ◌-◌, ◌≤◌, List, ◌++◌, length, take, drop, slice_range, sym, ap, ◌∙◌, arith, length-drop, drop-append-le, take-append-le, drop-take, drop-drop, take-take, Cell}
+use Rattle.trac_functions.proofs.Imports.{◌≡◌, ℕ, ◌+◌, ◌-◌, ◌≤◌, List, ◌++◌, length, take, drop, slice_range, sym, ap, ◌∙◌, arith, length-drop, drop-append-le, take-append-le, drop-take, drop-drop, take-take, Cell}
 
 -- a part stays when cells are put after it
 pub part-append : (xs ys : List Cell) (i j : ℕ) → i ≤ j → j ≤ length xs → slice_range (xs ++ ys) i j ≡ slice_range xs i j

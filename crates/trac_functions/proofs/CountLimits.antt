@@ -1,5 +1,5 @@
 -- A count up to a limit takes the same characters of a form as the number itself.
-use Rattle.trac_functions.proofs.Words.{◌≡◌, ℕ, zero, suc, ◌≤◌, Bool, length, min, ℤ, pos, negsuc, ap, ◌∙◌, arith, int_lt, unsigned_abs, le-ltb, Form, text_of, before_pointer, after_pointer, characters, forward, backward, first_characters, last_characters, signed}
+use Rattle.trac_functions.proofs.Imports.{◌≡◌, ℕ, zero, suc, ◌≤◌, Bool, length, min, ℤ, pos, negsuc, ap, ◌∙◌, arith, int_lt, unsigned_abs, le-ltb, Form, text_of, before_pointer, after_pointer, characters, forward, backward, first_characters, last_characters, signed}
 
 module _ (form : Form) (after : length (text_of (after_pointer form)) ≤ 16777216) (before : length (text_of (before_pointer form)) ≤ 16777216) where
   pub counted : (d : ℤ) (negative : Bool) (size : ℕ) → negative ≡ int_lt d (pos 0) → size ≡ min (unsigned_abs d) 16777216 → characters (signed negative size) form ≡ characters d form

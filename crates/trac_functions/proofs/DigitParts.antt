@@ -1,6 +1,6 @@
 -- Parts of cells that grow at their end, and the bit strings of these parts.
-use Rattle.trac_functions.proofs.Words.{◌≡◌, ℕ, ◌+◌, List, [], ◌∷◌, ◌++◌, length, take, drop, sym, ap, subst, ◌∙◌, Some, append_assoc, slice_range, slice_get, map_more}
-use Rattle.trac_functions.proofs.Words.{slice_get_within, get_or_from_slice_get, Text, is_octal, octal_digits, octal_prefix, Cell, text_of_cells, flat_text, IsOctal, back_is, back_passes, IsTextPart, part_text}
+use Rattle.trac_functions.proofs.Imports.{◌≡◌, ℕ, ◌+◌, List, [], ◌∷◌, ◌++◌, length, take, drop, sym, ap, subst, ◌∙◌, Some, append_assoc, slice_range, slice_get, map_more}
+use Rattle.trac_functions.proofs.Imports.{slice_get_within, get_or_from_slice_get, Text, is_octal, octal_digits, octal_prefix, Cell, text_of_cells, flat_text, IsOctal, back_is, back_passes, IsTextPart, part_text}
 use Rattle.trac_functions.proofs.CellRanges.{drop-range}
 use Rattle.trac_functions.proofs.Fronts.{octal_prefix-front, inside}
 

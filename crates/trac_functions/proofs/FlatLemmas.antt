@@ -1,7 +1,7 @@
 -- The memory that cells stand for, cell by cell.
-use Rattle.trac_functions.proofs.Words.{◌≡◌, ℕ, suc, ◌+◌, ◌<◌, false, IsTrue, List, [], ◌∷◌, ◌++◌, length, take, drop, sum_by, refl, sym, ap, ◌∙◌, arith, append_assoc, append-nil, length-append, get_or, take-append-drop, drop_more, length-map, sum_by-append, sum_by-cons, Mode, Text, Form, OpenCall}
-use Rattle.trac_functions.proofs.Words.{arguments, call_cells, size, add, begin_call, Cell, Byte, Call, Comma, Gap, Head, is_call, NoCall, IsLastCall, flat_text, text_of_cells, character_of, Contents, used, Neutral, no_neutral, with_character, with_comma, with_cell, with_cells, neutral_of}
-use Rattle.trac_functions.proofs.Words.{memory_with, memory_of, in_first, with_first, texts_of, mode_of, mode_at, arguments_at}
+use Rattle.trac_functions.proofs.Imports.{◌≡◌, ℕ, suc, ◌+◌, ◌<◌, false, IsTrue, List, [], ◌∷◌, ◌++◌, length, take, drop, sum_by, refl, sym, ap, ◌∙◌, arith, append_assoc, append-nil, length-append, get_or, take-append-drop, drop_more, length-map, sum_by-append, sum_by-cons, Mode, Text, Form, OpenCall}
+use Rattle.trac_functions.proofs.Imports.{arguments, call_cells, size, add, begin_call, Cell, Byte, Call, Comma, Gap, Head, is_call, NoCall, IsLastCall, flat_text, text_of_cells, character_of, Contents, used, Neutral, no_neutral, with_character, with_comma, with_cell, with_cells, neutral_of}
+use Rattle.trac_functions.proofs.Imports.{memory_with, memory_of, in_first, with_first, texts_of, mode_of, mode_at, arguments_at}
 
 pub with_cells-append : (n : Neutral) (xs ys : List Cell) → with_cells n (xs ++ ys) ≡ with_cells (with_cells n xs) ys
 with_cells-append n [] ys = refl

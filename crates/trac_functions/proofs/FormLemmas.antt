@@ -1,8 +1,8 @@
 -- Lists of forms, and what the functions that change them make of a call.
-use Rattle.trac_functions.proofs.Words.{◌≡◌, ℕ, zero, suc, ◌+◌, ◌<◌, ◌≤◌, Bool, true, false, List, [], ◌∷◌, ◌++◌, length, drop, set, slice_range, subst, ◌-◌, refl, sym, ap, ◌∙◌, arith, Some, ⊎_elim, if◌then◌else◌, flat_map, filter, bytes_eq, not, ◌||◌, list_any, cases_lt, append-nil}
-use Rattle.trac_functions.proofs.Words.{drop_more, drop_all, get_or-set_same, set-set, set-get_or, bytes_eq-Decides, length-between, All-nil, All-cons, Function, Text, Form, segment_by, IsStore, NoneNamed, is_named, without, World, meaning_of, built, value_length, argument, Cell, Byte, Call, Comma}
-use Rattle.trac_functions.proofs.Words.{Gap, Head, Contents, IsSound, form_at, name_at, body_at, pointer_at, IsTextPart, AreTextParts, part_texts, before_comma, parts_between, texts_between, AreParted, without-none, parts-first, parts-none, Arguments, texts_of, in_first}
-use Rattle.trac_functions.proofs.Words.{with_first, Means, IsValue, AreArguments, texts, Performs, AtEnd, world, silent, form_named, form_named-none, None}
+use Rattle.trac_functions.proofs.Imports.{◌≡◌, ℕ, zero, suc, ◌+◌, ◌<◌, ◌≤◌, Bool, true, false, List, [], ◌∷◌, ◌++◌, length, drop, set, slice_range, subst, ◌-◌, refl, sym, ap, ◌∙◌, arith, Some, ⊎_elim, if◌then◌else◌, flat_map, filter, bytes_eq, not, ◌||◌, list_any, cases_lt, append-nil}
+use Rattle.trac_functions.proofs.Imports.{drop_more, drop_all, get_or-set_same, set-set, set-get_or, bytes_eq-Decides, length-between, All-nil, All-cons, Function, Text, Form, segment_by, IsStore, NoneNamed, is_named, without, World, meaning_of, built, value_length, argument, Cell, Byte, Call, Comma}
+use Rattle.trac_functions.proofs.Imports.{Gap, Head, Contents, IsSound, form_at, name_at, body_at, pointer_at, IsTextPart, AreTextParts, part_texts, before_comma, parts_between, texts_between, AreParted, without-none, parts-first, parts-none, Arguments, texts_of, in_first}
+use Rattle.trac_functions.proofs.Imports.{with_first, Means, IsValue, AreArguments, texts, Performs, AtEnd, world, silent, form_named, form_named-none, None}
 use Rattle.trac_functions.proofs.ArgumentLemmas.{none-left, texts_from-some, taken-part, taken-text, taken-rest, taken-left}
 use Rattle.trac_functions.proofs.FlatLemmas.{texts_of-some}
 use Rattle.trac_functions.proofs.MadeValues.{valued-of}

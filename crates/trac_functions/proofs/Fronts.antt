@@ -1,6 +1,6 @@
 -- The front of a part of neutral, and the prefix of a text as its front.
-use Rattle.trac_functions.proofs.Words.{◌≡◌, ℕ, ◌+◌, ◌-◌, ◌≤◌, Bool, true, false, ◌||◌, cond, List, [], ◌++◌, length, take, drop, slice_range, All, sym, ap, ◌∙◌, subst, arith, append_assoc, eqb, length-append, append-nil, take-append-drop, take-append-le, take_all, take-map, All-take}
-use Rattle.trac_functions.proofs.Words.{suffix_len, is_ascii_digit, Text, prefix, digits, before_digits, without_sign, ends_with, octal_prefix, is_octal, Cell, text_of_cells, character_of, IsByte, IsTextPart, part_text}
+use Rattle.trac_functions.proofs.Imports.{◌≡◌, ℕ, ◌+◌, ◌-◌, ◌≤◌, Bool, true, false, ◌||◌, cond, List, [], ◌++◌, length, take, drop, slice_range, All, sym, ap, ◌∙◌, subst, arith, append_assoc, eqb, length-append, append-nil, take-append-drop, take-append-le, take_all, take-map, All-take}
+use Rattle.trac_functions.proofs.Imports.{suffix_len, is_ascii_digit, Text, prefix, digits, before_digits, without_sign, ends_with, octal_prefix, is_octal, Cell, text_of_cells, character_of, IsByte, IsTextPart, part_text}
 use Rattle.trac_functions.proofs.CellRanges.{take-range}
 use Rattle.trac_functions.proofs.ArgumentLemmas.{part-long}
 

@@ -14,4 +14,4 @@ pub mod PutParts
 pub mod Ranges
 pub mod TakenItems
 pub mod TakenParts
-mod Words
+mod Imports

@@ -7,7 +7,7 @@ use Rattle.std.proofs.lemmas.Fmt.{decimal_digit, decimal_step_wide}
 use Rattle.std.proofs.Common.{to_z, of_z}
 use Rattle.std.specs.Int.{w128}
 use Rattle.trac_values.specs.Digits.{padded_text}
-use Rattle.trac_functions.proofs.Words.{◌≡◌, ◌≤◌, ◌<◌, ◌*◌, ◌^◌, ℕ, zero, suc, Bool, to_z-of_z, fits_signed_from_abs, ◌∷◌, ◌+◌, ◌++◌, [], ℤ, pos, negsuc, length, take, drop, false, true, refl, sym, ap, ◌∙◌, arith, signed, signed_decimal, int_lt, unsigned_abs, replicate, add-one, append-nil, append_assoc, length-append, cases_lt, ⊎_elim}
+use Rattle.trac_functions.proofs.Imports.{◌≡◌, ◌≤◌, ◌<◌, ◌*◌, ◌^◌, ℕ, zero, suc, Bool, to_z-of_z, fits_signed_from_abs, ◌∷◌, ◌+◌, ◌++◌, [], ℤ, pos, negsuc, length, take, drop, false, true, refl, sym, ap, ◌∙◌, arith, signed, signed_decimal, int_lt, unsigned_abs, replicate, add-one, append-nil, append_assoc, length-append, cases_lt, ⊎_elim}
 use Rattle.trac_language.specs.Text.{Text}
 
 -- the last digits of a number, as many

@@ -1,5 +1,5 @@
 -- What a function makes of a call, from what the definition says that the call means.
-use Rattle.trac_functions.proofs.Words.{◌≡◌, Bool, true, false, IsTrue, ◌↔◌, List, cond, refl, sym, ap, ◌∙◌, Some, arith, bytes_eq, if◌then◌else◌, ℤ, ◌<ℤ◌, int_lt, bytes_decides, ints, Function, Text, Form, World, meaning_of, value_length, built, world, Means, Valued}
+use Rattle.trac_functions.proofs.Imports.{◌≡◌, Bool, true, false, IsTrue, ◌↔◌, List, cond, refl, sym, ap, ◌∙◌, Some, arith, bytes_eq, if◌then◌else◌, ℤ, ◌<ℤ◌, int_lt, bytes_decides, ints, Function, Text, Form, World, meaning_of, value_length, built, world, Means, Valued}
 
 -- a call that gives a value builds that value
 pub valued-of : (f : Function) (args : List Text) (forms new : List Form) (value : Text) (forced : Bool) → Means f args forms value forced new → ((w : World) → built (Some f) args w ≡ value_length (meaning_of f args w)) → Valued f args forms value forced new

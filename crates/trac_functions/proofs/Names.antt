@@ -1,6 +1,6 @@
 -- The names of functions, each of two characters.
-use Rattle.trac_functions.proofs.Words.{◌≡◌, ◌≢◌, ℕ, ◌-◌, ◌≤◌, Bool, true, false, List, [], ◌∷◌, length, take, drop, None, refl, sym, ap, ◌∙◌, subst, rules, arith, get_or, IsSome, IsTrue, take-length, Text, function_named, Cell, Byte, Call, Comma, Gap, Head, is_comma, text_of_cells, character_of}
-use Rattle.trac_functions.proofs.Words.{before_comma}
+use Rattle.trac_functions.proofs.Imports.{◌≡◌, ◌≢◌, ℕ, ◌-◌, ◌≤◌, Bool, true, false, List, [], ◌∷◌, length, take, drop, None, refl, sym, ap, ◌∙◌, subst, rules, arith, get_or, IsSome, IsTrue, take-length, Text, function_named, Cell, Byte, Call, Comma, Gap, Head, is_comma, text_of_cells, character_of}
+use Rattle.trac_functions.proofs.Imports.{before_comma}
 
 one : (a : ℕ) → function_named (a ∷ []) ≡ None
 one a = search rules

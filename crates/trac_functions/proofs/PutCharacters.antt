@@ -1,5 +1,5 @@
 -- Characters put behind the neutral string.
-use Rattle.trac_functions.proofs.Words.{◌≡◌, ℕ, ◌+◌, ◌<◌, ◌≤◌, Bool, List, [], ◌∷◌, ◌++◌, length, take, Some, refl, sym, ap, ◌∙◌, subst, arith, append_assoc, slice_get, length-append, length-map, length-take, map-append, Function, Text, Cell, Byte, flat_text, Contents, used, IsSound, Valued, IsValue}
+use Rattle.trac_functions.proofs.Imports.{◌≡◌, ℕ, ◌+◌, ◌<◌, ◌≤◌, Bool, List, [], ◌∷◌, ◌++◌, length, take, Some, refl, sym, ap, ◌∙◌, subst, arith, append_assoc, slice_get, length-append, length-map, length-take, map-append, Function, Text, Cell, Byte, flat_text, Contents, used, IsSound, Valued, IsValue}
 use Rattle.trac_functions.proofs.DigitParts.{flat_more}
 
 -- the contents with a text put behind

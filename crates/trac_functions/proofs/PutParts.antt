@@ -1,6 +1,6 @@
 -- A value that is put at the end of the neutral string part by part.
-use Rattle.trac_functions.proofs.Words.{◌≡◌, ℕ, ◌+◌, ◌<◌, ◌≤◌, false, List, [], ◌++◌, length, slice_range, refl, sym, ap, ◌∙◌, arith, append_assoc, append-nil, length-append, Function, Text}
-use Rattle.trac_functions.proofs.Words.{flat_text, Contents, used, IsSound, IsTextPart, part_text, Valued, IsValue}
+use Rattle.trac_functions.proofs.Imports.{◌≡◌, ℕ, ◌+◌, ◌<◌, ◌≤◌, false, List, [], ◌++◌, length, slice_range, refl, sym, ap, ◌∙◌, arith, append_assoc, append-nil, length-append, Function, Text}
+use Rattle.trac_functions.proofs.Imports.{flat_text, Contents, used, IsSound, IsTextPart, part_text, Valued, IsValue}
 use Rattle.trac_functions.proofs.CellRanges.{part-append}
 use Rattle.trac_functions.proofs.PutCharacters.{with_text, used-with, with-both, stands-behind}
 

@@ -1,5 +1,5 @@
 -- Results of arithmetic are machine numbers.
-use Rattle.trac_functions.proofs.Words.{◌≡◌, ◌^◌, ℤ, Bool, true, false, cond, ◌&&◌, Option, Some, None, sym, ap, ◌∙◌, unsigned_abs, IfSome, IsTrue, ltb-true, to_z-of_z, fits_signed_from_abs, cond_some, Arith, exactly, if_in_range, in_range, w128, to_z, of_z}
+use Rattle.trac_functions.proofs.Imports.{◌≡◌, ◌^◌, ℤ, Bool, true, false, cond, ◌&&◌, Option, Some, None, sym, ap, ◌∙◌, unsigned_abs, IfSome, IsTrue, ltb-true, to_z-of_z, fits_signed_from_abs, cond_some, Arith, exactly, if_in_range, in_range, w128, to_z, of_z}
 use Rattle.trac_language.specs.Number.{arith}
 
 -- a number in the range is kept by a machine number

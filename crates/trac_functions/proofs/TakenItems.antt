@@ -1,7 +1,7 @@
 -- Characters and gaps among the items of a form.
-use Rattle.trac_functions.proofs.Words.{◌≡◌, ℕ, zero, suc, ◌+◌, ◌-◌, ◌<◌, ◌≤◌, min, true, false, List, [], ◌∷◌, ◌++◌, length, take, drop, reverse, All, slice_range, get_or, refl, sym, ap, ◌∙◌, arith, append-nil, length-append, length-take, length-drop, length-reverse, get_or-drop}
-use Rattle.trac_functions.proofs.Words.{get_or-reverse, get_or-take, drop-drop, drop-take, take-append-drop, reverse-append, reverse-reverse, take-take, take-append_seam, take-add, drop-append_seam, length-between, Item, is_character, text_of, first_characters}
-use Rattle.trac_functions.proofs.Words.{used, body_at, Contents, character_at, gap_at, NonePasses, IsFirst, IsLast, characters-between, IsFirstOr}
+use Rattle.trac_functions.proofs.Imports.{◌≡◌, ℕ, zero, suc, ◌+◌, ◌-◌, ◌<◌, ◌≤◌, min, true, false, List, [], ◌∷◌, ◌++◌, length, take, drop, reverse, All, slice_range, get_or, refl, sym, ap, ◌∙◌, arith, append-nil, length-append, length-take, length-drop, length-reverse, get_or-drop}
+use Rattle.trac_functions.proofs.Imports.{get_or-reverse, get_or-take, drop-drop, drop-take, take-append-drop, reverse-append, reverse-reverse, take-take, take-append_seam, take-add, drop-append_seam, length-between, Item, is_character, text_of, first_characters}
+use Rattle.trac_functions.proofs.Imports.{used, body_at, Contents, character_at, gap_at, NonePasses, IsFirst, IsLast, characters-between, IsFirstOr}
 use Rattle.trac_language.specs.declared.item.Item.TheVariants.{Byte, Gap}
 use Rattle.trac_functions.proofs.PutCharacters.{with_text, used-with, with-both}
 

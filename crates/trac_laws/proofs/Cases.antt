@@ -1,5 +1,5 @@
 -- Cases, and what the definition gives of each.
-use Rattle.trac_laws.proofs.Words.{⊤, ℕ, false, true, digits, Fate, Text, segment_after, split_at_match, Input, first, meaning_of, rule, step, need, run}
+use Rattle.trac_laws.proofs.Imports.{⊤, ℕ, false, true, digits, Fate, Text, segment_after, split_at_match, Input, first, meaning_of, rule, step, need, run}
 
 -- a name, a room, an allowance, an input, and the output, fate, steps and peak that are wanted
 pub record Case : Type 0 where

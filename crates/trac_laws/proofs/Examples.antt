@@ -1,5 +1,5 @@
 -- The definitions give the worked examples.
-use Rattle.trac_laws.proofs.Words.{◌≡◌, ℕ, List, [], ◌∷◌, refl, ℤ, codes, pos, negsuc, map, ◌==◌, if◌then◌else◌, range_with_len, list_any, Fate, Halted, InputEnded, Workspace, Steps, InputFailed, Text, Input, first, run, number, prefix}
+use Rattle.trac_laws.proofs.Imports.{◌≡◌, ℕ, List, [], ◌∷◌, refl, ℤ, codes, pos, negsuc, map, ◌==◌, if◌then◌else◌, range_with_len, list_any, Fate, Halted, InputEnded, Workspace, Steps, InputFailed, Text, Input, first, run, number, prefix}
 use Rattle.trac_laws.proofs.Cases.{Case, case, computing, ended, failing, ran}
 
 abbrev cases : List Case

@@ -1,6 +1,6 @@
 -- The rule that fits is the one by which a step goes.
-use Rattle.trac_laws.proofs.Words.{◌≡◌, ◌≢◌, ◌↔◌, ℕ, [], ◌∷◌, ◌++◌, Option, Some, None, refl, sym, ap, ◌∙◌, subst, ⊎_elim, inl, inr, arith, codes, cases_eq, Active, Neutral, Text, protected, Rule, LoadIdling, DeleteLayout, AddProtected, ClearActive, BeginArgument, BeginCall, EndCall}
-use Rattle.trac_laws.proofs.Words.{AddCharacter, parenthesis_rule, rule, IsProtected, Begins, IsAdded, Fits}
+use Rattle.trac_laws.proofs.Imports.{◌≡◌, ◌≢◌, ◌↔◌, ℕ, [], ◌∷◌, ◌++◌, Option, Some, None, refl, sym, ap, ◌∙◌, subst, ⊎_elim, inl, inr, arith, codes, cases_eq, Active, Neutral, Text, protected, Rule, LoadIdling, DeleteLayout, AddProtected, ClearActive, BeginArgument, BeginCall, EndCall}
+use Rattle.trac_laws.proofs.Imports.{AddCharacter, parenthesis_rule, rule, IsProtected, Begins, IsAdded, Fits}
 use Rattle.trac_laws.proofs.Parentheses.{found_protected, none_protected}
 use Rattle.trac_laws.proofs.Rules.{rule_tab, rule_line_feed, rule_return, rule_comma, rule_end, rule_active, rule_neutral, rule_sign_last, rule_two_signs_last, rule_sign, rule_two_signs, rule_protected, rule_other}
 

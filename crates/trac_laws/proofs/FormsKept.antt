@@ -1,6 +1,6 @@
 -- Every run keeps its forms in order: no two have one name, and each pointer is a place of its body.
-use Rattle.trac_laws.proofs.Words.{◌≡◌, ℕ, Bool, true, false, List, [], ◌∷◌, Option, Some, None, sym, subst, Mode, Active, Neutral, Function, Text, OpenCall, Memory, State, arguments, add_to, add, World, Meaning, Gives, Ends, Input, meaning, IsStore}
-use Rattle.trac_laws.proofs.Words.{Rule, AddProtected, EndCall, AddCharacter, rule, Outcome, Next, Over, function_of, world_of, deliver, perform, end_call, with_active, follow, step, Form}
+use Rattle.trac_laws.proofs.Imports.{◌≡◌, ℕ, Bool, true, false, List, [], ◌∷◌, Option, Some, None, sym, subst, Mode, Active, Neutral, Function, Text, OpenCall, Memory, State, arguments, add_to, add, World, Meaning, Gives, Ends, Input, meaning, IsStore}
+use Rattle.trac_laws.proofs.Imports.{Rule, AddProtected, EndCall, AddCharacter, rule, Outcome, Next, Over, function_of, world_of, deliver, perform, end_call, with_active, follow, step, Form}
 use Rattle.trac_laws.proofs.Shape.{Reading, Stopped, Given, Shape, Reads, Ended, Does, shape}
 
 -- ---- what calls leave

@@ -1,7 +1,7 @@
 -- A step that doesn't read to the end of its input does the same where more stands behind that.
-use Rattle.trac_laws.proofs.Words.{◌≡◌, ℕ, Form, Bool, true, false, not, ◌||◌, List, [], ◌∷◌, ◌++◌, Option, Some, None, refl, sym, ap, ap₂, subst, ◌∙◌, append_assoc, ⊎_elim, ◌==◌, list_any, and_cases, and_left, and_right, list_any-append, Mode, Function}
-use Rattle.trac_laws.proofs.Words.{Text, Input, OpenCall, State, arguments, World, Meaning, Gives, Ends, meaning, Rule, EndCall, rule, Outcome, Next, Over, function_of, world_of, perform, end_call, follow, step, need}
-use Rattle.trac_laws.proofs.Words.{is_read_string, reads_last, end_reads_last, reads_last_by, reads_to_end, ReadsNoFurther, with_more}
+use Rattle.trac_laws.proofs.Imports.{◌≡◌, ℕ, Form, Bool, true, false, not, ◌||◌, List, [], ◌∷◌, ◌++◌, Option, Some, None, refl, sym, ap, ap₂, subst, ◌∙◌, append_assoc, ⊎_elim, ◌==◌, list_any, and_cases, and_left, and_right, list_any-append, Mode, Function}
+use Rattle.trac_laws.proofs.Imports.{Text, Input, OpenCall, State, arguments, World, Meaning, Gives, Ends, meaning, Rule, EndCall, rule, Outcome, Next, Over, function_of, world_of, perform, end_call, follow, step, need}
+use Rattle.trac_laws.proofs.Imports.{is_read_string, reads_last, end_reads_last, reads_last_by, reads_to_end, ReadsNoFurther, with_more}
 use Rattle.trac_laws.proofs.Shape.{LeftOf, Reading, Stopped, Given, Shape, Reads, Ended, Does, shape}
 use Rattle.trac_laws.proofs.TakenInput.{standing, step_anywhere}
 

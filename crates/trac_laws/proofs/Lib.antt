@@ -18,4 +18,4 @@ pub mod Stepping
 pub mod Stores
 pub mod TakenInput
 pub mod UnreadInput
-mod Words
+mod Imports

@@ -1,6 +1,6 @@
 -- The protected text is the only one, and it is found.
-use Rattle.trac_laws.proofs.Words.{◌≡◌, ◌≢◌, ℕ, zero, suc, ◌+◌, ◌<◌, ◌≤◌, Bool, true, false, ◌&&◌, [], ◌∷◌, ◌++◌, take, length, Option, Some, None, refl, sym, ap, ◌∙◌, subst, ⊎_elim, arith, append_assoc, append-nil, cond, cases_lt, cases_Bool, eq-eqb, eqb-true, and_from, and_parts, take_at}
-use Rattle.trac_laws.proofs.Words.{take-append-le, take_all, length-append, append_cancel_left, sum_by_push, ◌==◌, Text, count, split_at_match, protected, IsBalanced, IsProtected}
+use Rattle.trac_laws.proofs.Imports.{◌≡◌, ◌≢◌, ℕ, zero, suc, ◌+◌, ◌<◌, ◌≤◌, Bool, true, false, ◌&&◌, [], ◌∷◌, ◌++◌, take, length, Option, Some, None, refl, sym, ap, ◌∙◌, subst, ⊎_elim, arith, append_assoc, append-nil, cond, cases_lt, cases_Bool, eq-eqb, eqb-true, and_from, and_parts, take_at}
+use Rattle.trac_laws.proofs.Imports.{take-append-le, take_all, length-append, append_cancel_left, sum_by_push, ◌==◌, Text, count, split_at_match, protected, IsBalanced, IsProtected}
 
 abbrev pub weight : Bool → ℕ
 weight b = cond b 1 0

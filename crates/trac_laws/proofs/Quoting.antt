@@ -1,6 +1,6 @@
 -- A quoted text is printed as it is.
-use Rattle.trac_laws.proofs.Words.{◌≡◌, ◌≢◌, ℕ, zero, suc, ◌+◌, ◌-◌, ◌≤◌, max, false, not, cond, List, [], ◌∷◌, ◌++◌, length, take, drop, Some, refl, sym, ap, ◌∙◌, arith, append_assoc, append-nil, codes, All, ◌==◌, before_first, position_or_len, length-append, take_at, drop_at, ne_eqb}
-use Rattle.trac_laws.proofs.Words.{recursion_from_All, Active, InputEnded, Text, protected, OpenCall, Input, State, first, size, meaning_of, read_string, rule, parenthesis_rule, Outcome, Next, Over, perform, follow, step, need_by, need, Run, one_more, run, IsBalanced, quoting, Quoted}
+use Rattle.trac_laws.proofs.Imports.{◌≡◌, ◌≢◌, ℕ, zero, suc, ◌+◌, ◌-◌, ◌≤◌, max, false, not, cond, List, [], ◌∷◌, ◌++◌, length, take, drop, Some, refl, sym, ap, ◌∙◌, arith, append_assoc, append-nil, codes, All, ◌==◌, before_first, position_or_len, length-append, take_at, drop_at, ne_eqb}
+use Rattle.trac_laws.proofs.Imports.{recursion_from_All, Active, InputEnded, Text, protected, OpenCall, Input, State, first, size, meaning_of, read_string, rule, parenthesis_rule, Outcome, Next, Over, perform, follow, step, need_by, need, Run, one_more, run, IsBalanced, quoting, Quoted}
 use Rattle.trac_laws.proofs.Runs.{run_next, run_over}
 use Rattle.trac_laws.proofs.Parentheses.{protected_found}
 

@@ -1,5 +1,5 @@
 -- What a loop over steps keeps: the run from the start is the run from here, after the steps done.
-use Rattle.trac_laws.proofs.Words.{◌≡◌, ℕ, zero, suc, refl, ◌+◌, ◌-◌, ◌<◌, ◌≤◌, max, ap, ◌∙◌, arith, Fate, Workspace, Steps, State, Next, Over, step, need, Run, counted, stopped, run}
+use Rattle.trac_laws.proofs.Imports.{◌≡◌, ℕ, zero, suc, refl, ◌+◌, ◌-◌, ◌<◌, ◌≤◌, max, ap, ◌∙◌, arith, Fate, Workspace, Steps, State, Next, Over, step, need, Run, counted, stopped, run}
 use Rattle.trac_laws.proofs.Runs.{run_none, run_full, run_over, run_next}
 unfoldable use Rattle.trac_laws.specs.StateAfter.{state_after}
 use Rattle.trac_laws.specs.StateAfter.{state_on}

@@ -1,5 +1,5 @@
 -- What a loop over steps keeps while nobody knows yet how the input goes on.
-use Rattle.trac_laws.proofs.Words.{◌≡◌, ℕ, ◌+◌, ◌<◌, ◌≤◌, max, Bool, true, false, [], ◌++◌, sym, subst, append_assoc, InputFailed, Text, Memory, Next, Over, step, need, run, reads_to_end}
+use Rattle.trac_laws.proofs.Imports.{◌≡◌, ℕ, ◌+◌, ◌<◌, ◌≤◌, max, Bool, true, false, [], ◌++◌, sym, subst, append_assoc, InputFailed, Text, Memory, Next, Over, step, need, run, reads_to_end}
 use Rattle.trac_laws.proofs.TakenInput.{standing, step_anywhere}
 use Rattle.trac_laws.proofs.Reached.{Reached, reached_start, reached_next, reached_over}
 

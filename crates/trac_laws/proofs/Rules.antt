@@ -1,5 +1,5 @@
 -- The rule that fits, by the first character, as a scanner tells it.
-use Rattle.trac_laws.proofs.Words.{◌≡◌, ◌≢◌, ℕ, [], ◌∷◌, refl, ap, ne_eqb, Active, Neutral, Text, DeleteLayout, AddProtected, BeginArgument, BeginCall, EndCall, AddCharacter, parenthesis_rule, rule, IsProtected}
+use Rattle.trac_laws.proofs.Imports.{◌≡◌, ◌≢◌, ℕ, [], ◌∷◌, refl, ap, ne_eqb, Active, Neutral, Text, DeleteLayout, AddProtected, BeginArgument, BeginCall, EndCall, AddCharacter, parenthesis_rule, rule, IsProtected}
 use Rattle.trac_laws.proofs.Parentheses.{protected_found}
 
 pub rule_tab : (rest : Text) → rule (9 ∷ rest) ≡ DeleteLayout rest

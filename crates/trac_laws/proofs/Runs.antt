@@ -1,6 +1,6 @@
 -- Laws of runs, from any state.
-use Rattle.trac_laws.proofs.Words.{◌≡◌, ◌≢◌, ℕ, zero, suc, ◌<◌, ◌≤◌, max, List, [], ◌∷◌, ◌++◌, refl, sym, ap, ◌∙◌, subst, ◌⊎◌, inl, inr, ⊎_elim, arith, append_assoc, append-nil, cases_lt, lt-ltb, le-ltb, Fate, Halted, Workspace, Steps, Text, OpenCall, State, first, Meaning, Gives, Ends, Rule}
-use Rattle.trac_laws.proofs.Words.{EndCall, rule, Outcome, Next, Over, perform, end_call, follow, step, need, Run, counted, stopped, one_more, go_on, within, run, IsPrefix, MoreRoom, MoreSteps, FewerSteps, LeastRoom, LessRoom}
+use Rattle.trac_laws.proofs.Imports.{◌≡◌, ◌≢◌, ℕ, zero, suc, ◌<◌, ◌≤◌, max, List, [], ◌∷◌, ◌++◌, refl, sym, ap, ◌∙◌, subst, ◌⊎◌, inl, inr, ⊎_elim, arith, append_assoc, append-nil, cases_lt, lt-ltb, le-ltb, Fate, Halted, Workspace, Steps, Text, OpenCall, State, first, Meaning, Gives, Ends, Rule}
+use Rattle.trac_laws.proofs.Imports.{EndCall, rule, Outcome, Next, Over, perform, end_call, follow, step, need, Run, counted, stopped, one_more, go_on, within, run, IsPrefix, MoreRoom, MoreSteps, FewerSteps, LeastRoom, LessRoom}
 
 -- an outcome is one of two
 cases_outcome : (o : Outcome) → ((t : State) × (o ≡ Next t)) ⊎ ((f : Fate) × (o ≡ Over f))

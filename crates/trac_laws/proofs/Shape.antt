@@ -1,7 +1,7 @@
 -- What a function may do to the world: one case for each function, by which the laws go that speak of all of them.
-use Rattle.trac_laws.proofs.Words.{◌≡◌, ◌≢◌, ℕ, ◌≤◌, ◌∷◌, Bool, true, false, not, List, [], length, drop, Option, Some, None, ℤ, pos, refl, arith, bytes_eq, list_any, position_or_len, sym, ◌++◌, ◌∙◌, ◌==◌, append-nil, append_assoc, take-append-drop, Function, ReadString, ReadCharacter, ChangeMeta, Halt, DefineString, SegmentString, DeleteDefinition, DeleteAll, PrintForm, CallForm, CallSegment}
-use Rattle.trac_laws.proofs.Words.{CallCharacter, CallNumber, InitialPart, CallRestore, Arithmetic, Fate, Text, Form, Part, Input, World, Meaning, Gives, Ends, fill, after_pointer, form_named, changed, IsStore, number, prefix, argument, valued, printing, before_meta, from_meta, read_all, read_string}
-use Rattle.trac_laws.proofs.Words.{read_character, change_meta, show_form, on_form, take_part, result_or, meaning_of, next_segment, characters, initial_part}
+use Rattle.trac_laws.proofs.Imports.{◌≡◌, ◌≢◌, ℕ, ◌≤◌, ◌∷◌, Bool, true, false, not, List, [], length, drop, Option, Some, None, ℤ, pos, refl, arith, bytes_eq, list_any, position_or_len, sym, ◌++◌, ◌∙◌, ◌==◌, append-nil, append_assoc, take-append-drop, Function, ReadString, ReadCharacter, ChangeMeta, Halt, DefineString, SegmentString, DeleteDefinition, DeleteAll, PrintForm, CallForm, CallSegment}
+use Rattle.trac_laws.proofs.Imports.{CallCharacter, CallNumber, InitialPart, CallRestore, Arithmetic, Fate, Text, Form, Part, Input, World, Meaning, Gives, Ends, fill, after_pointer, form_named, changed, IsStore, number, prefix, argument, valued, printing, before_meta, from_meta, read_all, read_string}
+use Rattle.trac_laws.proofs.Imports.{read_character, change_meta, show_form, on_form, take_part, result_or, meaning_of, next_segment, characters, initial_part}
 use Rattle.trac_language.specs.declared.function.Function.TheVariants.{PrintString}
 use Rattle.trac_language.specs.Number.{arith as arith_of}
 use Rattle.trac_language.specs.Meaning.{segmented}

@@ -1,6 +1,6 @@
 -- A step is what the rule that fits does.
-use Rattle.trac_laws.proofs.Words.{◌≡◌, ◌↔◌, Bool, true, false, List, [], ◌∷◌, ◌++◌, refl, sym, ap, ◌∙◌, subst, ⊎_elim, inl, inr, false≢true, Mode, Active, Neutral, Text, OpenCall, Memory, State, Input, arguments, add, add_to, begin_argument, Answer, Meaning, Gives, Ends, meaning, Rule}
-use Rattle.trac_laws.proofs.Words.{AddProtected, BeginArgument, EndCall, AddCharacter, rule, Outcome, Next, deliver, perform, end_call, follow, step, function_of, world_of, Adds, AddsArgument, Delivers, IsAfter, FollowsMeaning, EndsCall, rest_of, Does, Leads}
+use Rattle.trac_laws.proofs.Imports.{◌≡◌, ◌↔◌, Bool, true, false, List, [], ◌∷◌, ◌++◌, refl, sym, ap, ◌∙◌, subst, ⊎_elim, inl, inr, false≢true, Mode, Active, Neutral, Text, OpenCall, Memory, State, Input, arguments, add, add_to, begin_argument, Answer, Meaning, Gives, Ends, meaning, Rule}
+use Rattle.trac_laws.proofs.Imports.{AddProtected, BeginArgument, EndCall, AddCharacter, rule, Outcome, Next, deliver, perform, end_call, follow, step, function_of, world_of, Adds, AddsArgument, Delivers, IsAfter, FollowsMeaning, EndsCall, rest_of, Does, Leads}
 use Rattle.trac_laws.proofs.Fitting.{rule-fits}
 
 adds-to : (text : Text) (m : Memory) (calls : List OpenCall) → m.calls ≡ calls → Adds text m (add_to calls text m)

@@ -1,10 +1,10 @@
 -- What keeps forms in order: no two have one name, and each pointer is a place of its body.
-use Rattle.trac_laws.proofs.Words.{◌≡◌, ◌≢◌, ℕ, zero, suc, ◌+◌, ◌-◌, ◌≤◌, min, Bool, true, false, cond, List, [], ◌∷◌, ◌++◌, length, Option, Some, None, ℤ, pos, negsuc, refl, sym, ap, ◌∙◌, subst, ⊎_elim, arith, nat_lt, ◌==◌, if◌then◌else◌, filter, option_map, take_while}
-use Rattle.trac_laws.proofs.Words.{prefix_len, bytes_decides, cond_both, both_ways, cases_lt, lt-ltb, le-ltb, and_parts, length-take, length-drop, Item, Byte, Gap}
-use Rattle.trac_laws.proofs.Words.{Text, Form, is_character, text_of, items_of, before_pointer, after_pointer, begins, place_of, is_named, form_named}
-use Rattle.trac_laws.proofs.Words.{without, changed, defined, NoneNamed, IsStore}
-use Rattle.trac_laws.proofs.Words.{Part, first_characters}
-use Rattle.trac_laws.proofs.Words.{last_characters, segment_from, next_segment, unless_null, forward, backward, characters, up_to, initial_part}
+use Rattle.trac_laws.proofs.Imports.{◌≡◌, ◌≢◌, ℕ, zero, suc, ◌+◌, ◌-◌, ◌≤◌, min, Bool, true, false, cond, List, [], ◌∷◌, ◌++◌, length, Option, Some, None, ℤ, pos, negsuc, refl, sym, ap, ◌∙◌, subst, ⊎_elim, arith, nat_lt, ◌==◌, if◌then◌else◌, filter, option_map, take_while}
+use Rattle.trac_laws.proofs.Imports.{prefix_len, bytes_decides, cond_both, both_ways, cases_lt, lt-ltb, le-ltb, and_parts, length-take, length-drop, Item, Byte, Gap}
+use Rattle.trac_laws.proofs.Imports.{Text, Form, is_character, text_of, items_of, before_pointer, after_pointer, begins, place_of, is_named, form_named}
+use Rattle.trac_laws.proofs.Imports.{without, changed, defined, NoneNamed, IsStore}
+use Rattle.trac_laws.proofs.Imports.{Part, first_characters}
+use Rattle.trac_laws.proofs.Imports.{last_characters, segment_from, next_segment, unless_null, forward, backward, characters, up_to, initial_part}
 
 -- ---- the parts that calls take lie within the body
 

@@ -1,7 +1,7 @@
 -- What a step does is decided by the memory and by what it takes of the input.
-use Rattle.trac_laws.proofs.Words.{◌≡◌, ℕ, ◌+◌, ◌-◌, Bool, true, false, not, ◌||◌, cond, List, [], ◌∷◌, ◌++◌, length, take, drop, Option, Some, None, refl, sym, ap, subst, ◌∙◌, ⊎_elim, arith, append_assoc, ◌==◌, before_first, position_or_len, list_any, cases_Bool, false≢true, length-append}
-use Rattle.trac_laws.proofs.Words.{take_at, drop_at, append_cancel_right, nil_from_length, Mode, Function, ReadString, ReadCharacter, Text, OpenCall, Memory, State, arguments, size, World, Meaning, Gives, Ends, read_string, meaning_of, meaning, built, Rule, EndCall, rule, Outcome, Next, Over}
-use Rattle.trac_laws.proofs.Words.{function_of, world_of, deliver, perform, end_call, with_active, follow, end_need, need_by, step, need, is_read_string, reads_last, end_reads_last, reads_last_by, reads_to_end}
+use Rattle.trac_laws.proofs.Imports.{◌≡◌, ℕ, ◌+◌, ◌-◌, Bool, true, false, not, ◌||◌, cond, List, [], ◌∷◌, ◌++◌, length, take, drop, Option, Some, None, refl, sym, ap, subst, ◌∙◌, ⊎_elim, arith, append_assoc, ◌==◌, before_first, position_or_len, list_any, cases_Bool, false≢true, length-append}
+use Rattle.trac_laws.proofs.Imports.{take_at, drop_at, append_cancel_right, nil_from_length, Mode, Function, ReadString, ReadCharacter, Text, OpenCall, Memory, State, arguments, size, World, Meaning, Gives, Ends, read_string, meaning_of, meaning, built, Rule, EndCall, rule, Outcome, Next, Over}
+use Rattle.trac_laws.proofs.Imports.{function_of, world_of, deliver, perform, end_call, with_active, follow, end_need, need_by, step, need, is_read_string, reads_last, end_reads_last, reads_last_by, reads_to_end}
 use Rattle.trac_laws.proofs.Shape.{reads}
 use Rattle.trac_laws.proofs.UnreadInput.{with_source, elsewhere, built_elsewhere}
 

@@ -1,5 +1,5 @@
 -- A step that doesn't read to the end of the input looks at nothing past what it takes.
-use Rattle.trac_laws.proofs.Words.{◌≡◌, ℕ, false, List, Some, refl, sym, ap, ◌∙◌, Function, ReadString, ReadCharacter, DefineString, Text, Form, Input, World, Meaning, Gives, Ends, meaning_of, value_length, built}
+use Rattle.trac_laws.proofs.Imports.{◌≡◌, ℕ, false, List, Some, refl, sym, ap, ◌∙◌, Function, ReadString, ReadCharacter, DefineString, Text, Form, Input, World, Meaning, Gives, Ends, meaning_of, value_length, built}
 use Rattle.trac_laws.proofs.Shape.{Shape, Reads, Ended, Does, reads, shape}
 
 -- what a call means, with another input

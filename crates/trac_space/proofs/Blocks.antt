@@ -1,5 +1,5 @@
 -- Characters that are put once more by blocks, before they are looked at.
-use Rattle.trac_space.proofs.Words.{◌≡◌, ℕ, ◌+◌, ◌-◌, ◌<◌, ◌≤◌, false, All, List, ◌++◌, length, take, drop, get_or, sym, ap, ◌∙◌, arith, rules, copy_within, take-add, places, same_lists, All-append, Cell, Comma, IsByte, is_byte_cell, byte_cell_at, paste}
+use Rattle.trac_space.proofs.Imports.{◌≡◌, ℕ, ◌+◌, ◌-◌, ◌<◌, ◌≤◌, false, All, List, ◌++◌, length, take, drop, get_or, sym, ap, ◌∙◌, arith, rules, copy_within, take-add, places, same_lists, All-append, Cell, Comma, IsByte, is_byte_cell, byte_cell_at, paste}
 
 -- the first cells of a copy, with those before it
 pub front-of : {X : Type 0} (was after source : List X) (to m r : ℕ) → to ≤ length was → m ≤ length source → r ≤ m → after ≡ paste was to source m → take (to + r) after ≡ take to was ++ take r source

@@ -1,5 +1,5 @@
 -- Bytes that are written over cells by blocks of eight.
-use Rattle.trac_space.proofs.Words.{◌≡◌, ℕ, ◌+◌, ◌-◌, ◌≤◌, List, ◌++◌, length, take, drop, slice_range, sym, ap, ◌∙◌, arith, rules, take-add, places, same_lists, map-append, length-map, length-take-le, length-between, put_mid, Cell, Byte, bytes, written_up_to}
+use Rattle.trac_space.proofs.Imports.{◌≡◌, ℕ, ◌+◌, ◌-◌, ◌≤◌, List, ◌++◌, length, take, drop, slice_range, sym, ap, ◌∙◌, arith, rules, take-add, places, same_lists, map-append, length-map, length-take-le, length-between, put_mid, Cell, Byte, bytes, written_up_to}
 
 -- cells in the middle of a list whose front is another
 over : (front was more : List Cell) (i : ℕ) → length front ≡ i → length more ≡ 8 → i + 8 ≤ length was → put_mid i (i + 8 - i) (front ++ drop i was) more ≡ front ++ more ++ drop (i + 8) was

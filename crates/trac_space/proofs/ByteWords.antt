@@ -1,5 +1,5 @@
 -- Words of eight bytes, and what the operations on them say of each byte.
-use Rattle.trac_space.proofs.Words.{◌≡◌, ℕ, zero, suc, ◌+◌, ◌-◌, ◌*◌, ◌<◌, ◌≤◌, Bool, true, false, List, length, get_or, refl, sym, ap, ◌∙◌, arith, ◌==◌, if◌then◌else◌, ⊎_elim, cases_lt, list_any}
+use Rattle.trac_space.proofs.Imports.{◌≡◌, ℕ, zero, suc, ◌+◌, ◌-◌, ◌*◌, ◌<◌, ◌≤◌, Bool, true, false, List, length, get_or, refl, sym, ap, ◌∙◌, arith, ◌==◌, if◌then◌else◌, ⊎_elim, cases_lt, list_any}
 use Rattle.std.specs.Prelude.{◌^◌, ◌&&◌, not, bit_and, bit_or, bit_xor}
 use Rattle.std.specs.Int.Bits.{xor_assoc, xor_self, xor_zero_l, xor_zero_r}
 use Rattle.std.proofs.lemmas.Bool.{eq-eqb, false≢true}

@@ -1,7 +1,7 @@
 -- Characters that are put once more at a place behind, one after the other.
-use Rattle.trac_space.proofs.Words.{◌≡◌, ◌↔◌, ℕ, ◌+◌, ◌<◌, ◌≤◌, true, false, IsTrue, nat_eq, All, List, [], ◌∷◌, ◌++◌, length, take, drop, map, get_or, slice_range, sum_by, refl, sym, ◌-◌, ap, ◌∙◌, subst, ⊎_elim, arith, rules, places, same_lists, length-drop, length-take-le, get_or-take}
-use Rattle.trac_space.proofs.Words.{get_or-map, get_or-drop, take_more, take-map, drop-map, drop-drop, take-add, cases_lt, All-append, All-push, All-map, All-cons, All-head, All-tail, sum_by-cons, Cell, Byte, Call, Comma, seen, IsNoCall, NoCall, IsByte, is_byte_cell, byte_cell_at}
-use Rattle.trac_space.proofs.Words.{kind_number, paste}
+use Rattle.trac_space.proofs.Imports.{◌≡◌, ◌↔◌, ℕ, ◌+◌, ◌<◌, ◌≤◌, true, false, IsTrue, nat_eq, All, List, [], ◌∷◌, ◌++◌, length, take, drop, map, get_or, slice_range, sum_by, refl, sym, ◌-◌, ap, ◌∙◌, subst, ⊎_elim, arith, rules, places, same_lists, length-drop, length-take-le, get_or-take}
+use Rattle.trac_space.proofs.Imports.{get_or-map, get_or-drop, take_more, take-map, drop-map, drop-drop, take-add, cases_lt, All-append, All-push, All-map, All-cons, All-head, All-tail, sum_by-cons, Cell, Byte, Call, Comma, seen, IsNoCall, NoCall, IsByte, is_byte_cell, byte_cell_at}
+use Rattle.trac_space.proofs.Imports.{kind_number, paste}
 
 -- the cells before that place are as they were
 pub front-cell : (was now source : List Cell) (to k i : ℕ) (d : Cell) → i < to → to ≤ length was → now ≡ paste was to source k → get_or now i d ≡ get_or was i d

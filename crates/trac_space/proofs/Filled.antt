@@ -1,10 +1,10 @@
 -- Cells that are put at the end of neutral with their gaps filled, one after the other.
-use Rattle.trac_space.proofs.Words.{Bool, cond, map, ◌≡◌, ℕ, zero, suc, ◌+◌, ◌-◌, ◌<◌, ◌≤◌, true, false, All, List, [], ◌∷◌, ◌++◌, length, take, drop, get_or, slice_range, Option, Some, None, refl, sym, ap, ◌∙◌, arith, rules, append_assoc, subst, copy_within, places, same_lists}
+use Rattle.trac_space.proofs.Imports.{Bool, cond, map, ◌≡◌, ℕ, zero, suc, ◌+◌, ◌-◌, ◌<◌, ◌≤◌, true, false, All, List, [], ◌∷◌, ◌++◌, length, take, drop, get_or, slice_range, Option, Some, None, refl, sym, ap, ◌∙◌, arith, rules, append_assoc, subst, copy_within, places, same_lists}
 use Rattle.trac_space.proofs.BlockChanges.{reads}
 use Rattle.std.proofs.lemmas.List.Edits.{get_or-between}
 use Rattle.std.proofs.lemmas.List.{take-append-drop}
-use Rattle.trac_space.proofs.Words.{⊎_elim, ◌⊎◌, put_mid, drop_all, get_or_default, take-map, drop-map, drop-drop, map-append, take-take, append-nil, length-append, length-map, length-take-le, drop_more, get_or-take, All-head, All-tail, length-between, Cell, Byte, Comma, IsByte, is_byte_cell, is_comma}
-use Rattle.trac_space.proofs.Words.{filling, filled, ordinal_of, IsPut, HaveCommas, parts_at, numbered_part, part_between}
+use Rattle.trac_space.proofs.Imports.{⊎_elim, ◌⊎◌, put_mid, drop_all, get_or_default, take-map, drop-map, drop-drop, map-append, take-take, append-nil, length-append, length-map, length-take-le, drop_more, get_or-take, All-head, All-tail, length-between, Cell, Byte, Comma, IsByte, is_byte_cell, is_comma}
+use Rattle.trac_space.proofs.Imports.{filling, filled, ordinal_of, IsPut, HaveCommas, parts_at, numbered_part, part_between}
 use Rattle.trac_space.specs.Overlay.{has_number, under, over}
 use Rattle.std.proofs.lemmas.List.{get_or_past}
 

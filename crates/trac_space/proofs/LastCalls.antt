@@ -1,5 +1,5 @@
 -- The last call mark, by the place behind it.
-use Rattle.trac_space.proofs.Words.{◌≡◌, ℕ, ◌+◌, ◌-◌, ◌≤◌, List, Option, Some, None, MatchOption, map, arith, SomeIff, Cell, seen, NoCall, HasCallsUpTo, IsLastCall}
+use Rattle.trac_space.proofs.Imports.{◌≡◌, ℕ, ◌+◌, ◌-◌, ◌≤◌, List, Option, Some, None, MatchOption, map, arith, SomeIff, Cell, seen, NoCall, HasCallsUpTo, IsLastCall}
 use Rattle.trac_space.proofs.Calls.{IsLastCall-from, NoCall-from}
 
 -- one place before the end of the calls

@@ -1,9 +1,9 @@
 -- Numbers over cells, laid one after the other, and taken off again.
-use Rattle.trac_space.proofs.Words.{seen, [], ◌∷◌, refl, ◌≡◌, ℕ, ◌+◌, ◌<◌, List, ◌++◌, length, take, drop, map, get_or, set, ap, ◌∙◌, arith, length-append, length-map, length-take-le, length-drop, get_or_default, Cell, Byte}
+use Rattle.trac_space.proofs.Imports.{seen, [], ◌∷◌, refl, ◌≡◌, ℕ, ◌+◌, ◌<◌, List, ◌++◌, length, take, drop, map, get_or, set, ap, ◌∙◌, arith, length-append, length-map, length-take-le, length-drop, get_or_default, Cell, Byte}
 use Rattle.std.proofs.lemmas.List.Edits.{map_over_more}
 use Rattle.trac_space.specs.Overlay.{under, HaveNumbers}
 use Rattle.std.proofs.lemmas.List.Edits.{split_between}
-use Rattle.trac_space.proofs.Words.{sym, slice_range, ◌-◌, ◌≤◌, rules, places, same_lists, append_assoc, map-append, take-map, drop-map}
+use Rattle.trac_space.proofs.Imports.{sym, slice_range, ◌-◌, ◌≤◌, rules, places, same_lists, append_assoc, map-append, take-map, drop-map}
 
 -- one cell more is lifted
 pub lifted-more : (was now : List Cell) (k : ℕ) (cell : Cell) → k < length was → now ≡ map under (take k was) ++ drop k was → cell ≡ under (get_or now k (Byte 0)) → set now k cell ≡ map under (take (k + 1) was) ++ drop (k + 1) was

@@ -1,6 +1,6 @@
 -- Characters that are moved to a place before, one after the other, and become what a table says.
-use Rattle.trac_space.proofs.Words.{◌≡◌, ℕ, ◌+◌, ◌<◌, ◌≤◌, Bool, true, false, All, List, [], ◌∷◌, length, take, drop, map, get_or, refl, sym, ap, ◌∙◌, arith, subst, ◌==◌, if◌then◌else◌, places, length-drop, length-map, length-take-le, get_or-drop, get_or-take, get_or-map, take_more, take-take}
-use Rattle.trac_space.proofs.Words.{take-map, drop-append-le, drop_all, All-nil, All-push, All-map, elements, Cell, Byte, Comma, seen, is_comma, IsNoCall, NoCall, NoComma, IsByte, character_of, number_in, IsInRun, turned_by, turned, paste}
+use Rattle.trac_space.proofs.Imports.{◌≡◌, ℕ, ◌+◌, ◌<◌, ◌≤◌, Bool, true, false, All, List, [], ◌∷◌, length, take, drop, map, get_or, refl, sym, ap, ◌∙◌, arith, subst, ◌==◌, if◌then◌else◌, places, length-drop, length-map, length-take-le, get_or-drop, get_or-take, get_or-map, take_more, take-take}
+use Rattle.trac_space.proofs.Imports.{take-map, drop-append-le, drop_all, All-nil, All-push, All-map, elements, Cell, Byte, Comma, seen, is_comma, IsNoCall, NoCall, NoComma, IsByte, character_of, number_in, IsInRun, turned_by, turned, paste}
 use Rattle.trac_space.proofs.Characters.{tested-seen}
 
 -- the cell that is next to be moved is as it was

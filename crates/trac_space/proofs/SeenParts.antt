@@ -1,6 +1,6 @@
 -- Parts between comma marks, as contracts see them.
-use Rattle.trac_space.proofs.Words.{◌≡◌, ℕ, suc, ◌+◌, ◌-◌, All, List, [], ◌∷◌, ◌++◌, length, take, drop, map, get_or, slice_range, refl, sym, ap, ◌∙◌, arith, subst}
-use Rattle.trac_space.proofs.Words.{take-map, drop-map, map-append, length-map, All-head, All-tail, All-cons, All-nil, Cell, Byte, Call, Comma, Gap, Head, seen, is_comma, HaveCommas, parts_at, numbered_part, part_between, filling, filled}
+use Rattle.trac_space.proofs.Imports.{◌≡◌, ℕ, suc, ◌+◌, ◌-◌, All, List, [], ◌∷◌, ◌++◌, length, take, drop, map, get_or, slice_range, refl, sym, ap, ◌∙◌, arith, subst}
+use Rattle.trac_space.proofs.Imports.{take-map, drop-map, map-append, length-map, All-head, All-tail, All-cons, All-nil, Cell, Byte, Call, Comma, Gap, Head, seen, is_comma, HaveCommas, parts_at, numbered_part, part_between, filling, filled}
 use Rattle.std.proofs.Math.ListN.{get_or-map as get_or-map-same}
 use Rattle.trac_space.specs.Overlay.{has_number, under, over}
 use Rattle.trac_space.proofs.LaidCommas.{Takes}

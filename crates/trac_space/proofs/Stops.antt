@@ -1,5 +1,5 @@
 -- Bytes up to the first that is looked for.
-use Rattle.trac_space.proofs.Words.{◌≡◌, ℕ, ◌+◌, ◌-◌, ◌<◌, ◌≤◌, Bool, true, false, List, length, take, drop, slice_range, slice_get, Some, refl, sym, ◌∙◌, arith, rules, list_any, take-add, places, same_lists, list_any-append, elements, false≢true}
+use Rattle.trac_space.proofs.Imports.{◌≡◌, ℕ, ◌+◌, ◌-◌, ◌<◌, ◌≤◌, Bool, true, false, List, length, take, drop, slice_range, slice_get, Some, refl, sym, ◌∙◌, arith, rules, list_any, take-add, places, same_lists, list_any-append, elements, false≢true}
 use Rattle.std.specs.Prelude.{◌||◌}
 
 -- it isn't among the first, nor among the next

@@ -4,6 +4,7 @@ ghost use Rattle.std.specs.List.{list_any};
 ghost use Rattle.std.specs.Slice.Scan.{digits_from, flag_word};
 
 /// How many bytes stand before the first `stop`; all of them if there is none.
+#[inline(never)]
 pub(crate) fn count_before(stop: u8, text: &[u8]) -> usize
     ensures within { result ≤ length text.now }
     ensures before { list_any (λ byte. byte == stop) (take result text.now) ≡ false }

@@ -1,6 +1,6 @@
 -- What stands between comma marks, part by part, and a list of where the parts begin.
-use Rattle.trac_store.proofs.Words.{◌≡◌, ℕ, suc, ◌+◌, ◌<◌, ◌≤◌, Bool, true, false, List, [], ◌∷◌, ◌++◌, All, length, take, drop, map, slice_range, get_or, refl, sym, ap, ◌∙◌, arith, cond, nat_le, ⊎_elim, cases_lt, drop_more, length-drop, length-take-le}
-use Rattle.trac_store.proofs.Words.{drop-drop, take-append-drop, All-head, All-tail, length-between, Cell, Byte, Comma, seen, is_comma, IsByte, before_comma, parts_at, parts_between}
+use Rattle.trac_store.proofs.Imports.{◌≡◌, ℕ, suc, ◌+◌, ◌<◌, ◌≤◌, Bool, true, false, List, [], ◌∷◌, ◌++◌, All, length, take, drop, map, slice_range, get_or, refl, sym, ap, ◌∙◌, arith, cond, nat_le, ⊎_elim, cases_lt, drop_more, length-drop, length-take-le}
+use Rattle.trac_store.proofs.Imports.{drop-drop, take-append-drop, All-head, All-tail, length-between, Cell, Byte, Comma, seen, is_comma, IsByte, before_comma, parts_at, parts_between}
 use Rattle.trac_store.proofs.FlatLemmas.{drop-part}
 
 pub before_comma-within : (cells : List Cell) → before_comma cells ≤ length cells

@@ -1,7 +1,7 @@
 -- Lists of forms of distinct names.
-use Rattle.trac_store.proofs.Words.{Located, ◌≡◌, ◌≢◌, ℕ, zero, suc, ◌+◌, ◌-◌, ◌<◌, ◌≤◌, Bool, true, false, List, [], ◌∷◌, ◌++◌, length, take, drop, set, slice_range, Option, Some, None, sym, ap, refl, ◌∙◌, subst, arith, bytes_eq, if◌then◌else◌, MatchOption, remove, both_ways, false_from_ne_true}
-use Rattle.trac_store.proofs.Words.{bytes_eq-Decides, take_more, take_all, take-append-drop, drop_all, set_split, append-nil, get_or-drop, length-drop, sum_by-remove, sum_by-set, sum_by-cons, Text, Form, items_of, is_named, form_named, without, changed, defined, form_cells, cells, NoneNamed}
-use Rattle.trac_store.proofs.Words.{IsStore, flat_forms, form_at, IsNamedAt, IsFoundAt}
+use Rattle.trac_store.proofs.Imports.{Located, ◌≡◌, ◌≢◌, ℕ, zero, suc, ◌+◌, ◌-◌, ◌<◌, ◌≤◌, Bool, true, false, List, [], ◌∷◌, ◌++◌, length, take, drop, set, slice_range, Option, Some, None, sym, ap, refl, ◌∙◌, subst, arith, bytes_eq, if◌then◌else◌, MatchOption, remove, both_ways, false_from_ne_true}
+use Rattle.trac_store.proofs.Imports.{bytes_eq-Decides, take_more, take_all, take-append-drop, drop_all, set_split, append-nil, get_or-drop, length-drop, sum_by-remove, sum_by-set, sum_by-cons, Text, Form, items_of, is_named, form_named, without, changed, defined, form_cells, cells, NoneNamed}
+use Rattle.trac_store.proofs.Imports.{IsStore, flat_forms, form_at, IsNamedAt, IsFoundAt}
 use Rattle.trac_store.proofs.FlatLemmas.{length-flat}
 
 pub NoneNamed-push : (name : Text) (forms : List Form) (form : Form) → NoneNamed name forms → form.name ≢ name → NoneNamed name (forms ++ form ∷ [])

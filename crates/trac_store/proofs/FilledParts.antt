@@ -1,8 +1,8 @@
 -- What fills the gaps of a body: the texts between the comma marks of neutral.
-use Rattle.trac_store.proofs.Words.{Bool, ◌≡◌, ℕ, zero, suc, ◌+◌, ◌-◌, ◌<◌, ◌≤◌, true, false, cond, All, List, [], ◌∷◌, ◌++◌, length, take, drop, map, get_or, nat_le, refl, sym, ap, ◌∙◌, arith, rules, subst, slice_range, ⊎_elim, cases_lt, length-map, map-append, get_or_past, get_or-map, length-between, drop_more, All-tail, All-cons, All-nil, All-get_or, places, same_lists, Cell, Byte}
-use Rattle.trac_store.proofs.Words.{Comma, Gap, Call, NoCall, IsByte, is_comma, filled, numbered_part, part_between, parts_at, flat_text, HaveNumbers, under, AreTextParts, IsTextPart, part_text, part_texts, parts_between, append_assoc, length-append, length-take-le, split_between}
+use Rattle.trac_store.proofs.Imports.{Bool, ◌≡◌, ℕ, zero, suc, ◌+◌, ◌-◌, ◌<◌, ◌≤◌, true, false, cond, All, List, [], ◌∷◌, ◌++◌, length, take, drop, map, get_or, nat_le, refl, sym, ap, ◌∙◌, arith, rules, subst, slice_range, ⊎_elim, cases_lt, length-map, map-append, get_or_past, get_or-map, length-between, drop_more, All-tail, All-cons, All-nil, All-get_or, places, same_lists, Cell, Byte}
+use Rattle.trac_store.proofs.Imports.{Comma, Gap, Call, NoCall, IsByte, is_comma, filled, numbered_part, part_between, parts_at, flat_text, HaveNumbers, under, AreTextParts, IsTextPart, part_text, part_texts, parts_between, append_assoc, length-append, length-take-le, split_between}
 use Rattle.std.proofs.lemmas.List.{take-append-le, drop-append-le}
-use Rattle.trac_store.proofs.Words.{take-append-drop}
+use Rattle.trac_store.proofs.Imports.{take-append-drop}
 use Rattle.trac_space.proofs.Filled.{parts-within}
 use Rattle.trac_space.proofs.LaidCommas.{Takes}
 use Rattle.trac_store.proofs.Filling.{filled as filled_text, part-there, part-text, text-no_call}

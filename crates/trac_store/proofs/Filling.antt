@@ -1,8 +1,8 @@
 -- The text of a form whose gaps are filled, part by part.
-use Rattle.trac_store.proofs.Words.{◌≡◌, ℕ, zero, suc, ◌+◌, ◌-◌, ◌<◌, ◌≤◌, true, false, List, [], ◌∷◌, ◌++◌, length, take, drop, map, get_or, slice_range, Some, All, refl, sym, ap, ◌∙◌, arith, subst, ⊎_elim, false≢true, cases_lt, drop-map}
-use Rattle.trac_store.proofs.Words.{length-map, get_or_past, All-head, All-tail, All-nil, All-cons, All-get_or, All-map, length-between, Item, Text, fill, is_character, text_of, IsStore, Cell, Byte, Call, IsNoCall, NoCall, Lists}
-use Rattle.trac_store.proofs.Words.{flat_text, text_of_cells, character_of, IsByte, is_byte_cell, flat_item, flat_forms, IsTextPart, part_text, AreTextParts, part_texts, form_at, name_at, body_at, pointer_at, gap_number}
-use Rattle.trac_store.proofs.Words.{item_of, forms_in, start_of, begins}
+use Rattle.trac_store.proofs.Imports.{◌≡◌, ℕ, zero, suc, ◌+◌, ◌-◌, ◌<◌, ◌≤◌, true, false, List, [], ◌∷◌, ◌++◌, length, take, drop, map, get_or, slice_range, Some, All, refl, sym, ap, ◌∙◌, arith, subst, ⊎_elim, false≢true, cases_lt, drop-map}
+use Rattle.trac_store.proofs.Imports.{length-map, get_or_past, All-head, All-tail, All-nil, All-cons, All-get_or, All-map, length-between, Item, Text, fill, is_character, text_of, IsStore, Cell, Byte, Call, IsNoCall, NoCall, Lists}
+use Rattle.trac_store.proofs.Imports.{flat_text, text_of_cells, character_of, IsByte, is_byte_cell, flat_item, flat_forms, IsTextPart, part_text, AreTextParts, part_texts, form_at, name_at, body_at, pointer_at, gap_number}
+use Rattle.trac_store.proofs.Imports.{item_of, forms_in, start_of, begins}
 use Rattle.std.proofs.Math.ListN.{get_or-map as get_or-map-same}
 use Rattle.trac_store.proofs.Places.{stands}
 use Rattle.trac_store.proofs.DistinctForms.{pointer-within}

@@ -1,6 +1,6 @@
 -- What stands where a form begins, in a slice of the whole store.
-use Rattle.trac_store.proofs.Words.{◌≡◌, ℕ, ◌+◌, ◌-◌, ◌<◌, ◌≤◌, List, length, take, drop, map, All, get_or, slice_range, slice_get, Some, sym, ap, ◌∙◌, subst, arith, option_map, slice_get-map, slice_get-get_or, take-map, drop-map, length-map, get_or-map, length-between}
-use Rattle.trac_store.proofs.Words.{All-map, Cell, Byte, Head, seen, flat_text, text_of_cells, IsByte, flat_forms, form_at, forms_in, start_of, head_number, Bool, Decides, begins, places}
+use Rattle.trac_store.proofs.Imports.{◌≡◌, ℕ, ◌+◌, ◌-◌, ◌<◌, ◌≤◌, List, length, take, drop, map, All, get_or, slice_range, slice_get, Some, sym, ap, ◌∙◌, subst, arith, option_map, slice_get-map, slice_get-get_or, take-map, drop-map, length-map, get_or-map, length-between}
+use Rattle.trac_store.proofs.Imports.{All-map, Cell, Byte, Head, seen, flat_text, text_of_cells, IsByte, flat_forms, form_at, forms_in, start_of, head_number, Bool, Decides, begins, places}
 use Rattle.trac_store.proofs.FlatLemmas.{Byte-character_of}
 use Rattle.trac_store.proofs.Gaps.{bytes-seen}
 use Rattle.trac_store.proofs.HeadCells.{seen-head}

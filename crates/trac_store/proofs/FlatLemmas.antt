@@ -1,7 +1,7 @@
 -- Forms as cells and back.
-use Rattle.trac_store.proofs.Words.{◌≡◌, ℕ, zero, suc, ◌+◌, ◌-◌, ◌≤◌, List, [], ◌∷◌, ◌++◌, length, take, drop, map, refl, sym, ap, ◌∙◌, arith, slice_range, All, get_or, false, append_assoc, length-append, length-map, take_at, drop_at, length-between, All-nil, All-head}
-use Rattle.trac_store.proofs.Words.{All-tail, All-cons, All-append, All-map, sum_by-cons, Item, Form, items_of, form_cells, cells, Cell, Byte, Head, Lists, is_call, IsNoCall, NoCall, character_of, IsByte, flat_item, flat_form, flat_forms, IsTextPart, part_text, new_form}
-use Rattle.trac_store.proofs.Words.{item_of, read_forms, forms_in, places, rules, same_lists}
+use Rattle.trac_store.proofs.Imports.{◌≡◌, ℕ, zero, suc, ◌+◌, ◌-◌, ◌≤◌, List, [], ◌∷◌, ◌++◌, length, take, drop, map, refl, sym, ap, ◌∙◌, arith, slice_range, All, get_or, false, append_assoc, length-append, length-map, take_at, drop_at, length-between, All-nil, All-head}
+use Rattle.trac_store.proofs.Imports.{All-tail, All-cons, All-append, All-map, sum_by-cons, Item, Form, items_of, form_cells, cells, Cell, Byte, Head, Lists, is_call, IsNoCall, NoCall, character_of, IsByte, flat_item, flat_form, flat_forms, IsTextPart, part_text, new_form}
+use Rattle.trac_store.proofs.Imports.{item_of, read_forms, forms_in, places, rules, same_lists}
 use Rattle.trac_language.specs.declared.item.Item.TheVariants as item
 
 -- how many cells a form has

@@ -1,6 +1,6 @@
 -- How a walk over a body makes gaps of a text.
-use Rattle.trac_store.proofs.Words.{◌≡◌, ℕ, zero, suc, ◌+◌, ◌-◌, ◌<◌, ◌≤◌, ◌&&◌, Bool, true, false, List, [], ◌∷◌, ◌++◌, length, take, drop, map, slice_range, set, refl, sym, ap, ◌∙◌, arith, rules, places, same_lists, append_assoc, append-nil, drop-drop, drop_all, take_all, take_at, take-take, take_more_set, and-false, false≢true}
-use Rattle.trac_store.proofs.Words.{Cell, Byte, Gap, seen, character_of, is_byte, begins_cells, text_cells_at, segment_cells, character-seen, NonePasses}
+use Rattle.trac_store.proofs.Imports.{◌≡◌, ℕ, zero, suc, ◌+◌, ◌-◌, ◌<◌, ◌≤◌, ◌&&◌, Bool, true, false, List, [], ◌∷◌, ◌++◌, length, take, drop, map, slice_range, set, refl, sym, ap, ◌∙◌, arith, rules, places, same_lists, append_assoc, append-nil, drop-drop, drop_all, take_all, take_at, take-take, take_more_set, and-false, false≢true}
+use Rattle.trac_store.proofs.Imports.{Cell, Byte, Gap, seen, character_of, is_byte, begins_cells, text_cells_at, segment_cells, character-seen, NonePasses}
 use Rattle.trac_store.proofs.FlatLemmas.{drop-part}
 
 is_byte-seen : (b : ℕ) (cell : Cell) → is_byte b (seen cell) ≡ is_byte b cell

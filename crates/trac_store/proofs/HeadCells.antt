@@ -1,6 +1,6 @@
 -- Head cells, as a slice of the store holds them.
-use Rattle.trac_store.proofs.Words.{◌≡◌, ℕ, ◌+◌, ◌<◌, ◌≤◌, List, length, map, get_or, slice_range, slice_get, Option, Some, refl, sym, ap, ◌∙◌, arith, length-map, get_or-map, length-between, get_or-between, option_map, slice_get-map, slice_get-get_or, get_or_from_slice_get, Cell, Byte, Call}
-use Rattle.trac_store.proofs.Words.{Head, seen, head_number, head_at, IsHeadAt}
+use Rattle.trac_store.proofs.Imports.{◌≡◌, ℕ, ◌+◌, ◌<◌, ◌≤◌, List, length, map, get_or, slice_range, slice_get, Option, Some, refl, sym, ap, ◌∙◌, arith, length-map, get_or-map, length-between, get_or-between, option_map, slice_get-map, slice_get-get_or, get_or_from_slice_get, Cell, Byte, Call}
+use Rattle.trac_store.proofs.Imports.{Head, seen, head_number, head_at, IsHeadAt}
 
 -- a cell that is a number
 pub is_head : (cell : Cell) (n : ℕ) → cell ≡ Head n → cell ≡ Head (head_number (Some cell))

@@ -1,5 +1,5 @@
 -- The items of a body and their cells.
-use Rattle.trac_store.proofs.Words.{◌≡◌, ℕ, ◌+◌, ◌<◌, ◌≤◌, List, length, map, slice_range, get_or, refl, sym, ap, ◌∙◌, arith, get_or-map, get_or-between, slice_get-get_or, Item, Cell, Comma, flat_item, item_at, item_of, item_of_cell, stored_item}
+use Rattle.trac_store.proofs.Imports.{◌≡◌, ℕ, ◌+◌, ◌<◌, ◌≤◌, List, length, map, slice_range, get_or, refl, sym, ap, ◌∙◌, arith, get_or-map, get_or-between, slice_get-get_or, Item, Cell, Comma, flat_item, item_at, item_of, item_of_cell, stored_item}
 use Rattle.trac_language.specs.declared.item.Item.TheVariants as item
 
 item_of-flat : (i : Item) → item_of (flat_item i) ≡ i

@@ -1,6 +1,6 @@
 -- Borders that are laid over a text, one after the other.
-use Rattle.trac_store.proofs.Words.{◌≡◌, ℕ, ◌+◌, ◌-◌, ◌<◌, ◌≤◌, List, [], ◌∷◌, length, take, drop, map, slice_range, get_or, set, refl, sym, ap, subst, ◌∙◌, arith, rules, reads, places, same_lists, ⊎_elim, All, All-head, All-tail, All-get_or, append_assoc, drop-drop, drop-set-lt, take-set-le, length-set, length-map}
-use Rattle.trac_store.proofs.Words.{get_or-set_same, get_or-set_other, get_or-map, get_or-drop, get_or-between, length-between, split_between, cases_eq, Cell, Byte, Call, Comma, Gap, Head, seen, Lists, character_of, IsByte, under, over, byte_at, IsLongestBorder, IsNextBorder, laid_text, HaveBorders, AreLaid, IsTextPart, part_text}
+use Rattle.trac_store.proofs.Imports.{◌≡◌, ℕ, ◌+◌, ◌-◌, ◌<◌, ◌≤◌, List, [], ◌∷◌, length, take, drop, map, slice_range, get_or, set, refl, sym, ap, subst, ◌∙◌, arith, rules, reads, places, same_lists, ⊎_elim, All, All-head, All-tail, All-get_or, append_assoc, drop-drop, drop-set-lt, take-set-le, length-set, length-map}
+use Rattle.trac_store.proofs.Imports.{get_or-set_same, get_or-set_other, get_or-map, get_or-drop, get_or-between, length-between, split_between, cases_eq, Cell, Byte, Call, Comma, Gap, Head, seen, Lists, character_of, IsByte, under, over, byte_at, IsLongestBorder, IsNextBorder, laid_text, HaveBorders, AreLaid, IsTextPart, part_text}
 use Rattle.std.proofs.Math.ListN.{get_or-map as get_or-map-same}
 use Rattle.std.proofs.Math.Seq.{map-set_same}
 use Rattle.std.proofs.lemmas.Simd.{map-map}

@@ -14,4 +14,4 @@ pub mod Searches
 pub mod Segments
 pub mod TableChanges
 pub mod TextBorders
-mod Words
+mod Imports

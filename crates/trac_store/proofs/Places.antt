@@ -1,6 +1,6 @@
 -- Where forms stand among the cells of a list of forms.
-use Rattle.trac_store.proofs.Words.{◌≡◌, ℕ, suc, ◌+◌, ◌-◌, ◌<◌, ◌≤◌, List, [], ◌∷◌, ◌++◌, length, take, drop, map, slice_range, slice_get, set, Some, refl, sym, ap, ◌∙◌, arith, remove, drop-append-add, append_assoc, append-nil, length-append, length-map, take-append-drop, drop_more, take_more}
-use Rattle.trac_store.proofs.Words.{take_at, drop_at, drop-drop, set_split, take-set, set-append_right, flat_map-append, Form, form_cells, Cell, Byte, Head, Lists, flat_text, flat_item, flat_form, flat_forms, form_at, start_of, head_number, head_at}
+use Rattle.trac_store.proofs.Imports.{◌≡◌, ℕ, suc, ◌+◌, ◌-◌, ◌<◌, ◌≤◌, List, [], ◌∷◌, ◌++◌, length, take, drop, map, slice_range, slice_get, set, Some, refl, sym, ap, ◌∙◌, arith, remove, drop-append-add, append_assoc, append-nil, length-append, length-map, take-append-drop, drop_more, take_more}
+use Rattle.trac_store.proofs.Imports.{take_at, drop_at, drop-drop, set_split, take-set, set-append_right, flat_map-append, Form, form_cells, Cell, Byte, Head, Lists, flat_text, flat_item, flat_form, flat_forms, form_at, start_of, head_number, head_at}
 use Rattle.trac_store.proofs.FlatLemmas.{length-flat_form}
 
 slice_get-append-add : (xs ys : List Cell) (n : ℕ) → slice_get (xs ++ ys) (length xs + n) ≡ slice_get ys n

@@ -1,6 +1,6 @@
 -- What a search over the cells of a body says of its items.
-use Rattle.trac_store.proofs.Words.{◌≡◌, ℕ, ◌<◌, ◌≤◌, ◌&&◌, ◌==◌, Bool, true, List, [], ◌∷◌, length, drop, map, get_or, Option, Some, None, MatchOption, refl, sym, ap, ◌∙◌, arith, get_or-map, length-map, drop-map, and_parts, Item, Text, is_character, begins, Cell}
-use Rattle.trac_store.proofs.Words.{Byte, Comma, seen, is_byte_cell, byte_cell_at, flat_item, is_gap, gap_at, character_at, text_at, NonePasses, IsFirst, IsLast, is_gap_cell, gap_cell_at, text_cells_at, begins_cells, tested-seen}
+use Rattle.trac_store.proofs.Imports.{◌≡◌, ℕ, ◌<◌, ◌≤◌, ◌&&◌, ◌==◌, Bool, true, List, [], ◌∷◌, length, drop, map, get_or, Option, Some, None, MatchOption, refl, sym, ap, ◌∙◌, arith, get_or-map, length-map, drop-map, and_parts, Item, Text, is_character, begins, Cell}
+use Rattle.trac_store.proofs.Imports.{Byte, Comma, seen, is_byte_cell, byte_cell_at, flat_item, is_gap, gap_at, character_at, text_at, NonePasses, IsFirst, IsLast, is_gap_cell, gap_cell_at, text_cells_at, begins_cells, tested-seen}
 use Rattle.trac_language.specs.declared.item.Item.TheVariants as item
 use Rattle.trac_store.proofs.Gaps.{begins-map_seen}
 

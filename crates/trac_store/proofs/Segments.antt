@@ -1,6 +1,6 @@
 -- The cells of a segmented body.
-use Rattle.trac_store.proofs.Words.{◌≡◌, ℕ, zero, suc, ◌+◌, ◌-◌, ◌<◌, Bool, true, false, List, [], ◌∷◌, ◌++◌, length, take, drop, map, set, refl, sym, ap, ◌∙◌, arith, if◌then◌else◌, append_assoc, length-append, length-map, take_at, Item, Text, Form, begins, segment_after}
-use Rattle.trac_store.proofs.Words.{segment, Cell, Byte, Gap, Head, Lists, flat_text, flat_item, flat_form, flat_forms, form_at, segment_cells, segmented_cells, start_of, places, reads, rules, same_lists}
+use Rattle.trac_store.proofs.Imports.{◌≡◌, ℕ, zero, suc, ◌+◌, ◌-◌, ◌<◌, Bool, true, false, List, [], ◌∷◌, ◌++◌, length, take, drop, map, set, refl, sym, ap, ◌∙◌, arith, if◌then◌else◌, append_assoc, length-append, length-map, take_at, Item, Text, Form, begins, segment_after}
+use Rattle.trac_store.proofs.Imports.{segment, Cell, Byte, Gap, Head, Lists, flat_text, flat_item, flat_form, flat_forms, form_at, segment_cells, segmented_cells, start_of, places, reads, rules, same_lists}
 use Rattle.trac_store.proofs.Searches.{begins-flat}
 use Rattle.trac_store.proofs.Places.{Stands, flat-set}
 

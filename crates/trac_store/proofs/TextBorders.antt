@@ -1,6 +1,6 @@
 -- Borders of a text, and what a search by them keeps.
-use Rattle.trac_store.proofs.Words.{◌≡◌, ℕ, zero, suc, ◌+◌, ◌-◌, ◌<◌, ◌≤◌, Bool, true, false, List, [], ◌∷◌, length, drop, get_or, ⊎_elim, refl, sym, ap, subst, ◌∙◌, arith, length-drop, get_or-drop, cases_eq, cases_lt, false≢true, and_parts, and_from, eq-eqb}
-use Rattle.trac_store.proofs.Words.{eqb-true, Cell, Byte, Comma, byte_at, IsBorder, IsLongestBorder, GoesOn, IsNextBorder, is_byte, begins_cells, text_cells_at, NonePasses, IsFirst}
+use Rattle.trac_store.proofs.Imports.{◌≡◌, ℕ, zero, suc, ◌+◌, ◌-◌, ◌<◌, ◌≤◌, Bool, true, false, List, [], ◌∷◌, length, drop, get_or, ⊎_elim, refl, sym, ap, subst, ◌∙◌, arith, length-drop, get_or-drop, cases_eq, cases_lt, false≢true, and_parts, and_from, eq-eqb}
+use Rattle.trac_store.proofs.Imports.{eqb-true, Cell, Byte, Comma, byte_at, IsBorder, IsLongestBorder, GoesOn, IsNextBorder, is_byte, begins_cells, text_cells_at, NonePasses, IsFirst}
 use Rattle.trac_store.proofs.Gaps.{begins-few}
 
 -- a border of a border is one

@@ -1,7 +1,7 @@
 -- The bits of octal digits, and operations on them, digit by digit.
-use Rattle.trac_values.proofs.Words.{◌≡◌, ℕ, zero, suc, ◌+◌, ◌-◌, ◌*◌, ◌/◌, ◌%◌, ◌^◌, ◌<◌, ◌≤◌, Bool, true, false, not, ◌&&◌, ◌||◌, [], ◌∷◌, ◌++◌, length, map, drop, replicate, get_or, refl, sym, ap, ◌∙◌, arith, eqb, max, min, Some, None, flat_map, bit_and, bit_or, bit_xor, slice_get}
-use Rattle.trac_values.proofs.Words.{length-append, length-map, length-replicate, length-drop, get_or_append_left, get_or-drop, get_or-map, flat_map-append, agree_below, agree_below_at, eqb-true, nat_tests, slice_get-get_or, slice_get_past, Text, Bits, is_octal, octal_digit, octal, bits_of_digit}
-use Rattle.trac_values.proofs.Words.{bitwise, padded, cut, union, intersection, complement, padded_text}
+use Rattle.trac_values.proofs.Imports.{◌≡◌, ℕ, zero, suc, ◌+◌, ◌-◌, ◌*◌, ◌/◌, ◌%◌, ◌^◌, ◌<◌, ◌≤◌, Bool, true, false, not, ◌&&◌, ◌||◌, [], ◌∷◌, ◌++◌, length, map, drop, replicate, get_or, refl, sym, ap, ◌∙◌, arith, eqb, max, min, Some, None, flat_map, bit_and, bit_or, bit_xor, slice_get}
+use Rattle.trac_values.proofs.Imports.{length-append, length-map, length-replicate, length-drop, get_or_append_left, get_or-drop, get_or-map, flat_map-append, agree_below, agree_below_at, eqb-true, nat_tests, slice_get-get_or, slice_get_past, Text, Bits, is_octal, octal_digit, octal, bits_of_digit}
+use Rattle.trac_values.proofs.Imports.{bitwise, padded, cut, union, intersection, complement, padded_text}
 use Rattle.trac_values.proofs.OctalDigits.{length-octal, octal_at, length-bits_of}
 
 -- the bits of the digit 0

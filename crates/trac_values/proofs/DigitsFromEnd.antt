@@ -1,5 +1,5 @@
 -- The digits at the end of a text, read from the last to the first.
-use Rattle.trac_values.proofs.Words.{◌≡◌, ℕ, ◌+◌, ◌-◌, ◌*◌, ◌^◌, ◌<◌, ◌≤◌, List, [], ◌∷◌, ◌++◌, length, drop, get_or, refl, ap, ◌∙◌, arith, digit_value, digits_value, digits_value_after, pow-le-pow_right, add-mul, mul_right_comm, mul_assoc, mul-le-mul_right, pow_more, drop_more, length-drop}
+use Rattle.trac_values.proofs.Imports.{◌≡◌, ℕ, ◌+◌, ◌-◌, ◌*◌, ◌^◌, ◌<◌, ◌≤◌, List, [], ◌∷◌, ◌++◌, length, drop, get_or, refl, ap, ◌∙◌, arith, digit_value, digits_value, digits_value_after, pow-le-pow_right, add-mul, mul_right_comm, mul_assoc, mul-le-mul_right, pow_more, drop_more, length-drop}
 
 -- digits that follow those of a number
 after_is : (n : ℕ) (ds : List ℕ) → digits_value_after 10 n ds ≡ n * 10 ^ length ds + digits_value 10 ds

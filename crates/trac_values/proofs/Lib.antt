@@ -7,4 +7,4 @@ pub mod SuffixCells
 pub mod Suffixes
 pub mod Texts
 pub mod TwoParts
-mod Words
+mod Imports

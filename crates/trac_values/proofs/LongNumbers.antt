@@ -1,6 +1,6 @@
 -- Numbers of any length, read digit by digit within bounds.
-use Rattle.trac_values.proofs.Words.{◌≡◌, ℕ, ◌+◌, ◌-◌, ◌*◌, ◌/◌, ◌%◌, ◌<◌, min, pos, neg_ℤ, sym, ap, ◌∙◌, refl, arith, ⊎_elim, mod-add-mod, mod-eq_of_lt, Bool, true, false, ◌+ℤ◌, if◌then◌else◌, digits_value, cases_Bool, int_rem_euclid, mul-mod_first, mod_below, div-add-mod', ints}
-use Rattle.trac_values.proofs.Words.{int_rem_euclid_is, Text, before_digits, digits, ends_with, number}
+use Rattle.trac_values.proofs.Imports.{◌≡◌, ℕ, ◌+◌, ◌-◌, ◌*◌, ◌/◌, ◌%◌, ◌<◌, min, pos, neg_ℤ, sym, ap, ◌∙◌, refl, arith, ⊎_elim, mod-add-mod, mod-eq_of_lt, Bool, true, false, ◌+ℤ◌, if◌then◌else◌, digits_value, cases_Bool, int_rem_euclid, mul-mod_first, mod_below, div-add-mod', ints}
+use Rattle.trac_values.proofs.Imports.{int_rem_euclid_is, Text, before_digits, digits, ends_with, number}
 
 -- one more digit, up to a limit
 pub limited_more : (v c limit : ℕ) → min (min v limit * 10 + c) limit ≡ min (v * 10 + c) limit

@@ -1,5 +1,5 @@
 -- The digits of lists of bits, one by one.
-use Rattle.trac_values.proofs.Words.{◌≡◌, ℕ, zero, suc, ◌+◌, ◌*◌, ◌/◌, ◌<◌, false, [], ◌∷◌, length, get_or, refl, sym, ap, ◌∙◌, arith, flat_map, length-append, Text, Bits, octal_digit, octal, bits_of_digit}
+use Rattle.trac_values.proofs.Imports.{◌≡◌, ℕ, zero, suc, ◌+◌, ◌*◌, ◌/◌, ◌<◌, false, [], ◌∷◌, length, get_or, refl, sym, ap, ◌∙◌, arith, flat_map, length-append, Text, Bits, octal_digit, octal, bits_of_digit}
 
 -- how many digits there are
 pub length-octal : (l : Bits) → length (octal l) ≡ length l / 3

@@ -1,6 +1,6 @@
 -- Shifts and rotations of lists of bits, digit by digit.
-use Rattle.trac_values.proofs.Words.{◌≡◌, ℕ, suc, ◌+◌, ◌-◌, ◌*◌, ◌/◌, ◌%◌, ◌<◌, ◌≤◌, Bool, false, length, min, get_or, ℤ, pos, negsuc, neg_ℤ, Some, None, refl, sym, ap, ◌∙◌, arith, ⊎_elim, ◌+ℤ◌, slice_get, int_lt, unsigned_abs, int_rem_euclid, add-mod-mod, add-mod_left, mod-eq_of_lt, mod_below}
-use Rattle.trac_values.proofs.Words.{div-add-mod', ints, int_rem_euclid_is, cases_lt, le-ltb, ext_get_or, get_or_past, get_or-map-range_with_len, length-map-range_with_len, Bits, octal_digit, octal, bits_by, bit_at, shifted, rotated, signed}
+use Rattle.trac_values.proofs.Imports.{◌≡◌, ℕ, suc, ◌+◌, ◌-◌, ◌*◌, ◌/◌, ◌%◌, ◌<◌, ◌≤◌, Bool, false, length, min, get_or, ℤ, pos, negsuc, neg_ℤ, Some, None, refl, sym, ap, ◌∙◌, arith, ⊎_elim, ◌+ℤ◌, slice_get, int_lt, unsigned_abs, int_rem_euclid, add-mod-mod, add-mod_left, mod-eq_of_lt, mod_below}
+use Rattle.trac_values.proofs.Imports.{div-add-mod', ints, int_rem_euclid_is, cases_lt, le-ltb, ext_get_or, get_or_past, get_or-map-range_with_len, length-map-range_with_len, Bits, octal_digit, octal, bits_by, bit_at, shifted, rotated, signed}
 use Rattle.trac_values.proofs.DigitBits.{digit_of_bits, no_digit}
 
 module _ (f : ℕ → Bool) (n : ℕ) where

@@ -1,5 +1,5 @@
 -- The cells of the longest suffix of characters that pass a test.
-use Rattle.trac_values.proofs.Words.{◌≡◌, ℕ, ◌+◌, ◌-◌, ◌<◌, Bool, true, List, length, take, drop, get_or, sym, ap, ◌∙◌, arith, reverse, suffix_len, length-take, length-drop, get_or-drop, get_or-reverse, drop-map, prefix_len_passes, suffix_len-le-length, Text, Cell, character_of, text_of_cells}
+use Rattle.trac_values.proofs.Imports.{◌≡◌, ℕ, ◌+◌, ◌-◌, ◌<◌, Bool, true, List, length, take, drop, get_or, sym, ap, ◌∙◌, arith, reverse, suffix_len, length-take, length-drop, get_or-drop, get_or-reverse, drop-map, prefix_len_passes, suffix_len-le-length, Text, Cell, character_of, text_of_cells}
 
 module _ (p : ℕ → Bool) where
   length-front : (t : Text) → length (take (length t - suffix_len p t) t) ≡ length t - suffix_len p t

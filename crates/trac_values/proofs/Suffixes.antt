@@ -1,6 +1,6 @@
 -- The longest suffix of characters that pass a test, found from the end.
-use Rattle.trac_values.proofs.Words.{◌≡◌, ℕ, ◌+◌, ◌-◌, ◌*◌, ◌<◌, ◌≤◌, Bool, true, false, List, length, take, get_or, sym, ap, ◌∙◌, arith, suffix_len, is_ascii_digit, digit_value, digits_value, nat_tests, digits_value_more, length-take, length-map, get_or-map, suffix_len-take_yes}
-use Rattle.trac_values.proofs.Words.{suffix_len-take_no, Cell, character_of, text_of_cells, value_upto, IsDecimal}
+use Rattle.trac_values.proofs.Imports.{◌≡◌, ℕ, ◌+◌, ◌-◌, ◌*◌, ◌<◌, ◌≤◌, Bool, true, false, List, length, take, get_or, sym, ap, ◌∙◌, arith, suffix_len, is_ascii_digit, digit_value, digits_value, nat_tests, digits_value_more, length-take, length-map, get_or-map, suffix_len-take_yes}
+use Rattle.trac_values.proofs.Imports.{suffix_len-take_no, Cell, character_of, text_of_cells, value_upto, IsDecimal}
 
 module _ (p : ℕ → Bool) (cells : List Cell) where
   -- the character of a cell

@@ -1,5 +1,5 @@
 -- The texts of cells, character by character.
-use Rattle.trac_values.proofs.Words.{◌≡◌, ℕ, ◌+◌, ◌-◌, ◌<◌, ◌≤◌, List, length, take, replicate, get_or, Bool, true, sym, ap, ◌∙◌, arith, length-map, length-replicate, get_or-append_right, get_or-map, take_more_same, Text, Cell, character_of, text_of_cells, EachIs, padded_text}
+use Rattle.trac_values.proofs.Imports.{◌≡◌, ℕ, ◌+◌, ◌-◌, ◌<◌, ◌≤◌, List, length, take, replicate, get_or, Bool, true, sym, ap, ◌∙◌, arith, length-map, length-replicate, get_or-append_right, get_or-map, take_more_same, Text, Cell, character_of, text_of_cells, EachIs, padded_text}
 
 pub length-text : (cells : List Cell) → length (text_of_cells cells) ≡ length cells
 length-text cells = length-map cells character_of

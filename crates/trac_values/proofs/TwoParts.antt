@@ -1,6 +1,6 @@
 -- The digits at the end of a text that stands in two parts.
-use Rattle.trac_values.proofs.Words.{◌≡◌, ℕ, ◌+◌, ◌-◌, ◌*◌, ◌^◌, ◌<◌, ◌≤◌, Bool, true, false, List, [], ◌∷◌, ◌++◌, length, take, drop, reverse, refl, sym, ap, ◌∙◌, arith, rules, is_ascii_digit, suffix_len, prefix_len, digits_value, pow-le-pow_right, length-append, length-take, length-map, length-reverse, reverse-append, drop-drop, take-map, drop-map, take-append-drop}
-use Rattle.trac_values.proofs.Words.{same_lists, places, cond, before_digits, digits, Text, Cell, character_of, text_of_cells, suffix_len-le-length}
+use Rattle.trac_values.proofs.Imports.{◌≡◌, ℕ, ◌+◌, ◌-◌, ◌*◌, ◌^◌, ◌<◌, ◌≤◌, Bool, true, false, List, [], ◌∷◌, ◌++◌, length, take, drop, reverse, refl, sym, ap, ◌∙◌, arith, rules, is_ascii_digit, suffix_len, prefix_len, digits_value, pow-le-pow_right, length-append, length-take, length-map, length-reverse, reverse-append, drop-drop, take-map, drop-map, take-append-drop}
+use Rattle.trac_values.proofs.Imports.{same_lists, places, cond, before_digits, digits, Text, Cell, character_of, text_of_cells, suffix_len-le-length}
 use Rattle.trac_values.proofs.DigitsFromEnd.{value-append}
 
 module _ (p : ℕ → Bool) where

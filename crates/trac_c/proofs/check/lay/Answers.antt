@@ -1,4 +1,4 @@
-use Rattle.trac_c.proofs.Words.{◌++◌, drop, sym, ap, ◌∙◌}
+use Rattle.trac_c.proofs.Imports.{◌++◌, drop, sym, ap, ◌∙◌}
 use Rattle.trac_c.proofs.Buffers.{laid-front}
 use Rattle.trac_c.proofs.check.lay.Goals as goal
 

@@ -1,4 +1,4 @@
-use Rattle.trac_c.proofs.Words.{arith, ◌∷◌, []}
+use Rattle.trac_c.proofs.Imports.{arith, ◌∷◌, []}
 use Rattle.trac_c.proofs.Buffers.{laid-put, laid-behind}
 use Rattle.trac_c.proofs.filling.put.Goals as goal
 

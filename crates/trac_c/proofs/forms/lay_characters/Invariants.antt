@@ -1,4 +1,4 @@
-use Rattle.trac_c.proofs.Words.{◌≡◌, ◌≤◌, length, take, map, character_of, laid}
+use Rattle.trac_c.proofs.Imports.{◌≡◌, ◌≤◌, length, take, map, character_of, laid}
 use Rattle.trac_c.proofs.forms.lay_characters.Given as goal
 
 -- the characters up to a place are put

@@ -1,4 +1,4 @@
-use Rattle.trac_c.proofs.Words.{◌∙◌, ap, arith, item_code}
+use Rattle.trac_c.proofs.Imports.{◌∙◌, ap, arith, item_code}
 use Rattle.std.proofs.lemmas.Option.{slice_get-get_or}
 use Rattle.trac_language.specs.declared.item.Item.TheVariants.{Byte}
 use Rattle.trac_c.specs.Forms.{code_of}

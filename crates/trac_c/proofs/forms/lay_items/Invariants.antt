@@ -1,4 +1,4 @@
-use Rattle.trac_c.proofs.Words.{◌≡◌, ◌≤◌, length, take, map, laid, item_code}
+use Rattle.trac_c.proofs.Imports.{◌≡◌, ◌≤◌, length, take, map, laid, item_code}
 use Rattle.trac_c.proofs.forms.lay_items.Given as goal
 
 -- the codes of the items up to a place are put

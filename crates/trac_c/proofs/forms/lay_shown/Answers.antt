@@ -1,4 +1,4 @@
-use Rattle.trac_c.proofs.Words.{◌≡◌, ◌++◌, length, min, take, drop, sym, ap, ◌∙◌, arith, length-take-le}
+use Rattle.trac_c.proofs.Imports.{◌≡◌, ◌++◌, length, min, take, drop, sym, ap, ◌∙◌, arith, length-take-le}
 use Rattle.trac_language.specs.Meaning.{show_form}
 use Rattle.trac_c.proofs.Buffers.{laid-front}
 use Rattle.trac_c.proofs.forms.lay_shown.Goals as goal

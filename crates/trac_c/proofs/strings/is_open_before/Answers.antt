@@ -1,4 +1,4 @@
-use Rattle.trac_c.proofs.Words.{◌+◌, ◌∙◌, get_or, sym, ap, arith, Byte, is_open_after}
+use Rattle.trac_c.proofs.Imports.{◌+◌, ◌∙◌, get_or, sym, ap, arith, Byte, is_open_after}
 use Rattle.trac_c.proofs.Coding.{next-call, call-before}
 use Rattle.trac_c.proofs.strings.is_open_before.Goals as goal
 

@@ -1,4 +1,4 @@
-use Rattle.trac_c.proofs.Words.{◌≡◌, ◌≤◌, take, false, neutral_of, has_call}
+use Rattle.trac_c.proofs.Imports.{◌≡◌, ◌≤◌, take, false, neutral_of, has_call}
 use Rattle.trac_c.proofs.strings.is_open_before.Given as goal
 
 -- no call is open up to a place

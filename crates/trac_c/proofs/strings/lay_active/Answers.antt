@@ -1,5 +1,5 @@
 use Rattle.std.proofs.lemmas.List.{drop-map}
-use Rattle.trac_c.proofs.Words.{◌∙◌, refl, sym, ap, drop, length, laid, character_of, text_of_cells}
+use Rattle.trac_c.proofs.Imports.{◌∙◌, refl, sym, ap, drop, length, laid, character_of, text_of_cells}
 use Rattle.trac_c.proofs.strings.lay_active.Goals as goal
 
 pub returns : goal.returns

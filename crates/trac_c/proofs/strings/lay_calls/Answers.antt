@@ -1,4 +1,4 @@
-use Rattle.trac_c.proofs.Words.{◌∙◌, arith, neutral_in}
+use Rattle.trac_c.proofs.Imports.{◌∙◌, arith, neutral_in}
 use Rattle.trac_c.proofs.Coding.{codes-size, neutral-length}
 use Rattle.trac_c.proofs.strings.lay_calls.Goals as goal
 

@@ -1,4 +1,4 @@
-use Rattle.trac_c.proofs.Words.{◌∙◌, arith, character_of}
+use Rattle.trac_c.proofs.Imports.{◌∙◌, arith, character_of}
 use Rattle.trac_c.proofs.Buffers.{laid-mapped, laid-enough}
 use Rattle.trac_c.proofs.strings.lay_characters.Goals as goal
 

@@ -1,5 +1,5 @@
 use Rattle.std.proofs.lemmas.List.{drop_all}
-use Rattle.trac_c.proofs.Words.{◌≡◌, ◌+◌, ◌∙◌, take, get_or, sym, ap, arith, length-drop, length-take-le, Byte, neutral_of, laid, codes_of_neutral, cell_code, has_call, is_open_after}
+use Rattle.trac_c.proofs.Imports.{◌≡◌, ◌+◌, ◌∙◌, take, get_or, sym, ap, arith, length-drop, length-take-le, Byte, neutral_of, laid, codes_of_neutral, cell_code, has_call, is_open_after}
 use Rattle.trac_c.proofs.Coding.{codes-count, codes-end, codes-laid, next-call}
 use Rattle.trac_c.proofs.strings.lay_marks.Goals as goal
 

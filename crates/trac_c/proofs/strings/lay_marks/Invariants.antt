@@ -1,4 +1,4 @@
-use Rattle.trac_c.proofs.Words.{◌≡◌, ◌+◌, ◌≤◌, drop, length, take, neutral_of, laid, codes_of_neutral, has_call}
+use Rattle.trac_c.proofs.Imports.{◌≡◌, ◌+◌, ◌≤◌, drop, length, take, neutral_of, laid, codes_of_neutral, has_call}
 use Rattle.trac_c.proofs.strings.lay_marks.Given as goal
 
 -- the codes of the cells from the first place up to another are put

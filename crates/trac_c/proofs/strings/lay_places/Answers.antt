@@ -1,4 +1,4 @@
-use Rattle.trac_c.proofs.Words.{◌≡◌, ◌+◌, ◌-◌, ◌<◌, ◌∙◌, length, take, sym, ap, arith, neutral_of, call_places, laid}
+use Rattle.trac_c.proofs.Imports.{◌≡◌, ◌+◌, ◌-◌, ◌<◌, ◌∙◌, length, take, sym, ap, arith, neutral_of, call_places, laid}
 use Rattle.trac_c.proofs.Coding.{places-passed, places-found, places-few, place-laid, places-all}
 use Rattle.trac_c.proofs.strings.lay_places.Goals as goal
 

@@ -1,4 +1,4 @@
-use Rattle.trac_c.proofs.Words.{◌≡◌, ◌+◌, ◌≤◌, drop, length, take, neutral_of, laid, call_places}
+use Rattle.trac_c.proofs.Imports.{◌≡◌, ◌+◌, ◌≤◌, drop, length, take, neutral_of, laid, call_places}
 use Rattle.trac_c.proofs.strings.lay_places.Given as goal
 
 -- the places of the marks behind a place are put

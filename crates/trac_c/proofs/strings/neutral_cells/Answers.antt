@@ -1,4 +1,4 @@
-use Rattle.trac_c.proofs.Words.{neutral_in}
+use Rattle.trac_c.proofs.Imports.{neutral_in}
 use Rattle.trac_c.proofs.Coding.{neutral-length}
 use Rattle.trac_c.proofs.strings.neutral_cells.Goals as goal
 

@@ -1,4 +1,4 @@
-use Rattle.trac_c.proofs.Words.{◌∙◌, sym, ap, length, arith, length-map, character_of, neutral_in}
+use Rattle.trac_c.proofs.Imports.{◌∙◌, sym, ap, length, arith, length-map, character_of, neutral_in}
 use Rattle.trac_c.proofs.Coding.{codes-size}
 use Rattle.trac_c.proofs.strings.store_cells.Goals as goal
 

@@ -1,4 +1,4 @@
-use Rattle.trac_c.proofs.Words.{◌≡◌, ◌+◌, ◌-◌, ◌∙◌, ap, subst, arith, stands, stream_in, moment, Went}
+use Rattle.trac_c.proofs.Imports.{◌≡◌, ◌+◌, ◌-◌, ◌∙◌, ap, subst, arith, stands, stream_in, moment, Went}
 use Rattle.std.proofs.lemmas.Grind.{common_steps}
 use Rattle.trac_c.specs.Turns.{TurnsTo, written_to}
 use Rattle.trac_c.proofs.Alone.{goes-on, goes-further, ends-on, ends-full, is-going}

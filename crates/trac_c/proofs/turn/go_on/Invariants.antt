@@ -1,4 +1,4 @@
-use Rattle.trac_c.proofs.Words.{◌≡◌, ◌-◌, ◌≤◌, None, Some, Fate, Goes, stands}
+use Rattle.trac_c.proofs.Imports.{◌≡◌, ◌-◌, ◌≤◌, None, Some, Fate, Goes, stands}
 use Rattle.trac_c.proofs.turn.go_on.Given as goal
 
 -- so many steps are done, the run is not over, and no device has failed; where the run was over

@@ -1,6 +1,6 @@
 use Rattle.std.specs.Prelude.{IsSome}
 use Rattle.trac_c.specs.declared.devices.RoomySink.{RoomySink}
-use Rattle.trac_c.proofs.Words.{Option, Fate, ◌≡◌, ◌≤◌, not, None, Some, [], length, refl, sym, ap, subst, ◌∙◌, arith, ending, moment, stream_in, awaited, next_function, next_printed, is_short, stands}
+use Rattle.trac_c.proofs.Imports.{Option, Fate, ◌≡◌, ◌≤◌, not, None, Some, [], length, refl, sym, ap, subst, ◌∙◌, arith, ending, moment, stream_in, awaited, next_function, next_printed, is_short, stands}
 use Rattle.std.proofs.lemmas.Bool.{and_left, and_right}
 use Rattle.std.proofs.lemmas.Grind.{common_steps}
 use Rattle.trac_language.specs.declared.fate.Fate.TheVariants.{InputFailed, OutputFailed}

@@ -1,4 +1,4 @@
-use Rattle.trac_c.proofs.Words.{rules, ap, refl, ◌∙◌, stream_in}
+use Rattle.trac_c.proofs.Imports.{rules, ap, refl, ◌∙◌, stream_in}
 use Rattle.trac_c.proofs.Again.{told-again}
 use Rattle.trac_c.proofs.Further.{tells}
 use Rattle.trac_c.proofs.TurnBytes.{told_turn, told_full}

@@ -1,4 +1,4 @@
-use Rattle.trac_core.proofs.Words.{refl, inl, arith, rules, drop, ap, ◌∙◌}
+use Rattle.trac_core.proofs.Imports.{refl, inl, arith, rules, drop, ap, ◌∙◌}
 use Rattle.trac_core.proofs.Performing.{texts-all, named-at, rest-alone, answers-nothing}
 use Rattle.std.proofs.lemmas.Grind.{common_steps}
 use Rattle.trac_core.proofs.call.answer.Goals as goal

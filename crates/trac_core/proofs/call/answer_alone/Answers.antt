@@ -1,4 +1,4 @@
-use Rattle.trac_core.proofs.Words.{◌≡◌, ◌++◌, Some, sym, ap, subst, arith, ◌∙◌, append-nil, PrintString, argument, arguments_at, calls_device, function_at, IsCall, AnswersCall, scene, Null}
+use Rattle.trac_core.proofs.Imports.{◌≡◌, ◌++◌, Some, sym, ap, subst, arith, ◌∙◌, append-nil, PrintString, argument, arguments_at, calls_device, function_at, IsCall, AnswersCall, scene, Null}
 use Rattle.std.proofs.lemmas.Grind.{common_steps}
 use Rattle.trac_core.proofs.Performing.{answers-nothing}
 use Rattle.trac_core.proofs.PrintCalls.{answers-print, null-text}

@@ -1,4 +1,4 @@
-use Rattle.trac_core.proofs.Words.{Some, [], subst, refl, argument, arguments_at, texts, IsCall}
+use Rattle.trac_core.proofs.Imports.{Some, [], subst, refl, argument, arguments_at, texts, IsCall}
 use Rattle.trac_core.proofs.Performing.{answers-made, plain-alone, stands-made, no-failure-made, only-full}
 use Rattle.trac_core.proofs.PrintCalls.{answers-halt}
 use Rattle.trac_core.proofs.call.made_alone.Goals as goal

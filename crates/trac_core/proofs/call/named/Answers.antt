@@ -1,4 +1,4 @@
-use Rattle.trac_core.proofs.Words.{refl, sym, arith, ◌∙◌, ap, drop}
+use Rattle.trac_core.proofs.Imports.{refl, sym, arith, ◌∙◌, ap, drop}
 use Rattle.trac_core.proofs.Performing.{texts-all, named-at}
 use Rattle.std.proofs.lemmas.Grind.{common_steps}
 use Rattle.trac_core.proofs.call.named.Goals as goal

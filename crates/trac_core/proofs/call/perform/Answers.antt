@@ -1,4 +1,4 @@
-use Rattle.trac_core.proofs.Words.{◌≢◌, None, ap, ◌∙◌, Contents, fate_after}
+use Rattle.trac_core.proofs.Imports.{◌≢◌, None, ap, ◌∙◌, Contents, fate_after}
 use Rattle.trac_core.proofs.Performing.{unsettled}
 use Rattle.trac_core.proofs.call.perform.Goals as goal
 

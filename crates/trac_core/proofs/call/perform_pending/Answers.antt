@@ -1,4 +1,4 @@
-use Rattle.trac_core.proofs.Words.{subst, AsksFor}
+use Rattle.trac_core.proofs.Imports.{subst, AsksFor}
 use Rattle.trac_core.proofs.Performing.{performs-closed, function-performs}
 use Rattle.trac_core.proofs.call.perform_pending.Goals as goal
 

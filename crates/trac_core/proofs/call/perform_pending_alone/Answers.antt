@@ -1,4 +1,4 @@
-use Rattle.trac_core.proofs.Words.{◌≢◌, refl, ap, sym, subst, ◌∙◌, Some, slice_get, text_of_cells, memory_of, AsksFor}
+use Rattle.trac_core.proofs.Imports.{◌≢◌, refl, ap, sym, subst, ◌∙◌, Some, slice_get, text_of_cells, memory_of, AsksFor}
 use Rattle.trac_core.proofs.Performing.{performs-closed}
 use Rattle.trac_core.proofs.Performed.{unperformed, performs-other, performs-innermost, needs-innermost}
 use Rattle.trac_core.proofs.StepsInRow.{tried-scanned}

@@ -1,4 +1,4 @@
-use Rattle.trac_core.proofs.Words.{false, take, drop, refl, sym, ◌∙◌, arith, take-take, text_of_cells, mode_at}
+use Rattle.trac_core.proofs.Imports.{false, take, drop, refl, sym, ◌∙◌, arith, take-take, text_of_cells, mode_at}
 use Rattle.trac_functions.proofs.ArgumentLemmas.{flat-bytes}
 use Rattle.trac_core.proofs.Performing.{delivered-active, delivered-neutral}
 use Rattle.trac_core.proofs.delivery.deliver.Goals as goal

@@ -1,4 +1,4 @@
-use Rattle.trac_core.proofs.Words.{◌≡◌, ◌+◌, ◌∙◌, length, take, ap, sym, arith, take-length, show}
+use Rattle.trac_core.proofs.Imports.{◌≡◌, ◌+◌, ◌∙◌, length, take, ap, sym, arith, take-length, show}
 use Rattle.trac_core.proofs.Printed.{length-show-more, length-display}
 use Rattle.trac_core.proofs.display.display_len.Goals as goal
 

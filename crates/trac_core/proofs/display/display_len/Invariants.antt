@@ -1,4 +1,4 @@
-use Rattle.trac_core.proofs.Words.{◌≡◌, ◌≤◌, ◌+◌, ◌*◌, length, take, show}
+use Rattle.trac_core.proofs.Imports.{◌≡◌, ◌≤◌, ◌+◌, ◌*◌, length, take, show}
 use Rattle.trac_core.proofs.display.display_len.Given as goal
 
 -- the bytes of the items up to a place were counted

@@ -1,4 +1,4 @@
-use Rattle.trac_core.proofs.Words.{sym, ap, ◌∙◌, subst, length, form_named, Contents, used, Null, arguments_at, texts, Stands, display}
+use Rattle.trac_core.proofs.Imports.{sym, ap, ◌∙◌, subst, length, form_named, Contents, used, Null, arguments_at, texts, Stands, display}
 use Rattle.trac_core.proofs.Performing.{stands-null}
 use Rattle.trac_core.proofs.PrintCalls.{argument-one}
 use Rattle.trac_core.proofs.FormDisplay.{answers-display, answers-display-broken}

@@ -1,4 +1,4 @@
-use Rattle.trac_core.proofs.Words.{◌∙◌, show_form}
+use Rattle.trac_core.proofs.Imports.{◌∙◌, show_form}
 use Rattle.trac_core.proofs.FormDisplay.{prints-nothing}
 use Rattle.trac_core.proofs.display.show_and_flush.Goals as goal
 

@@ -1,4 +1,4 @@
-use Rattle.trac_core.proofs.Words.{◌++◌, slice_range, length, refl, codes, show}
+use Rattle.trac_core.proofs.Imports.{◌++◌, slice_range, length, refl, codes, show}
 use Rattle.trac_devices.proofs.PutTexts.{prints-err}
 use Rattle.trac_core.proofs.FormDisplay.{breaks-off, breaks-then, prints-then, display-parts}
 use Rattle.trac_core.proofs.display.show_form.Goals as goal

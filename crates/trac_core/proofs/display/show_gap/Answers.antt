@@ -1,4 +1,4 @@
-use Rattle.trac_core.proofs.Words.{◌++◌, ap, ◌∙◌, codes, decimal}
+use Rattle.trac_core.proofs.Imports.{◌++◌, ap, ◌∙◌, codes, decimal}
 use Rattle.trac_devices.proofs.PutTexts.{prints-err}
 use Rattle.trac_core.proofs.FormDisplay.{breaks-off, prints-then}
 use Rattle.trac_core.proofs.display.show_gap.Goals as goal

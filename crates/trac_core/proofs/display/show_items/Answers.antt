@@ -1,4 +1,4 @@
-use Rattle.trac_core.proofs.Words.{◌∙◌, arith}
+use Rattle.trac_core.proofs.Imports.{◌∙◌, arith}
 use Rattle.trac_devices.proofs.PutTexts.{prints-err}
 use Rattle.trac_core.proofs.FormDisplay.{displays-more, displays-broken}
 use Rattle.trac_core.proofs.display.show_items.Goals as goal

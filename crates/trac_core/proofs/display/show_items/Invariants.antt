@@ -1,4 +1,4 @@
-use Rattle.trac_core.proofs.Words.{◌≡◌, ◌≤◌, ◌++◌, slice_range, show}
+use Rattle.trac_core.proofs.Imports.{◌≡◌, ◌≤◌, ◌++◌, slice_range, show}
 use Rattle.trac_core.proofs.display.show_items.Given as goal
 
 -- the items up to a place were displayed

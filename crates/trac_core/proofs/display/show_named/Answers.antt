@@ -1,4 +1,4 @@
-use Rattle.trac_core.proofs.Words.{◌++◌, sym, ap, ◌∙◌, subst, append-nil, Text, show_form, Contents, form_at, part_text, Prints, display}
+use Rattle.trac_core.proofs.Imports.{◌++◌, sym, ap, ◌∙◌, subst, append-nil, Text, show_form, Contents, form_at, part_text, Prints, display}
 use Rattle.trac_forms.proofs.DistinctForms.{form_named-at, form_named-none}
 use Rattle.trac_core.proofs.FormDisplay.{display-some, on_err}
 use Rattle.trac_core.proofs.display.show_named.Goals as goal

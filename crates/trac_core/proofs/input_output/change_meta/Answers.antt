@@ -1,4 +1,4 @@
-use Rattle.trac_core.proofs.Words.{ap, sym, ◌∙◌, slice_get, refl, arguments_at, texts}
+use Rattle.trac_core.proofs.Imports.{ap, sym, ◌∙◌, slice_get, refl, arguments_at, texts}
 use Rattle.trac_core.proofs.PrintCalls.{answers-meta, argument-one, some-same}
 use Rattle.trac_core.proofs.input_output.change_meta.Goals as goal
 

@@ -1,5 +1,5 @@
 use Rattle.std.proofs.lemmas.Grind.{common_steps}
-use Rattle.trac_core.proofs.Words.{arith, sym, ◌∙◌, arguments_at, texts}
+use Rattle.trac_core.proofs.Imports.{arith, sym, ◌∙◌, arguments_at, texts}
 use Rattle.trac_core.proofs.Performing.{stands-null}
 use Rattle.trac_core.proofs.PrintCalls.{answers-print, answers-print-broken, argument-one}
 use Rattle.trac_core.proofs.input_output.print_string.Goals as goal

@@ -1,4 +1,4 @@
-use Rattle.trac_core.proofs.Words.{◌∷◌, [], ap, arith, Stream}
+use Rattle.trac_core.proofs.Imports.{◌∷◌, [], ap, arith, Stream}
 use Rattle.trac_core.proofs.ReadCalls.{character-read, character-full, character-ended, character-failed, not-less}
 use Rattle.trac_core.proofs.input_output.read_character.Goals as goal
 

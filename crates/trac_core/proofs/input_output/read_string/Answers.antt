@@ -1,4 +1,4 @@
-use Rattle.trac_core.proofs.Words.{◌≡◌, ◌++◌, ◌∷◌, [], ◌<◌, length, arith, refl}
+use Rattle.trac_core.proofs.Imports.{◌≡◌, ◌++◌, ◌∷◌, [], ◌<◌, length, arith, refl}
 use Rattle.trac_core.proofs.ReadCalls.{read-to-meta, null-read, read-some, read-none, read-failed, read-full, reads-take, reads-stands, neutral-reads}
 use Rattle.trac_core.proofs.input_output.read_string.Goals as goal
 

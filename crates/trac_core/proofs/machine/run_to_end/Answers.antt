@@ -1,4 +1,4 @@
-use Rattle.trac_core.proofs.Words.{◌≡◌, ◌≤◌, ◌+◌, ◌-◌, Some, None, cells, AsksFor, refl, sym, ap, ◌∙◌, subst, arith, inl, length-drop, Contents, memory_of, scene, Tried, moment, input_failures, output_failures, running}
+use Rattle.trac_core.proofs.Imports.{◌≡◌, ◌≤◌, ◌+◌, ◌-◌, Some, None, cells, AsksFor, refl, sym, ap, ◌∙◌, subst, arith, inl, length-drop, Contents, memory_of, scene, Tried, moment, input_failures, output_failures, running}
 use Rattle.trac_core.specs.StepsInRow.{idling_begun}
 use Rattle.trac_core.proofs.Moments.{OnCourse, course-none}
 use Rattle.trac_core.proofs.RunningOn.{with_left, need-fits, need-counted, course-run, course-step, course-idling, ends-step, leaves-step, ends-allowance, leaves-allowance}

@@ -1,4 +1,4 @@
-use Rattle.trac_core.proofs.Words.{◌≡◌, ◌≤◌, ◌-◌, ◌⊎◌, Sent, IsSound, used, moment, IsPlainFrom, running}
+use Rattle.trac_core.proofs.Imports.{◌≡◌, ◌≤◌, ◌-◌, ◌⊎◌, Sent, IsSound, used, moment, IsPlainFrom, running}
 use Rattle.trac_core.proofs.Moments.{OnCourse}
 use Rattle.trac_core.proofs.machine.run_to_end.Given as goal
 

@@ -1,4 +1,4 @@
-use Rattle.trac_core.proofs.Words.{◌≡◌, ◌≢◌, Some, slice_get, text_of_cells}
+use Rattle.trac_core.proofs.Imports.{◌≡◌, ◌≢◌, Some, slice_get, text_of_cells}
 use Rattle.trac_core.proofs.RuleRows.{opens-active, opens-neutral}
 use Rattle.trac_core.proofs.Scanning.{sign-rule}
 use Rattle.trac_core.proofs.rules.number_sign_rule.Goals as goal

@@ -1,4 +1,4 @@
-use Rattle.trac_core.proofs.Words.{text_of_cells}
+use Rattle.trac_core.proofs.Imports.{text_of_cells}
 use Rattle.trac_core.proofs.RuleRows.{begins-first}
 use Rattle.trac_core.proofs.rules.rule_at.Goals as goal
 

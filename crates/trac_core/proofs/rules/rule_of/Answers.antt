@@ -1,5 +1,5 @@
 use Rattle.std.specs.Option.{option_copied}
-use Rattle.trac_core.proofs.Words.{◌∙◌, ap, sym, text_of_cells}
+use Rattle.trac_core.proofs.Imports.{◌∙◌, ap, sym, text_of_cells}
 use Rattle.trac_core.proofs.RuleRows.{begins-nothing, row-begins}
 use Rattle.trac_core.proofs.rules.rule_of.Goals as goal
 

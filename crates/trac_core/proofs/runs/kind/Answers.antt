@@ -1,4 +1,4 @@
-use Rattle.trac_core.proofs.Words.{◌≡◌, ◌∙◌, arith, subst, sym, ◌≤◌, get_or-map-range_with_len, character_of, kind_of}
+use Rattle.trac_core.proofs.Imports.{◌≡◌, ◌∙◌, arith, subst, sym, ◌≤◌, get_or-map-range_with_len, character_of, kind_of}
 use Rattle.trac_core.proofs.OrdinaryBlocks.{kind-small}
 use Rattle.trac_core.proofs.runs.kind.Goals as goal
 

@@ -1,4 +1,4 @@
-use Rattle.trac_core.proofs.Words.{sym, ◌∙◌, IsLayout}
+use Rattle.trac_core.proofs.Imports.{sym, ◌∙◌, IsLayout}
 use Rattle.trac_core.proofs.OrdinaryBlocks.{one-more}
 use Rattle.trac_core.proofs.runs.layout_characters.Goals as goal
 

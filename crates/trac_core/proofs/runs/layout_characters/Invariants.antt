@@ -1,4 +1,4 @@
-use Rattle.trac_core.proofs.Words.{take, All, text_of_cells, IsLayout}
+use Rattle.trac_core.proofs.Imports.{take, All, text_of_cells, IsLayout}
 use Rattle.trac_core.proofs.runs.layout_characters.Given as goal
 
 -- the characters so far are layout

@@ -1,4 +1,4 @@
-use Rattle.trac_core.proofs.Words.{◌≡◌, ℕ, List, ◌+◌, ◌-◌, ◌/◌, ◌%◌, ◌<◌, ◌≤◌, Option, Some, None, MatchOption, length, take, drop, arith, length-map, Cell, text_of_cells, character_of, protected, IsAt}
+use Rattle.trac_core.proofs.Imports.{◌≡◌, ℕ, List, ◌+◌, ◌-◌, ◌/◌, ◌%◌, ◌<◌, ◌≤◌, Option, Some, None, MatchOption, length, take, drop, arith, length-map, Cell, text_of_cells, character_of, protected, IsAt}
 use Rattle.trac_core.proofs.Matching.{passes-block, passes-few, unmatched}
 use Rattle.trac_core.proofs.runs.matching.Goals as goal
 use Rattle.trac_core.proofs.runs.matching.Goals.{then-found-gt0, then-rights-depth+in_default, else-rights-depth, else-found-gt0}

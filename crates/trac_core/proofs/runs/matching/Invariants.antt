@@ -1,4 +1,4 @@
-use Rattle.trac_core.proofs.Words.{◌-◌, ◌≤◌, length, text_of_cells, IsAt}
+use Rattle.trac_core.proofs.Imports.{◌-◌, ◌≤◌, length, text_of_cells, IsAt}
 use Rattle.trac_core.proofs.runs.matching.Given as goal
 
 -- no match stands among the cells so far, and so many left parentheses are open

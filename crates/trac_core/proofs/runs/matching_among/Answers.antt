@@ -1,4 +1,4 @@
-use Rattle.trac_core.proofs.Words.{◌≡◌, ◌+◌, ◌<◌, length, arith, text_of_cells}
+use Rattle.trac_core.proofs.Imports.{◌≡◌, ◌+◌, ◌<◌, length, arith, text_of_cells}
 use Rattle.trac_core.proofs.Scanning.{read-text}
 use Rattle.trac_core.proofs.Matching.{matched, passes-left, passes-right, passes-other}
 use Rattle.trac_core.proofs.runs.matching_among.Goals as goal

@@ -1,4 +1,4 @@
-use Rattle.trac_core.proofs.Words.{◌+◌, ◌-◌, ◌≤◌, text_of_cells, IsAt}
+use Rattle.trac_core.proofs.Imports.{◌+◌, ◌-◌, ◌≤◌, text_of_cells, IsAt}
 use Rattle.trac_core.proofs.runs.matching_among.Given as goal
 
 -- no match stands among the cells so far, and so many left parentheses are open

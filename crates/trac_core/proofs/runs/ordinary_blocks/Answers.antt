@@ -1,4 +1,4 @@
-use Rattle.trac_core.proofs.Words.{arith}
+use Rattle.trac_core.proofs.Imports.{arith}
 use Rattle.trac_core.proofs.OrdinaryBlocks.{ordinary-eight, ordinary-sixteen}
 use Rattle.trac_core.proofs.runs.ordinary_blocks.Goals as goal
 

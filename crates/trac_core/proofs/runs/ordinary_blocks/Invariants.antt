@@ -1,4 +1,4 @@
-use Rattle.trac_core.proofs.Words.{◌+◌, ◌-◌, ◌≤◌, length, take, All, text_of_cells, IsOrdinary}
+use Rattle.trac_core.proofs.Imports.{◌+◌, ◌-◌, ◌≤◌, length, take, All, text_of_cells, IsOrdinary}
 use Rattle.trac_core.proofs.runs.ordinary_blocks.Given as goal
 
 -- the characters so far have no rule of their own

@@ -1,4 +1,4 @@
-use Rattle.trac_core.proofs.Words.{◌≡◌, ◌∙◌, arith, subst, sym, ◌≤◌, get_or-map-range_with_len, character_of, side_of}
+use Rattle.trac_core.proofs.Imports.{◌≡◌, ◌∙◌, arith, subst, sym, ◌≤◌, get_or-map-range_with_len, character_of, side_of}
 use Rattle.trac_core.proofs.Matching.{side-small}
 use Rattle.trac_core.proofs.runs.side.Goals as goal
 

@@ -1,4 +1,4 @@
-use Rattle.trac_core.proofs.Words.{◌≡◌, take, All, sym, ◌∙◌, subst, arith, text_of_cells, IsOrdinary}
+use Rattle.trac_core.proofs.Imports.{◌≡◌, take, All, sym, ◌∙◌, subst, arith, text_of_cells, IsOrdinary}
 use Rattle.trac_core.proofs.OrdinaryBlocks.{one-more}
 use Rattle.trac_core.proofs.runs.special_before.Goals as goal
 

@@ -1,4 +1,4 @@
-use Rattle.trac_core.proofs.Words.{◌+◌, ◌-◌, ◌≤◌, take, All, text_of_cells, IsOrdinary}
+use Rattle.trac_core.proofs.Imports.{◌+◌, ◌-◌, ◌≤◌, take, All, text_of_cells, IsOrdinary}
 use Rattle.trac_core.proofs.runs.special_before.Given as goal
 
 -- the characters so far have no rule of their own

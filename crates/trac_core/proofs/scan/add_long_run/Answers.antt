@@ -1,4 +1,4 @@
-use Rattle.trac_core.proofs.Words.{◌+◌, take, arith, All-take, length-drop, text_of_cells, IsByte, IsOrdinary}
+use Rattle.trac_core.proofs.Imports.{◌+◌, take, arith, All-take, length-drop, text_of_cells, IsByte, IsOrdinary}
 use Rattle.trac_core.proofs.PlainEnds.{bytes-plain, plain-appended}
 use Rattle.trac_core.proofs.Scanning.{some-active}
 use Rattle.trac_core.proofs.StepsInRow.{characters-pass, All-after}

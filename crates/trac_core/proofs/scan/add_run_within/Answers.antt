@@ -1,4 +1,4 @@
-use Rattle.trac_core.proofs.Words.{◌≡◌, ◌≤◌, ◌<◌, ◌+◌, ◌++◌, length, take, drop, map, sym, ap, ◌∙◌, subst, arith, range_with_len, NoComma, turned, IsPlainFrom, kind_of}
+use Rattle.trac_core.proofs.Imports.{◌≡◌, ◌≤◌, ◌<◌, ◌+◌, ◌++◌, length, take, drop, map, sym, ap, ◌∙◌, subst, arith, range_with_len, NoComma, turned, IsPlainFrom, kind_of}
 use Rattle.trac_core.proofs.ArgumentRuns.{run-passes, run-some, plain-turned}
 use Rattle.trac_core.proofs.PlainEnds.{plain-appended}
 use Rattle.trac_core.proofs.Scanning.{some-active}

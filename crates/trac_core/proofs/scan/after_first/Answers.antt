@@ -1,4 +1,4 @@
-use Rattle.trac_core.proofs.Words.{◌≡◌, ◌-◌, length, take, drop, All, sym, ap, ◌∙◌, subst, arith, length-take, length-drop, length-map, All-take, All-drop, IsByte, text_of_cells, character_of}
+use Rattle.trac_core.proofs.Imports.{◌≡◌, ◌-◌, length, take, drop, All, sym, ap, ◌∙◌, subst, arith, length-take, length-drop, length-map, All-take, All-drop, IsByte, text_of_cells, character_of}
 use Rattle.trac_functions.proofs.ArgumentLemmas.{text_of_cells-seen, bytes-seen}
 use Rattle.trac_core.proofs.Scanning.{take-text, drop-text}
 use Rattle.trac_core.proofs.scan.after_first.Goals as goal

@@ -1,4 +1,4 @@
-use Rattle.trac_core.proofs.Words.{◌≡◌, false, true, [], ◌∷◌, ◌++◌, length-append, arith, drop, is_some, length-drop, Comma}
+use Rattle.trac_core.proofs.Imports.{◌≡◌, false, true, [], ◌∷◌, ◌++◌, length-append, arith, drop, is_some, length-drop, Comma}
 use Rattle.trac_core.proofs.Scanning.{scans-comma, scans-comma-none, last-some, last-none, some-active}
 use Rattle.trac_core.proofs.StepsInRow.{one-step, some-run}
 use Rattle.trac_core.proofs.scan.begin_argument.Goals as goal

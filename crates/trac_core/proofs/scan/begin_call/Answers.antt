@@ -1,4 +1,4 @@
-use Rattle.trac_core.proofs.Words.{◌≡◌, ℕ, ◌<◌, ◌≤◌, ◌++◌, ◌∷◌, [], length, drop, arith, length-append, length-drop, length-map, Call, Mode, Contents, IsLastCall, Scans, character_of, text_of_cells, used}
+use Rattle.trac_core.proofs.Imports.{◌≡◌, ℕ, ◌<◌, ◌≤◌, ◌++◌, ◌∷◌, [], length, drop, arith, length-append, length-drop, length-map, Call, Mode, Contents, IsLastCall, Scans, character_of, text_of_cells, used}
 use Rattle.trac_core.specs.Rules.{Opens}
 use Rattle.trac_core.specs.StepsInRow.{KeepsPlain}
 use Rattle.trac_core.proofs.PlainEnds.{last-opened, mark-plain, plain-appended}

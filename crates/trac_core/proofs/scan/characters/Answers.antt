@@ -1,4 +1,4 @@
-use Rattle.trac_core.proofs.Words.{◌∙◌, All, sym, ap, subst, slice_range, IsByte, text_of_cells, arith}
+use Rattle.trac_core.proofs.Imports.{◌∙◌, All, sym, ap, subst, slice_range, IsByte, text_of_cells, arith}
 use Rattle.trac_functions.proofs.ArgumentLemmas.{bytes-seen, length-seen, text_of_cells-seen}
 use Rattle.trac_core.proofs.RuleRows.{whole-range}
 use Rattle.trac_core.proofs.scan.characters.Goals as goal

@@ -1,4 +1,4 @@
-use Rattle.trac_core.proofs.Words.{◌+◌, arith, length-drop, text_of_cells, IsLayout}
+use Rattle.trac_core.proofs.Imports.{◌+◌, arith, length-drop, text_of_cells, IsLayout}
 use Rattle.trac_core.proofs.Scanning.{some-active}
 use Rattle.trac_core.proofs.StepsInRow.{layouts-pass, All-after}
 use Rattle.trac_core.proofs.scan.delete_layout.Goals as goal

@@ -1,4 +1,4 @@
-use Rattle.trac_core.proofs.Words.{arith, length-drop}
+use Rattle.trac_core.proofs.Imports.{arith, length-drop}
 use Rattle.trac_core.proofs.Scanning.{scans-parenthesis, some-active}
 use Rattle.trac_core.proofs.StepsInRow.{one-step}
 use Rattle.trac_core.proofs.scan.end_call.Goals as goal

@@ -1,4 +1,4 @@
-use Rattle.trac_core.proofs.Words.{◌≡◌, ◌+◌, ⊎_elim, ap, ◌∙◌, arith, cases_lt, cells, need, used, memory_of, state_with}
+use Rattle.trac_core.proofs.Imports.{◌≡◌, ◌+◌, ⊎_elim, ap, ◌∙◌, arith, cases_lt, cells, need, used, memory_of, state_with}
 use Rattle.trac_core.specs.StepsInRow.{idling_loaded}
 use Rattle.trac_core.proofs.Scanning.{scans-idling, idling-need}
 use Rattle.trac_core.proofs.scan.load_idling.Goals as goal

@@ -1,4 +1,4 @@
-use Rattle.trac_core.proofs.Words.{subst}
+use Rattle.trac_core.proofs.Imports.{subst}
 use Rattle.trac_core.specs.Rules.{Begins}
 use Rattle.trac_core.proofs.scan.next_rule.Goals as goal
 

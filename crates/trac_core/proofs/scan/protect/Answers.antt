@@ -1,4 +1,4 @@
-use Rattle.trac_core.proofs.Words.{◌≡◌, ◌+◌, ◌++◌, take, drop, All, ◌-◌, Some, None, sym, ap, ◌∙◌, subst, All-take, All-drop, protected, IsByte, Contents}
+use Rattle.trac_core.proofs.Imports.{◌≡◌, ◌+◌, ◌++◌, take, drop, All, ◌-◌, Some, None, sym, ap, ◌∙◌, subst, All-take, All-drop, protected, IsByte, Contents}
 use Rattle.trac_functions.proofs.ArgumentLemmas.{bytes-seen}
 use Rattle.trac_core.proofs.PlainEnds.{bytes-plain, plain-appended}
 use Rattle.trac_core.proofs.Scanning.{scans-protected, scans-unmatched, text-after}

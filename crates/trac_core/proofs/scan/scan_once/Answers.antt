@@ -1,4 +1,4 @@
-use Rattle.trac_core.proofs.Words.{◌≡◌, arith, subst, memory_of, PassesTimes}
+use Rattle.trac_core.proofs.Imports.{◌≡◌, arith, subst, memory_of, PassesTimes}
 use Rattle.trac_core.proofs.scan.scan_once.Goals as goal
 
 pub returns-in-Ok-clause-comes : goal.returns-in-Ok-clause-comes

@@ -1,4 +1,4 @@
-use Rattle.trac_core.proofs.Words.{◌≡◌, ◌++◌, take}
+use Rattle.trac_core.proofs.Imports.{◌≡◌, ◌++◌, take}
 use Rattle.trac_core.proofs.text_io.print_bytes.Given as goal
 
 -- the bytes so far were written

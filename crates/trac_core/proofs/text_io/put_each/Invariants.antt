@@ -1,4 +1,4 @@
-use Rattle.trac_core.proofs.Words.{◌≡◌, ◌++◌, take}
+use Rattle.trac_core.proofs.Imports.{◌≡◌, ◌++◌, take}
 use Rattle.trac_core.proofs.text_io.put_each.Given as goal
 
 -- the characters so far were written

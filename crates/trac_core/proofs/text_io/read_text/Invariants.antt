@@ -1,4 +1,4 @@
-use Rattle.trac_core.proofs.Words.{◌≡◌, ◌-◌, List, ℕ, used, IsSound, Streams, Reads}
+use Rattle.trac_core.proofs.Imports.{◌≡◌, ◌-◌, List, ℕ, used, IsSound, Streams, Reads}
 use Rattle.trac_core.proofs.text_io.read_text.Given as goal
 
 -- a text was read so far, and no failure came

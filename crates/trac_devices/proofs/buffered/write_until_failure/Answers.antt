@@ -1,4 +1,4 @@
-use Rattle.trac_devices.proofs.Words.{◌-◌, ◌++◌, length, take, drop, sym, ap, subst, ◌∙◌, arith, length-take, take-add, take-take, Appends, Appends-trans}
+use Rattle.trac_devices.proofs.Imports.{◌-◌, ◌++◌, length, take, drop, sym, ap, subst, ◌∙◌, arith, length-take, take-add, take-take, Appends, Appends-trans}
 use Rattle.trac_devices.proofs.buffered.write_until_failure.Goals as goal
 
 pub loop-written-preserved : goal.loop-written-preserved

@@ -1,5 +1,5 @@
 -- `write_out` ends, since each turn writes some bytes, and what is written is in the writer.
-use Rattle.trac_devices.proofs.Words.{◌≡◌, ◌-◌, ◌≤◌, length, take, Appends}
+use Rattle.trac_devices.proofs.Imports.{◌≡◌, ◌-◌, ◌≤◌, length, take, Appends}
 use Rattle.trac_devices.proofs.buffered.write_until_failure.Given as goal
 
 abbrev pub invariant-loop-written : goal.invariant-loop-written

@@ -1,4 +1,4 @@
-use Rattle.trac_devices.proofs.Words.{Byte}
+use Rattle.trac_devices.proofs.Imports.{Byte}
 use Rattle.trac_devices.proofs.characters.write_byte.Goals as goal
 
 pub byte_in-requires : goal.byte_in-requires

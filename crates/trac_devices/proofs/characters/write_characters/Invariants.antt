@@ -1,4 +1,4 @@
-use Rattle.trac_devices.proofs.Words.{◌≤◌, ◌-◌, ◌+◌, length, AreWritten}
+use Rattle.trac_devices.proofs.Imports.{◌≤◌, ◌-◌, ◌+◌, length, AreWritten}
 use Rattle.trac_devices.proofs.characters.write_characters.Given as goal
 
 -- the characters so far are written

@@ -1,4 +1,4 @@
-use Rattle.trac_devices.proofs.Words.{Keeps}
+use Rattle.trac_devices.proofs.Imports.{Keeps}
 use Rattle.trac_devices.proofs.retrying.flush_again.Given as goal
 
 -- an interrupted flush appended nothing

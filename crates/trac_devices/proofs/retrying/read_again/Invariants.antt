@@ -1,4 +1,4 @@
-use Rattle.trac_devices.proofs.Words.{◌≡◌, length, Keeps}
+use Rattle.trac_devices.proofs.Imports.{◌≡◌, length, Keeps}
 use Rattle.trac_devices.proofs.retrying.read_again.Given as goal
 
 -- the buffer keeps its length, and an interrupted read consumed nothing

@@ -1,4 +1,4 @@
-use Rattle.trac_devices.proofs.Words.{Keeps}
+use Rattle.trac_devices.proofs.Imports.{Keeps}
 use Rattle.trac_devices.proofs.retrying.write_again.Given as goal
 
 -- an interrupted write appended nothing

@@ -1,4 +1,4 @@
-use Rattle.trac_events.proofs.Words.{◌∙◌, ◌-◌, ◌+◌, ap, argument_of}
+use Rattle.trac_events.proofs.Imports.{◌∙◌, ◌-◌, ◌+◌, ap, argument_of}
 use Rattle.trac_events.proofs.NextArgument.{next_argument}
 use Rattle.trac_events.proofs.call.argument.Goals as goal
 

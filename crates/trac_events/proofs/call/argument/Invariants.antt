@@ -1,4 +1,4 @@
-use Rattle.trac_events.proofs.Words.{◌≡◌, ◌-◌, argument_of}
+use Rattle.trac_events.proofs.Imports.{◌≡◌, ◌-◌, argument_of}
 use Rattle.trac_events.proofs.call.argument.Given as goal
 
 -- the argument wanted is that many commas on

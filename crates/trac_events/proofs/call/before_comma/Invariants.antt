@@ -1,4 +1,4 @@
-use Rattle.trac_events.proofs.Words.{◌≡◌, ◌+◌, drop, position_or_len, is_comma}
+use Rattle.trac_events.proofs.Imports.{◌≡◌, ◌+◌, drop, position_or_len, is_comma}
 use Rattle.trac_events.proofs.call.before_comma.Given as goal
 
 -- no comma mark stands among the cells so far

@@ -1,4 +1,4 @@
-use Rattle.trac_events.proofs.Words.{◌≡◌, drop, list_all, is_byte_cell}
+use Rattle.trac_events.proofs.Imports.{◌≡◌, drop, list_all, is_byte_cell}
 use Rattle.trac_events.proofs.change.are_characters.Given as goal
 
 -- no other cell stands among those so far

@@ -1,4 +1,4 @@
-use Rattle.trac_events.proofs.Words.{◌≡◌, drop, text_of_cells, is_same}
+use Rattle.trac_events.proofs.Imports.{◌≡◌, drop, text_of_cells, is_same}
 use Rattle.trac_events.proofs.change.is_same.Given as goal
 
 -- what is left of both is the same where they are

@@ -1,4 +1,4 @@
-use Rattle.trac_forms.proofs.Words.{◌≡◌, ℕ, ◌+◌, ◌-◌, List, ◌∷◌, ◌++◌, length, take, drop, set, slice_range, ap, arith, rules, places, same_lists, length-between, Cell, Head, reads}
+use Rattle.trac_forms.proofs.Imports.{◌≡◌, ℕ, ◌+◌, ◌-◌, List, ◌∷◌, ◌++◌, length, take, drop, set, slice_range, ap, arith, rules, places, same_lists, length-between, Cell, Head, reads}
 use Rattle.trac_store.proofs.FlatLemmas.{flat_form_of}
 use Rattle.trac_forms.proofs.form_writing.write_form.Goals as goal
 

@@ -1,4 +1,4 @@
-use Rattle.trac_forms.proofs.Words.{length, ap, arith, forms_in}
+use Rattle.trac_forms.proofs.Imports.{length, ap, arith, forms_in}
 use Rattle.trac_store.proofs.FlatLemmas.{count-le}
 use Rattle.trac_forms.proofs.index.index_fitting.Goals as goal
 

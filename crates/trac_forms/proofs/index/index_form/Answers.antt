@@ -1,4 +1,4 @@
-use Rattle.trac_forms.proofs.Words.{◌≡◌, ◌+◌, ◌/◌, ◌<◌, length, take, slice_range, sym, ap, ◌∙◌, subst, arith, All, Lists, text_of_cells, IsByte, form_at, forms_in, hash, IsIndex, IsOpenFor}
+use Rattle.trac_forms.proofs.Imports.{◌≡◌, ◌+◌, ◌/◌, ◌<◌, length, take, slice_range, sym, ap, ◌∙◌, subst, arith, All, Lists, text_of_cells, IsByte, form_at, forms_in, hash, IsIndex, IsOpenFor}
 use Rattle.trac_store.proofs.Finding.{bytes-of-seen, bytes-flat}
 use Rattle.trac_store.proofs.Gaps.{bytes-seen}
 use Rattle.trac_store.proofs.FlatLemmas.{character_of-Byte}

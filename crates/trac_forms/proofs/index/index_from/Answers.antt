@@ -1,4 +1,4 @@
-use Rattle.trac_forms.proofs.Words.{◌≡◌, ◌+◌, take, ap, ◌∙◌, subst, Lists, forms_in, start_of, IsIndexed}
+use Rattle.trac_forms.proofs.Imports.{◌≡◌, ◌+◌, take, ap, ◌∙◌, subst, Lists, forms_in, start_of, IsIndexed}
 use Rattle.trac_forms.proofs.index.index_from.Goals as goal
 use Rattle.trac_forms.proofs.index.index_from.Goals.{After-index_form}
 

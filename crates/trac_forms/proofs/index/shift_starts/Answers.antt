@@ -1,4 +1,4 @@
-use Rattle.trac_forms.proofs.Words.{◌≡◌, ◌+◌, ◌-◌, ◌<◌, length, sym, ap, ◌∙◌, subst, refl, arith, length-set, Head, Lists, IsIndexBut, start_place, start_in, earlier, started}
+use Rattle.trac_forms.proofs.Imports.{◌≡◌, ◌+◌, ◌-◌, ◌<◌, length, sym, ap, ◌∙◌, subst, refl, arith, length-set, Head, Lists, IsIndexBut, start_place, start_in, earlier, started}
 use Rattle.trac_forms.proofs.FormTables.{index-started, start-there, index-earlier, index-unmoved}
 use Rattle.trac_forms.proofs.index.shift_starts.Goals as goal
 

@@ -1,4 +1,4 @@
-use Rattle.trac_forms.proofs.Words.{◌≡◌, ℕ, length, Text, IsIndexBut, started}
+use Rattle.trac_forms.proofs.Imports.{◌≡◌, ℕ, length, Text, IsIndexBut, started}
 use Rattle.trac_forms.proofs.index.shift_starts.Given as goal
 
 -- the forms so far begin earlier

@@ -1,4 +1,4 @@
-use Rattle.trac_forms.proofs.Words.{◌≡◌, ◌+◌, ◌-◌, ◌<◌, length, sym, ap, ◌∙◌, subst, arith, Lists, name_at, forms_in, start_of, IsIndexBut, buried, forward, start_in, home_in, slots}
+use Rattle.trac_forms.proofs.Imports.{◌≡◌, ◌+◌, ◌-◌, ◌<◌, length, sym, ap, ◌∙◌, subst, arith, Lists, name_at, forms_in, start_of, IsIndexBut, buried, forward, start_in, home_in, slots}
 use Rattle.trac_store.proofs.Places.{stands}
 use Rattle.trac_forms.proofs.FormTables.{names_now, starts_now, home-within, index-buried, index-gap, next-home, next-start, index-forward, index-removed}
 use Rattle.trac_forms.proofs.index.unindex.Goals as goal

@@ -1,4 +1,4 @@
-use Rattle.trac_forms.proofs.Words.{◌≡◌, ◌-◌, length, forms_in, IsIndexBut}
+use Rattle.trac_forms.proofs.Imports.{◌≡◌, ◌-◌, length, forms_in, IsIndexBut}
 use Rattle.trac_forms.proofs.FormTables.{names_now, starts_now}
 use Rattle.trac_forms.proofs.index.unindex.Given as goal
 

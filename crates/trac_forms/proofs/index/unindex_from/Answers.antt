@@ -1,4 +1,4 @@
-use Rattle.trac_forms.proofs.Words.{◌≡◌, ◌+◌, ◌-◌, length, take, sym, ap, ◌∙◌, subst, arith, length-set, Comma, Lists, forms_in, IsIndex, buried, home_in}
+use Rattle.trac_forms.proofs.Imports.{◌≡◌, ◌+◌, ◌-◌, length, take, sym, ap, ◌∙◌, subst, arith, length-set, Comma, Lists, forms_in, IsIndex, buried, home_in}
 use Rattle.trac_forms.proofs.FormTables.{index-cut}
 use Rattle.trac_forms.proofs.index.unindex_from.Goals as goal
 

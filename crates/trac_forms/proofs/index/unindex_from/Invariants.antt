@@ -1,4 +1,4 @@
-use Rattle.trac_forms.proofs.Words.{◌≡◌, ◌<◌, length, take, ◌≤◌, forms_in, IsIndexed}
+use Rattle.trac_forms.proofs.Imports.{◌≡◌, ◌<◌, length, take, ◌≤◌, forms_in, IsIndexed}
 use Rattle.trac_forms.proofs.index.unindex_from.Given as goal
 
 -- the forms before are in the table

@@ -1,4 +1,4 @@
-use Rattle.trac_forms.proofs.Words.{◌≡◌, ◌+◌, slice_range, sym, ap, ◌∙◌, subst, arith, Lists, before_comma, texts_between, AreParted, IsTextPart, part_texts, flat_forms, with_marks, forms_in}
+use Rattle.trac_forms.proofs.Imports.{◌≡◌, ◌+◌, slice_range, sym, ap, ◌∙◌, subst, arith, Lists, before_comma, texts_between, AreParted, IsTextPart, part_texts, flat_forms, with_marks, forms_in}
 use Rattle.trac_store.proofs.ArgumentParts.{found-comma, parts-none, shown-fits}
 use Rattle.trac_forms.proofs.Removals.{marks-none, first-part, left-parted, marked-first, marked-alone}
 use Rattle.trac_forms.proofs.marked_forms.mark_all.Goals as goal

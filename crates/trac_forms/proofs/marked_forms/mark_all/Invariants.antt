@@ -1,4 +1,4 @@
-use Rattle.trac_forms.proofs.Words.{◌≡◌, ◌+◌, ◌-◌, AreParted, texts_between, AreMarking, with_marks, forms_in}
+use Rattle.trac_forms.proofs.Imports.{◌≡◌, ◌+◌, ◌-◌, AreParted, texts_between, AreMarking, with_marks, forms_in}
 use Rattle.trac_forms.proofs.marked_forms.mark_all.Given as goal
 
 -- the forms with the marks so far, those of the names that are left marked too, are the forms with all marks

@@ -1,4 +1,4 @@
-use Rattle.trac_forms.proofs.Words.{sym, ap, ◌∙◌, arith, subst, part_text, flat_forms, IsMarkedFrom, forms_in}
+use Rattle.trac_forms.proofs.Imports.{sym, ap, ◌∙◌, arith, subst, part_text, flat_forms, IsMarkedFrom, forms_in}
 use Rattle.trac_store.proofs.Places.{stands}
 use Rattle.trac_forms.proofs.Removals.{mark-none, marked-lists, marked-read, marked-from}
 use Rattle.trac_forms.proofs.marked_forms.mark_named.Goals as goal

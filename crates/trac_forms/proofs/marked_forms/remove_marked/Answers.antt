@@ -1,4 +1,4 @@
-use Rattle.trac_forms.proofs.Words.{Part, ◌≡◌, ◌+◌, ◌<◌, ◌≤◌, length, true, false, sym, ap, ◌∙◌, arith, ◌==◌, form_at, is_marked, mark, forms_in}
+use Rattle.trac_forms.proofs.Imports.{Part, ◌≡◌, ◌+◌, ◌<◌, ◌≤◌, length, true, false, sym, ap, ◌∙◌, arith, ◌==◌, form_at, is_marked, mark, forms_in}
 use Rattle.trac_forms.proofs.Sweeping.{swept-name, swept-body, swept-pointer, swept-end, swept-more, swept-gone, swept-first}
 use Rattle.trac_forms.proofs.marked_forms.remove_marked.Goals.{then-form, else-form}
 use Rattle.trac_forms.proofs.marked_forms.remove_marked.Goals as goal

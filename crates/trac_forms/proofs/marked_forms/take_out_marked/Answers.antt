@@ -1,4 +1,4 @@
-use Rattle.trac_forms.proofs.Words.{◌≡◌, length, take, sym, ap, ◌∙◌, subst, arith, Lists, IsIndexed, unmarked, forms_in, IsPlace}
+use Rattle.trac_forms.proofs.Imports.{◌≡◌, length, take, sym, ap, ◌∙◌, subst, arith, Lists, IsIndexed, unmarked, forms_in, IsPlace}
 use Rattle.trac_forms.proofs.Removals.{unmarked-read, unmarked-forms}
 use Rattle.trac_forms.proofs.Sweeping.{first-stay, place-stays}
 use Rattle.trac_forms.proofs.marked_forms.take_out_marked.Goals as goal

@@ -1,4 +1,4 @@
-use Rattle.trac_functions.proofs.Words.{sym, ap, ◌∙◌, subst, All, text_of_cells, IsByte}
+use Rattle.trac_functions.proofs.Imports.{sym, ap, ◌∙◌, subst, All, text_of_cells, IsByte}
 use Rattle.trac_functions.proofs.ArgumentLemmas.{text_of_cells-seen, bytes-seen, within-room}
 use Rattle.trac_functions.proofs.arguments.text.Goals as goal
 

@@ -1,4 +1,4 @@
-use Rattle.trac_functions.proofs.Words.{◌≡◌, ◌∷◌, ◌+◌, ◌++◌, false, true, Some, None, sym, ap, ◌∙◌, refl, arith, signed_decimal, Arithmetic, number, prefix, if_in_range, argument, result_or, forced, valued, meaning_of, number_in, part_text, world, texts}
+use Rattle.trac_functions.proofs.Imports.{◌≡◌, ◌∷◌, ◌+◌, ◌++◌, false, true, Some, None, sym, ap, ◌∙◌, refl, arith, signed_decimal, Arithmetic, number, prefix, if_in_range, argument, result_or, forced, valued, meaning_of, number_in, part_text, world, texts}
 use Rattle.trac_language.specs.Number.{arith as result_of_arith}
 use Rattle.trac_functions.proofs.MadeValues.{valued-of}
 use Rattle.trac_functions.proofs.Ranges.{arith-passed, ranged}

@@ -5,7 +5,7 @@ use Rattle.std.specs.Fmt.{decimal, signed_decimal}
 use Rattle.std.proofs.lemmas.Fmt.{length-decimal-le_wide}
 use Rattle.std.proofs.Math.Nat.{div-add-mod, mod-lt}
 use Rattle.trac_values.specs.Digits.{padded_text, signed}
-use Rattle.trac_functions.proofs.Words.{◌≡◌, false, length, ap, sym, subst, ◌∙◌, arith, part_text, to_z-of_z}
+use Rattle.trac_functions.proofs.Imports.{◌≡◌, false, length, ap, sym, subst, ◌∙◌, arith, part_text, to_z-of_z}
 use Rattle.trac_functions.specs.Calls.{Valued}
 use Rattle.trac_functions.proofs.LongNumbers.{long-number, signed-kept}
 use Rattle.trac_functions.proofs.arithmetic.give_long_number.Goals as goal

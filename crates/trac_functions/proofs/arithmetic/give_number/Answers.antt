@@ -1,6 +1,6 @@
 use Rattle.std.specs.Int.{w128}
 use Rattle.std.specs.Prelude.{unsigned_abs}
-use Rattle.trac_functions.proofs.Words.{ap, ◌∙◌, arith, to_z-of_z}
+use Rattle.trac_functions.proofs.Imports.{ap, ◌∙◌, arith, to_z-of_z}
 use Rattle.trac_functions.proofs.arithmetic.give_number.Goals as goal
 
 pub give_long_number-requires-clause-long : goal.give_long_number-requires-clause-long

@@ -1,4 +1,4 @@
-use Rattle.trac_functions.proofs.Words.{◌≡◌, ◌+◌}
+use Rattle.trac_functions.proofs.Imports.{◌≡◌, ◌+◌}
 use Rattle.std.specs.Prelude.{◌*◌, ◌^◌}
 use Rattle.trac_functions.proofs.arithmetic.parted.Given as goal
 

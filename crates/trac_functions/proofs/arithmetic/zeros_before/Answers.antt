@@ -1,5 +1,5 @@
 use Rattle.std.specs.Prelude.{length, ◌-◌}
-use Rattle.trac_functions.proofs.Words.{arith}
+use Rattle.trac_functions.proofs.Imports.{arith}
 use Rattle.trac_functions.proofs.LongNumbers.{zeros-left}
 use Rattle.trac_functions.proofs.arithmetic.zeros_before.Goals as goal
 

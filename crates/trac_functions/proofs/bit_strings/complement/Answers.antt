@@ -1,4 +1,4 @@
-use Rattle.trac_functions.proofs.Words.{◌∷◌, refl, Complement, complement, meaning_of, texts}
+use Rattle.trac_functions.proofs.Imports.{◌∷◌, refl, Complement, complement, meaning_of, texts}
 use Rattle.trac_functions.proofs.BitResults.{bits-valued}
 use Rattle.trac_functions.proofs.bit_strings.complement.Goals as goal
 

@@ -1,4 +1,4 @@
-use Rattle.trac_functions.proofs.Words.{◌∙◌, pos, signed}
+use Rattle.trac_functions.proofs.Imports.{◌∙◌, pos, signed}
 use Rattle.trac_functions.proofs.BitResults.{union-digits, intersection-digits, complement-digits, shift-digits, rotation-digits}
 use Rattle.trac_functions.proofs.bit_strings.digits_made.Goals as goal
 

@@ -1,4 +1,4 @@
-use Rattle.trac_functions.proofs.Words.{ap, flat_map, octal_prefix, bits_of_digit}
+use Rattle.trac_functions.proofs.Imports.{ap, flat_map, octal_prefix, bits_of_digit}
 use Rattle.trac_functions.proofs.Fronts.{octal_prefix-front, inside, front-part, front-text}
 use Rattle.trac_functions.proofs.DigitParts.{part_is_octal, digits_of_part}
 use Rattle.trac_functions.proofs.bit_strings.digits_of.Goals as goal

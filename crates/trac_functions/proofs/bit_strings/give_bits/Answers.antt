@@ -1,4 +1,4 @@
-use Rattle.trac_functions.proofs.Words.{◌+◌, ◌≤◌, ◌++◌, false, length, arith, OnTrue_at, octal, used, part_text, bits_made}
+use Rattle.trac_functions.proofs.Imports.{◌+◌, ◌≤◌, ◌++◌, false, length, arith, OnTrue_at, octal, used, part_text, bits_made}
 use Rattle.trac_functions.proofs.ArgumentLemmas.{part-long}
 use Rattle.trac_functions.proofs.PutCharacters.{stands-behind}
 use Rattle.trac_functions.proofs.BitResults.{made-within, behind-all}

@@ -1,4 +1,4 @@
-use Rattle.trac_functions.proofs.Words.{◌∷◌, ap, ◌∙◌, refl, Intersection, bits, intersection, argument, meaning_of, bits_at, texts}
+use Rattle.trac_functions.proofs.Imports.{◌∷◌, ap, ◌∙◌, refl, Intersection, bits, intersection, argument, meaning_of, bits_at, texts}
 use Rattle.trac_functions.proofs.BitResults.{bits-valued}
 use Rattle.trac_functions.proofs.bit_strings.intersection.Goals as goal
 

@@ -1,4 +1,4 @@
-use Rattle.trac_functions.proofs.Words.{◌≡◌, ◌<◌, length, take, Some, sym, ap, ◌∙◌, arith, slice_get, OnTrue_at, none-some, slice_get-get_or, octal, bits_made}
+use Rattle.trac_functions.proofs.Imports.{◌≡◌, ◌<◌, length, take, Some, sym, ap, ◌∙◌, arith, slice_get, OnTrue_at, none-some, slice_get-get_or, octal, bits_made}
 use Rattle.trac_functions.proofs.PutCharacters.{with-more, fits-more}
 use Rattle.trac_functions.proofs.BitResults.{behind-made}
 use Rattle.trac_functions.proofs.bit_strings.put_digits.Goals as goal

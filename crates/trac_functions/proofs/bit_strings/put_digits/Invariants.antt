@@ -1,4 +1,4 @@
-use Rattle.trac_functions.proofs.Words.{◌≡◌, ◌++◌, take, octal, flat_text, IsSound, bits_made}
+use Rattle.trac_functions.proofs.Imports.{◌≡◌, ◌++◌, take, octal, flat_text, IsSound, bits_made}
 use Rattle.trac_functions.proofs.bit_strings.put_digits.Given as goal
 
 -- the first digits stand at the end

@@ -1,4 +1,4 @@
-use Rattle.trac_functions.proofs.Words.{◌≡◌, ◌∷◌, max, length, ap, ◌∙◌, refl, arith, Rotate, number, rotated, argument, meaning_of, bits_at, texts}
+use Rattle.trac_functions.proofs.Imports.{◌≡◌, ◌∷◌, max, length, ap, ◌∙◌, refl, arith, Rotate, number, rotated, argument, meaning_of, bits_at, texts}
 use Rattle.trac_functions.proofs.BitResults.{bits-valued, length-at, rotation-any}
 use Rattle.trac_functions.proofs.bit_strings.rotate.Goals as goal
 

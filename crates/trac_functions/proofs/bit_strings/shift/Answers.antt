@@ -1,4 +1,4 @@
-use Rattle.trac_functions.proofs.Words.{◌∷◌, ◌≤◌, length, ap, ◌∙◌, refl, arith, Shift, number, shifted, argument, meaning_of, text_of_cells, shift_same, bits_at, texts}
+use Rattle.trac_functions.proofs.Imports.{◌∷◌, ◌≤◌, length, ap, ◌∙◌, refl, arith, Shift, number, shifted, argument, meaning_of, text_of_cells, shift_same, bits_at, texts}
 use Rattle.trac_functions.proofs.BitResults.{bits-valued, length-at}
 use Rattle.trac_functions.proofs.bit_strings.shift.Goals as goal
 

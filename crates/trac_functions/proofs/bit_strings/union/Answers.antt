@@ -1,4 +1,4 @@
-use Rattle.trac_functions.proofs.Words.{◌∷◌, ap, ◌∙◌, refl, Union, bits, union, argument, meaning_of, bits_at, texts}
+use Rattle.trac_functions.proofs.Imports.{◌∷◌, ap, ◌∙◌, refl, Union, bits, union, argument, meaning_of, bits_at, texts}
 use Rattle.trac_functions.proofs.BitResults.{bits-valued}
 use Rattle.trac_functions.proofs.bit_strings.union.Goals as goal
 

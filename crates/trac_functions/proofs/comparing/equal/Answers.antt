@@ -1,4 +1,4 @@
-use Rattle.trac_functions.proofs.Words.{◌∷◌, false, ap, ◌∙◌, refl, bytes_eq, Equal, argument, valued, meaning_of, text_of_cells, part_text, world, texts}
+use Rattle.trac_functions.proofs.Imports.{◌∷◌, false, ap, ◌∙◌, refl, bytes_eq, Equal, argument, valued, meaning_of, text_of_cells, part_text, world, texts}
 use Rattle.trac_functions.proofs.MadeValues.{valued-of, same-test, chosen}
 use Rattle.trac_functions.proofs.comparing.equal.Goals as goal
 use Rattle.trac_functions.proofs.comparing.equal.Goals.{then-equal, else-equal}

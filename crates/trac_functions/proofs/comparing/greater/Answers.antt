@@ -1,4 +1,4 @@
-use Rattle.trac_functions.proofs.Words.{◌∷◌, false, ap, ◌∙◌, refl, int_lt, Greater, argument, valued, meaning_of, number, text_of_cells, part_text, world, texts}
+use Rattle.trac_functions.proofs.Imports.{◌∷◌, false, ap, ◌∙◌, refl, int_lt, Greater, argument, valued, meaning_of, number, text_of_cells, part_text, world, texts}
 use Rattle.trac_functions.proofs.MadeValues.{valued-of, same-order, chosen}
 use Rattle.trac_functions.proofs.comparing.greater.Goals as goal
 use Rattle.trac_functions.proofs.comparing.greater.Goals.{then-greater, else-greater}

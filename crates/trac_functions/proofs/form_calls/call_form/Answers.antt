@@ -1,5 +1,5 @@
-use Rattle.trac_functions.proofs.Words.{false≢true, All-head, All-tail, ◌≡◌, ℕ, ◌+◌, ◌<◌, ◌∷◌, ◌++◌, [], List, length, drop, refl, sym, ap, ◌∙◌, subst, arith, false, true, CallForm, Text, Item, fill, is_character, text_of, argument, meaning_of}
-use Rattle.trac_functions.proofs.Words.{flat_text, filled_body, Contents, used, IsNamedAt, IsSound, AreCharacters, IsLoaded, called_part, form_named-at, Arguments, texts, AreArguments, Valued}
+use Rattle.trac_functions.proofs.Imports.{false≢true, All-head, All-tail, ◌≡◌, ℕ, ◌+◌, ◌<◌, ◌∷◌, ◌++◌, [], List, length, drop, refl, sym, ap, ◌∙◌, subst, arith, false, true, CallForm, Text, Item, fill, is_character, text_of, argument, meaning_of}
+use Rattle.trac_functions.proofs.Imports.{flat_text, filled_body, Contents, used, IsNamedAt, IsSound, AreCharacters, IsLoaded, called_part, form_named-at, Arguments, texts, AreArguments, Valued}
 use Rattle.trac_language.specs.declared.item.Item.TheVariants.{Byte, Gap}
 use Rattle.trac_functions.proofs.MadeValues.{valued-of}
 use Rattle.trac_functions.proofs.TakenItems.{all-characters}

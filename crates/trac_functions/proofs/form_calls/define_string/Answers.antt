@@ -1,4 +1,4 @@
-use Rattle.trac_functions.proofs.Words.{◌≡◌, ◌+◌, ◌-◌, length, refl, ap, ◌∙◌, arith, defined, argument, meaning_of, silent, part_text, world, texts}
+use Rattle.trac_functions.proofs.Imports.{◌≡◌, ◌+◌, ◌-◌, length, refl, ap, ◌∙◌, arith, defined, argument, meaning_of, silent, part_text, world, texts}
 use Rattle.trac_functions.proofs.ArgumentLemmas.{part-long}
 use Rattle.trac_functions.proofs.form_calls.define_string.Goals as goal
 

@@ -1,4 +1,4 @@
-use Rattle.trac_functions.proofs.Words.{[], refl, DeleteAll, meaning_of}
+use Rattle.trac_functions.proofs.Imports.{[], refl, DeleteAll, meaning_of}
 use Rattle.trac_functions.proofs.FormLemmas.{null-value}
 use Rattle.trac_functions.proofs.form_calls.delete_all.Goals as goal
 

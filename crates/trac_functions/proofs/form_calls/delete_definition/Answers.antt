@@ -1,4 +1,4 @@
-use Rattle.trac_functions.proofs.Words.{◌≡◌, ℕ, ◌<◌, ◌≤◌, ◌∷◌, [], List, drop, sym, ap, ◌∙◌, arith, false, refl, remove, DeleteDefinition, Text, Form, without, Input, argument, meaning_of, silent, Contents, IsSound, without-at, without-none, Arguments, world, texts, texts_from, AreArguments, IsValue}
+use Rattle.trac_functions.proofs.Imports.{◌≡◌, ℕ, ◌<◌, ◌≤◌, ◌∷◌, [], List, drop, sym, ap, ◌∙◌, arith, false, refl, remove, DeleteDefinition, Text, Form, without, Input, argument, meaning_of, silent, Contents, IsSound, without-at, without-none, Arguments, world, texts, texts_from, AreArguments, IsValue}
 use Rattle.trac_functions.proofs.ArgumentLemmas.{none-left}
 use Rattle.trac_functions.proofs.FormLemmas.{null-value, arguments-kept, next-left, only-forms, parted, parted-texts, unnamed, unnamed-none, unnamed-first}
 use Rattle.trac_functions.proofs.form_calls.delete_definition.Goals as goal

@@ -1,4 +1,4 @@
-use Rattle.trac_functions.proofs.Words.{◌≡◌, AreArguments, texts}
+use Rattle.trac_functions.proofs.Imports.{◌≡◌, AreArguments, texts}
 use Rattle.trac_functions.proofs.FormLemmas.{unnamed}
 use Rattle.trac_functions.proofs.form_calls.delete_definition.Given as goal
 

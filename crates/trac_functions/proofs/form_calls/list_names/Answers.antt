@@ -1,4 +1,4 @@
-use Rattle.trac_functions.proofs.Words.{◌≡◌, ℕ, ◌+◌, ◌<◌, ◌++◌, ◌∷◌, [], length, drop, refl, sym, ap, arith, false, ListNames, Input, Text, meaning_of, valued, Contents, used, name_at, part_text, IsTextPart, IsSound, world, texts}
+use Rattle.trac_functions.proofs.Imports.{◌≡◌, ℕ, ◌+◌, ◌<◌, ◌++◌, ◌∷◌, [], length, drop, refl, sym, ap, arith, false, ListNames, Input, Text, meaning_of, valued, Contents, used, name_at, part_text, IsTextPart, IsSound, world, texts}
 use Rattle.trac_functions.proofs.MadeValues.{valued-of}
 use Rattle.trac_functions.proofs.PutCharacters.{with_text}
 use Rattle.trac_functions.proofs.FormLemmas.{names, names-more, names-none}

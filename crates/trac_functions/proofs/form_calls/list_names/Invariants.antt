@@ -1,4 +1,4 @@
-use Rattle.trac_functions.proofs.Words.{drop, part_text}
+use Rattle.trac_functions.proofs.Imports.{drop, part_text}
 use Rattle.trac_functions.proofs.FormLemmas.{names}
 use Rattle.trac_functions.proofs.PutParts.{HasPut}
 use Rattle.trac_functions.proofs.form_calls.list_names.Given as goal

@@ -1,5 +1,5 @@
-use Rattle.trac_functions.proofs.Words.{◌≡◌, ℕ, suc, ◌+◌, ◌<◌, ◌≤◌, ◌∷◌, [], List, length, drop, set, refl, sym, ap, ◌∙◌, arith, add-one, length-set, get_or-set_same, SegmentString, Text, Form, segment, segment_by, changed, argument, meaning_of, silent, Contents, form_at, body_at, pointer_at}
-use Rattle.trac_functions.proofs.Words.{part_text, form_named-at, changed-at, world, texts, texts_from}
+use Rattle.trac_functions.proofs.Imports.{◌≡◌, ℕ, suc, ◌+◌, ◌<◌, ◌≤◌, ◌∷◌, [], List, length, drop, set, refl, sym, ap, ◌∙◌, arith, add-one, length-set, get_or-set_same, SegmentString, Text, Form, segment, segment_by, changed, argument, meaning_of, silent, Contents, form_at, body_at, pointer_at}
+use Rattle.trac_functions.proofs.Imports.{part_text, form_named-at, changed-at, world, texts, texts_from}
 use Rattle.trac_functions.proofs.ArgumentLemmas.{none-left}
 use Rattle.trac_functions.proofs.FormLemmas.{null-value, idle, arguments-kept, next-left, fewer-left, texts-bounded, only-forms, segmented, segmented-set, segmented-none}
 use Rattle.trac_functions.proofs.form_calls.segment_string.Goals as goal

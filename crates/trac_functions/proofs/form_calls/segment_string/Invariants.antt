@@ -1,4 +1,4 @@
-use Rattle.trac_functions.proofs.Words.{◌≡◌, ◌+◌, ◌<◌, ◌≤◌, suc, drop, length, pointer_at, AreArguments, texts}
+use Rattle.trac_functions.proofs.Imports.{◌≡◌, ◌+◌, ◌<◌, ◌≤◌, suc, drop, length, pointer_at, AreArguments, texts}
 use Rattle.trac_functions.proofs.FormLemmas.{segmented}
 use Rattle.trac_functions.proofs.form_calls.segment_string.Given as goal
 

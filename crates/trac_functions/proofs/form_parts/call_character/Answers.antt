@@ -1,4 +1,4 @@
-use Rattle.trac_functions.proofs.Words.{◌∙◌, refl, pos, CallCharacter, meaning_of, characters}
+use Rattle.trac_functions.proofs.Imports.{◌∙◌, refl, pos, CallCharacter, meaning_of, characters}
 use Rattle.trac_functions.proofs.FormLemmas.{idle}
 use Rattle.trac_functions.proofs.TakenParts.{makes-found}
 use Rattle.trac_functions.proofs.form_parts.call_character.Goals as goal

@@ -1,4 +1,4 @@
-use Rattle.trac_functions.proofs.Words.{sym, ap, ◌∙◌, refl, subst, arith, length, Option, CallNumber, argument, meaning_of, Part, TakesPart, characters, number, text_of_cells, Contents, part_text, form_at, IsSound}
+use Rattle.trac_functions.proofs.Imports.{sym, ap, ◌∙◌, refl, subst, arith, length, Option, CallNumber, argument, meaning_of, Part, TakesPart, characters, number, text_of_cells, Contents, part_text, form_at, IsSound}
 use Rattle.trac_functions.proofs.FormLemmas.{idle}
 use Rattle.trac_functions.proofs.TakenParts.{makes-found, characters-counted}
 use Rattle.trac_functions.proofs.form_parts.call_number.Goals as goal

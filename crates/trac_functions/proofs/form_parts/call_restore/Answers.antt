@@ -1,4 +1,4 @@
-use Rattle.trac_functions.proofs.Words.{refl, CallRestore, meaning_of}
+use Rattle.trac_functions.proofs.Imports.{refl, CallRestore, meaning_of}
 use Rattle.trac_functions.proofs.FormLemmas.{idle}
 use Rattle.trac_functions.proofs.TakenParts.{changes-found}
 use Rattle.trac_functions.proofs.form_parts.call_restore.Goals as goal

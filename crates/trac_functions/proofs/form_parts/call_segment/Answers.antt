@@ -1,4 +1,4 @@
-use Rattle.trac_functions.proofs.Words.{◌∙◌, refl, CallSegment, meaning_of, next_segment}
+use Rattle.trac_functions.proofs.Imports.{◌∙◌, refl, CallSegment, meaning_of, next_segment}
 use Rattle.trac_functions.proofs.FormLemmas.{idle}
 use Rattle.trac_functions.proofs.TakenParts.{makes-found}
 use Rattle.trac_functions.proofs.form_parts.call_segment.Goals as goal

@@ -1,4 +1,4 @@
-use Rattle.trac_functions.proofs.Words.{ap, arith, Contents}
+use Rattle.trac_functions.proofs.Imports.{ap, arith, Contents}
 use Rattle.trac_functions.proofs.TakenItems.{copied-more, copied-fits}
 use Rattle.trac_functions.proofs.form_parts.copy_characters.Goals as goal
 

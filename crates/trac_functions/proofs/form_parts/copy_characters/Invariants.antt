@@ -1,4 +1,4 @@
-use Rattle.trac_functions.proofs.Words.{◌≡◌, ◌≤◌, ◌-◌, slice_range, text_of, body_at, IsSound}
+use Rattle.trac_functions.proofs.Imports.{◌≡◌, ◌≤◌, ◌-◌, slice_range, text_of, body_at, IsSound}
 use Rattle.trac_functions.proofs.PutCharacters.{with_text}
 use Rattle.trac_functions.proofs.form_parts.copy_characters.Given as goal
 

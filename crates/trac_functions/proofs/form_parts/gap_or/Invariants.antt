@@ -1,4 +1,4 @@
-use Rattle.trac_functions.proofs.Words.{body_at, gap_at, NonePasses}
+use Rattle.trac_functions.proofs.Imports.{body_at, gap_at, NonePasses}
 use Rattle.trac_functions.proofs.form_parts.gap_or.Given as goal
 
 -- no gap was passed

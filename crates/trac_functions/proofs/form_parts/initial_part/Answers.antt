@@ -1,4 +1,4 @@
-use Rattle.trac_functions.proofs.Words.{ap, ◌∙◌, refl, subst, InitialPart, argument, meaning_of, initial_part, Contents, part_text, TakesOrDefault}
+use Rattle.trac_functions.proofs.Imports.{ap, ◌∙◌, refl, subst, InitialPart, argument, meaning_of, initial_part, Contents, part_text, TakesOrDefault}
 use Rattle.trac_functions.proofs.FormLemmas.{idle}
 use Rattle.trac_functions.proofs.TakenParts.{makes-found}
 use Rattle.trac_functions.proofs.form_parts.initial_part.Goals as goal

@@ -1,4 +1,4 @@
-use Rattle.trac_functions.proofs.Words.{arith, body_at}
+use Rattle.trac_functions.proofs.Imports.{arith, body_at}
 use Rattle.trac_functions.proofs.TakenItems.{forward-none, forward-within, forward-more, forward-last}
 use Rattle.trac_functions.proofs.form_parts.place_after.Goals as goal
 

@@ -1,4 +1,4 @@
-use Rattle.trac_functions.proofs.Words.{body_at}
+use Rattle.trac_functions.proofs.Imports.{body_at}
 use Rattle.trac_functions.proofs.TakenItems.{Backward}
 use Rattle.trac_functions.proofs.form_parts.place_before.Given as goal
 

@@ -1,4 +1,4 @@
-use Rattle.trac_functions.proofs.Words.{refl, form_at}
+use Rattle.trac_functions.proofs.Imports.{refl, form_at}
 use Rattle.trac_functions.proofs.TakenParts.{previous-none, previous-some, takes-none, takes-some}
 use Rattle.trac_functions.proofs.form_parts.take_backward.Goals as goal
 

@@ -1,4 +1,4 @@
-use Rattle.trac_functions.proofs.Words.{refl, arith, length, form_at, body_at, pointer_at}
+use Rattle.trac_functions.proofs.Imports.{refl, arith, length, form_at, body_at, pointer_at}
 use Rattle.trac_forms.specs.Search.{IsFirst, character_at}
 use Rattle.trac_functions.specs.declared.arguments.CallResult.TheVariants.{AtEnd}
 use Rattle.trac_functions.proofs.TakenParts.{one-some, takes-some}

@@ -1,4 +1,4 @@
-use Rattle.trac_functions.proofs.Words.{sym, ◌∙◌, form_at}
+use Rattle.trac_functions.proofs.Imports.{sym, ◌∙◌, form_at}
 use Rattle.trac_functions.proofs.TakenParts.{part-null, characters-zero, takes-some}
 use Rattle.trac_functions.proofs.form_parts.take_characters.Goals as goal
 

@@ -1,4 +1,4 @@
-use Rattle.trac_functions.proofs.Words.{refl, sym, ◌∙◌, arith, form_at, part_text}
+use Rattle.trac_functions.proofs.Imports.{refl, sym, ◌∙◌, arith, form_at, part_text}
 use Rattle.trac_functions.proofs.ArgumentLemmas.{part-long}
 use Rattle.trac_functions.proofs.TakenParts.{part-null, initial-null, initial-some, initial-none, takes-none, takes-some}
 use Rattle.trac_functions.proofs.form_parts.take_initial.Goals as goal

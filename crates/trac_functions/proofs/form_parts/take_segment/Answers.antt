@@ -1,4 +1,4 @@
-use Rattle.trac_functions.proofs.Words.{refl, ◌∙◌, arith, form_at}
+use Rattle.trac_functions.proofs.Imports.{refl, ◌∙◌, arith, form_at}
 use Rattle.trac_functions.proofs.TakenParts.{segment-none, segment-gap, segment-end, takes-none, takes-some}
 use Rattle.trac_functions.proofs.form_parts.take_segment.Goals as goal
 

@@ -1,4 +1,4 @@
-use Rattle.trac_functions.proofs.Words.{◌∙◌}
+use Rattle.trac_functions.proofs.Imports.{◌∙◌}
 use Rattle.trac_functions.proofs.Names.{pair-named, pair-two, none-named}
 use Rattle.trac_functions.proofs.function.function_before_comma.Goals as goal
 

@@ -1,4 +1,4 @@
-use Rattle.trac_functions.proofs.Words.{◌≡◌, ◌∙◌, arith, to_ascii_lowercase, get_or-map-range_with_len, character_of}
+use Rattle.trac_functions.proofs.Imports.{◌≡◌, ◌∙◌, arith, to_ascii_lowercase, get_or-map-range_with_len, character_of}
 use Rattle.trac_functions.proofs.function.lower.Goals as goal
 
 pub returns : goal.returns

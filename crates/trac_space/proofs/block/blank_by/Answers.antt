@@ -1,4 +1,4 @@
-use Rattle.trac_space.proofs.Words.{◌≡◌, ℕ, ◌+◌, ◌-◌, ◌≤◌, List, length, take, replicate, arith, rules, take-length, places, same_lists, elements, put_mid, Cell, Byte}
+use Rattle.trac_space.proofs.Imports.{◌≡◌, ℕ, ◌+◌, ◌-◌, ◌≤◌, List, length, take, replicate, arith, rules, take-length, places, same_lists, elements, put_mid, Cell, Byte}
 use Rattle.trac_space.proofs.block.blank_by.Goals as goal
 
 -- blank cells over those behind blank cells

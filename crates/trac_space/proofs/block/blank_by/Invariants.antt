@@ -1,4 +1,4 @@
-use Rattle.trac_space.proofs.Words.{◌≡◌, ◌-◌, ◌≤◌, length, take, replicate, Byte}
+use Rattle.trac_space.proofs.Imports.{◌≡◌, ◌-◌, ◌≤◌, length, take, replicate, Byte}
 use Rattle.trac_space.proofs.block.blank_by.Given as goal
 
 -- the cells so far are blank

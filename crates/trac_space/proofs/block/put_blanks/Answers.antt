@@ -1,4 +1,4 @@
-use Rattle.trac_space.proofs.Words.{◌≡◌, ℕ, ◌+◌, ◌*◌, ◌/◌, ◌<◌, ◌≤◌, List, ◌++◌, ◌-◌, length, take, replicate, sym, ap, ◌∙◌, arith, rules, mod-lt, take-length, div-add-mod', places, same_lists, length-replicate, elements, Cell, Byte}
+use Rattle.trac_space.proofs.Imports.{◌≡◌, ℕ, ◌+◌, ◌*◌, ◌/◌, ◌<◌, ◌≤◌, List, ◌++◌, ◌-◌, length, take, replicate, sym, ap, ◌∙◌, arith, rules, mod-lt, take-length, div-add-mod', places, same_lists, length-replicate, elements, Cell, Byte}
 use Rattle.trac_space.proofs.block.put_blanks.Goals as goal
 
 -- blank cells behind blank cells

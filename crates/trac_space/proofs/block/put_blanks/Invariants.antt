@@ -1,4 +1,4 @@
-use Rattle.trac_space.proofs.Words.{◌≡◌, replicate, ◌+◌, ◌*◌, length, Byte}
+use Rattle.trac_space.proofs.Imports.{◌≡◌, replicate, ◌+◌, ◌*◌, length, Byte}
 use Rattle.trac_space.proofs.block.put_blanks.Given as goal
 
 -- what is put so far are blank cells, so many parts of them

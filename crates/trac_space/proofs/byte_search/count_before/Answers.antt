@@ -1,4 +1,4 @@
-use Rattle.trac_space.proofs.Words.{length, arith, length-between}
+use Rattle.trac_space.proofs.Imports.{length, arith, length-between}
 use Rattle.trac_space.proofs.Stops.{none-more, front-of_part, get-of_part}
 use Rattle.trac_space.proofs.byte_search.count_before.Goals as goal
 

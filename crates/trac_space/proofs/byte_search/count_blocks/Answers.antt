@@ -1,4 +1,4 @@
-use Rattle.trac_space.proofs.Words.{◌+◌, arith}
+use Rattle.trac_space.proofs.Imports.{◌+◌, arith}
 use Rattle.trac_space.proofs.Stops.{none-next, none-twice}
 use Rattle.trac_space.proofs.byte_search.count_blocks.Goals as goal
 

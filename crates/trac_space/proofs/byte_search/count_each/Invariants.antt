@@ -1,4 +1,4 @@
-use Rattle.trac_space.proofs.Words.{◌≡◌, take, false, ◌==◌, list_any}
+use Rattle.trac_space.proofs.Imports.{◌≡◌, take, false, ◌==◌, list_any}
 use Rattle.trac_space.proofs.byte_search.count_each.Given as goal
 
 -- the byte doesn't stand among those so far

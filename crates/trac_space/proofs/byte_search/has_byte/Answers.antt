@@ -1,4 +1,4 @@
-use Rattle.trac_space.proofs.Words.{◌≡◌, ℕ, ◌+◌, ◌-◌, ◌<◌, ◌∙◌, ◌==◌, ap, arith, drop, get_or, get_or-drop, get_or-take, length, slice_range}
+use Rattle.trac_space.proofs.Imports.{◌≡◌, ℕ, ◌+◌, ◌-◌, ◌<◌, ◌∙◌, ◌==◌, ap, arith, drop, get_or, get_or-drop, get_or-take, length, slice_range}
 use Rattle.std.specs.Prelude.{not}
 use Rattle.trac_space.proofs.ByteWords.{found, same_flags}
 use Rattle.trac_space.proofs.byte_search.has_byte.Goals as goal

@@ -1,4 +1,4 @@
-use Rattle.trac_space.proofs.Words.{take, drop, sym, ◌∙◌}
+use Rattle.trac_space.proofs.Imports.{take, drop, sym, ◌∙◌}
 use Rattle.trac_space.proofs.Characters.{bytes-kinds, kinds-bytes, none-is}
 use Rattle.trac_space.proofs.cell.are_characters.Goals as goal
 

@@ -1,4 +1,4 @@
-use Rattle.trac_space.proofs.Words.{◌≡◌, ◌+◌, take, drop, sym, ◌∙◌, arith, IsByte}
+use Rattle.trac_space.proofs.Imports.{◌≡◌, ◌+◌, take, drop, sym, ◌∙◌, arith, IsByte}
 use Rattle.trac_space.proofs.Characters.{bytes-kinds, none-is, both-ends}
 use Rattle.trac_space.proofs.cell.are_four.Goals as goal
 

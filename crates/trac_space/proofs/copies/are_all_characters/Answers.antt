@@ -1,4 +1,4 @@
-use Rattle.trac_space.proofs.Words.{◌≡◌, ◌+◌, ◌-◌, arith, rules, IsByte}
+use Rattle.trac_space.proofs.Imports.{◌≡◌, ◌+◌, ◌-◌, arith, rules, IsByte}
 use Rattle.trac_space.proofs.Characters.{both-ends}
 use Rattle.trac_space.proofs.copies.are_all_characters.Goals as goal
 

@@ -1,4 +1,4 @@
-use Rattle.trac_space.proofs.Words.{◌-◌, ◌<◌, All, drop, take, IsByte}
+use Rattle.trac_space.proofs.Imports.{◌-◌, ◌<◌, All, drop, take, IsByte}
 use Rattle.trac_space.proofs.copies.are_all_characters.Given as goal
 
 -- so many characters stand there

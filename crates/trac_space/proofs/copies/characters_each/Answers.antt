@@ -1,4 +1,4 @@
-use Rattle.trac_space.proofs.Words.{sym, ◌∙◌}
+use Rattle.trac_space.proofs.Imports.{sym, ◌∙◌}
 use Rattle.trac_space.proofs.Characters.{up-to-next}
 use Rattle.trac_space.proofs.copies.characters_each.Goals as goal
 

@@ -1,4 +1,4 @@
-use Rattle.trac_space.proofs.Words.{◌-◌}
+use Rattle.trac_space.proofs.Imports.{◌-◌}
 use Rattle.trac_space.proofs.Characters.{AreUpTo}
 use Rattle.trac_space.proofs.copies.characters_each.Given as goal
 

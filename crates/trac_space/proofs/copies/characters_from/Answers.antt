@@ -1,5 +1,5 @@
 use Rattle.trac_space.proofs.Characters.{bytes-join}
-use Rattle.trac_space.proofs.Words.{arith}
+use Rattle.trac_space.proofs.Imports.{arith}
 use Rattle.trac_space.proofs.copies.characters_from.Goals as goal
 
 pub returns-then-more-lt-BLOCK-clause-bytes : goal.returns-then-more-lt-BLOCK-clause-bytes

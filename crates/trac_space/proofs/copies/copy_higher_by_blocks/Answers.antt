@@ -1,4 +1,4 @@
-use Rattle.trac_space.proofs.Words.{◌≡◌, ◌+◌, ◌-◌, ap, ◌∙◌, refl, arith, copy_within}
+use Rattle.trac_space.proofs.Imports.{◌≡◌, ◌+◌, ◌-◌, ap, ◌∙◌, refl, arith, copy_within}
 use Rattle.trac_space.proofs.Blocks.{copied-up, lifted-last}
 use Rattle.trac_space.proofs.copies.copy_higher_by_blocks.Goals as goal
 

@@ -1,4 +1,4 @@
-use Rattle.trac_space.proofs.Words.{◌≡◌, ◌+◌, ◌-◌, refl, arith}
+use Rattle.trac_space.proofs.Imports.{◌≡◌, ◌+◌, ◌-◌, refl, arith}
 use Rattle.trac_space.proofs.Blocks.{copied-first, copied-last}
 use Rattle.trac_space.proofs.copies.copy_higher_by_halves.Goals as goal
 

@@ -1,4 +1,4 @@
-use Rattle.trac_space.proofs.Words.{arith}
+use Rattle.trac_space.proofs.Imports.{arith}
 use Rattle.trac_space.proofs.Blocks.{copied-up}
 use Rattle.trac_space.proofs.copies.copy_higher_by_parts.Goals as goal
 

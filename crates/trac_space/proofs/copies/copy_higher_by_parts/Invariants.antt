@@ -1,4 +1,4 @@
-use Rattle.trac_space.proofs.Words.{◌≡◌, ◌+◌, ◌-◌, ◌≤◌, drop, paste}
+use Rattle.trac_space.proofs.Imports.{◌≡◌, ◌+◌, ◌-◌, ◌≤◌, drop, paste}
 use Rattle.trac_space.proofs.copies.copy_higher_by_parts.Given as goal
 
 -- the last cells are at their place

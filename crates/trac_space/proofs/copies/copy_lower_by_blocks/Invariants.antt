@@ -1,4 +1,4 @@
-use Rattle.trac_space.proofs.Words.{◌≡◌, ◌-◌, ◌<◌, drop, paste}
+use Rattle.trac_space.proofs.Imports.{◌≡◌, ◌-◌, ◌<◌, drop, paste}
 use Rattle.trac_space.proofs.copies.copy_lower_by_blocks.Given as goal
 
 -- so many cells are at their place

@@ -1,4 +1,4 @@
-use Rattle.trac_space.proofs.Words.{arith}
+use Rattle.trac_space.proofs.Imports.{arith}
 use Rattle.trac_space.proofs.Blocks.{copied-first, carried-last}
 use Rattle.trac_space.proofs.copies.copy_lower_by_halves.Goals as goal
 

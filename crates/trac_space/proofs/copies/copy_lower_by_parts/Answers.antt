@@ -1,4 +1,4 @@
-use Rattle.trac_space.proofs.Words.{◌≡◌, ℕ, ◌+◌, ◌≤◌, List, length, drop, arith, rules, copy_within, places, same_lists, paste}
+use Rattle.trac_space.proofs.Imports.{◌≡◌, ℕ, ◌+◌, ◌≤◌, List, length, drop, arith, rules, copy_within, places, same_lists, paste}
 use Rattle.trac_space.proofs.copies.copy_lower_by_parts.Goals as goal
 
 -- the first k cells are there, and n more follow

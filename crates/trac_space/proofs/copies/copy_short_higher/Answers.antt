@@ -1,4 +1,4 @@
-use Rattle.trac_space.proofs.Words.{◌+◌, arith}
+use Rattle.trac_space.proofs.Imports.{◌+◌, arith}
 use Rattle.trac_space.proofs.Moves.{move_one}
 use Rattle.trac_space.proofs.copies.copy_short_higher.Goals as goal
 

@@ -1,4 +1,4 @@
-use Rattle.trac_space.proofs.Words.{◌≡◌, ℕ, ◌+◌, ◌-◌, ◌≤◌, List, ◌++◌, length, take, drop, slice_range, arith, rules, places, same_lists, put_mid}
+use Rattle.trac_space.proofs.Imports.{◌≡◌, ℕ, ◌+◌, ◌-◌, ◌≤◌, List, ◌++◌, length, take, drop, slice_range, arith, rules, places, same_lists, put_mid}
 use Rattle.trac_space.proofs.copies.copy_slice_by_parts.Goals as goal
 
 -- the next cells are copied

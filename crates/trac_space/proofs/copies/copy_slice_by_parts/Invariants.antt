@@ -1,4 +1,4 @@
-use Rattle.trac_space.proofs.Words.{◌≡◌, ◌-◌, ◌≤◌, ◌++◌, length, take, drop}
+use Rattle.trac_space.proofs.Imports.{◌≡◌, ◌-◌, ◌≤◌, ◌++◌, length, take, drop}
 use Rattle.trac_space.proofs.copies.copy_slice_by_parts.Given as goal
 
 -- the first cells are copied, and the others are as they were

@@ -1,4 +1,4 @@
-use Rattle.trac_space.proofs.Words.{◌≡◌, ◌+◌, ◌-◌, ◌<◌, length, drop, set, sym, ap, ◌∙◌, subst, slice_index_or, arith, length-drop, length-map, paste_more, paste, Byte, is_comma, IsByte, character_of, number_in, turned, turned_by}
+use Rattle.trac_space.proofs.Imports.{◌≡◌, ◌+◌, ◌-◌, ◌<◌, length, drop, set, sym, ap, ◌∙◌, subst, slice_index_or, arith, length-drop, length-map, paste_more, paste, Byte, is_comma, IsByte, character_of, number_in, turned, turned_by}
 use Rattle.trac_space.proofs.Runs.{run-cell, byte-at, run-more, turned-at, turned-byte, turned-one, plain-more, plain-none}
 use Rattle.trac_space.proofs.copies.copy_turned.Goals as goal
 use Rattle.trac_space.proofs.copies.copy_turned.Goals.{then-number-eq0, else-number-eq0+then-number-eq1}

@@ -1,4 +1,4 @@
-use Rattle.trac_space.proofs.Words.{◌-◌, ◌≡◌, ◌≤◌, All, drop, take, paste, NoComma, IsInRun, turned}
+use Rattle.trac_space.proofs.Imports.{◌-◌, ◌≡◌, ◌≤◌, All, drop, take, paste, NoComma, IsInRun, turned}
 use Rattle.trac_space.proofs.copies.copy_turned.Given as goal
 
 -- so many characters are at their place, and no comma mark stands behind the last

@@ -1,4 +1,4 @@
-use Rattle.trac_space.proofs.Words.{◌≡◌, ◌+◌, ◌-◌, ◌≤◌, ◌<◌, ◌∙◌, All, length, take, drop, map, slice_range, slice_index_or, sym, ap, subst, arith, take-take, get_or_default, length-between, All-take, Byte, Comma, IsByte, is_byte_cell, filling, part_between, ordinal_of}
+use Rattle.trac_space.proofs.Imports.{◌≡◌, ◌+◌, ◌-◌, ◌≤◌, ◌<◌, ◌∙◌, All, length, take, drop, map, slice_range, slice_index_or, sym, ap, subst, arith, take-take, get_or_default, length-between, All-take, Byte, Comma, IsByte, is_byte_cell, filling, part_between, ordinal_of}
 use Rattle.trac_space.specs.Overlay.{under}
 use Rattle.trac_space.proofs.Filled.{FilledSoFar, along-start, along-front, along-end, along-rest, commas-now, same-part, same-cell, block-run, cell-put, cell-full, filling-gap}
 use Rattle.trac_space.proofs.filling.fill_cells.Goals as goal

@@ -1,4 +1,4 @@
-use Rattle.trac_space.proofs.Words.{◌+◌, map, slice_range}
+use Rattle.trac_space.proofs.Imports.{◌+◌, map, slice_range}
 use Rattle.trac_space.specs.Overlay.{under}
 use Rattle.trac_space.proofs.Filled.{FilledSoFar}
 use Rattle.trac_space.proofs.filling.fill_each.Given as goal

@@ -1,4 +1,4 @@
-use Rattle.trac_space.proofs.Words.{◌∙◌, arith, sym}
+use Rattle.trac_space.proofs.Imports.{◌∙◌, arith, sym}
 use Rattle.trac_space.proofs.LaidCommas.{laid-none, laid-other, laid-comma, laid-commas, first-takes}
 use Rattle.trac_space.proofs.filling.lay_commas.Goals as goal
 use Rattle.trac_space.proofs.filling.lay_commas.Goals.{then-is_comma, else-is_comma}

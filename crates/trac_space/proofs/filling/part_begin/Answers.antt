@@ -1,4 +1,4 @@
-use Rattle.trac_space.proofs.Words.{◌≡◌, ℕ, suc, ◌+◌, ◌-◌, ◌<◌, ◌∙◌, ap, arith, sym, get_or, slice_range, length-between, Byte, numbered_part, parts_at, map}
+use Rattle.trac_space.proofs.Imports.{◌≡◌, ℕ, suc, ◌+◌, ◌-◌, ◌<◌, ◌∙◌, ap, arith, sym, get_or, slice_range, length-between, Byte, numbered_part, parts_at, map}
 use Rattle.trac_space.specs.Overlay.{has_number, under, over}
 use Rattle.trac_space.proofs.Filled.{begin-first, begin-next, number-in, numbered-in}
 use Rattle.trac_space.proofs.filling.part_begin.Goals as goal

@@ -1,4 +1,4 @@
-use Rattle.trac_space.proofs.Words.{◌≡◌, suc, ◌+◌, ◌<◌, ◌∙◌, ap, arith, sym, length, slice_range, length-between, numbered_part, parts_at, map}
+use Rattle.trac_space.proofs.Imports.{◌≡◌, suc, ◌+◌, ◌<◌, ◌∙◌, ap, arith, sym, length, slice_range, length-between, numbered_part, parts_at, map}
 use Rattle.trac_space.specs.Overlay.{under}
 use Rattle.trac_space.proofs.Filled.{end-last, number-in, numbered-in}
 use Rattle.trac_space.proofs.filling.part_end.Goals as goal

@@ -1,4 +1,4 @@
-use Rattle.trac_space.proofs.Words.{◌≡◌, ℕ, suc, ◌+◌, ◌-◌, ◌≤◌, ◌%◌, ◌∙◌, ap, arith, sym, map, slice_range, length-between, numbered_part, parts_at, part_between}
+use Rattle.trac_space.proofs.Imports.{◌≡◌, ℕ, suc, ◌+◌, ◌-◌, ◌≤◌, ◌%◌, ◌∙◌, ap, arith, sym, map, slice_range, length-between, numbered_part, parts_at, part_between}
 use Rattle.trac_space.specs.Overlay.{under}
 use Rattle.trac_space.proofs.Filled.{part-within, part-stands, others-in}
 use Rattle.trac_space.proofs.filling.part_numbered.Goals as goal

@@ -1,4 +1,4 @@
-use Rattle.trac_space.proofs.Words.{ℕ, drop, ◌≤◌, List, Cell, put_mid, ◌≡◌, ◌⊎◌, ◌+◌, ◌-◌, ◌∙◌, ap, sym, arith, refl, inl, inr, length, map, take, ◌++◌, slice_range, length-between, ⊎_elim, cases_lt, copy_within}
+use Rattle.trac_space.proofs.Imports.{ℕ, drop, ◌≤◌, List, Cell, put_mid, ◌≡◌, ◌⊎◌, ◌+◌, ◌-◌, ◌∙◌, ap, sym, arith, refl, inl, inr, length, map, take, ◌++◌, slice_range, length-between, ⊎_elim, cases_lt, copy_within}
 use Rattle.trac_space.specs.Overlay.{under}
 use Rattle.trac_space.proofs.Filled.{copied-front, copied-behind, put-lifted, others-less}
 use Rattle.trac_space.proofs.filling.put_lifted.Goals as goal

@@ -1,4 +1,4 @@
-use Rattle.trac_space.proofs.Words.{◌≡◌, ◌++◌, map, take, drop}
+use Rattle.trac_space.proofs.Imports.{◌≡◌, ◌++◌, map, take, drop}
 use Rattle.trac_space.specs.Overlay.{under}
 use Rattle.trac_space.proofs.overlay.lift.Given as goal
 

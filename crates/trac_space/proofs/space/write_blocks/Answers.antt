@@ -1,4 +1,4 @@
-use Rattle.trac_space.proofs.Words.{◌≡◌, ◌+◌, ◌≤◌, length, slice_range, ap, ◌∙◌, arith, length-map, length-between, Byte}
+use Rattle.trac_space.proofs.Imports.{◌≡◌, ◌+◌, ◌≤◌, length, slice_range, ap, ◌∙◌, arith, length-map, length-between, Byte}
 use Rattle.trac_space.proofs.ByteBlocks.{block-more, still-long}
 use Rattle.trac_space.proofs.space.write_blocks.Goals as goal
 

@@ -1,4 +1,4 @@
-use Rattle.trac_space.proofs.Words.{◌≡◌, ℕ, ◌+◌, ◌<◌, List, [], ◌∷◌, ◌++◌, length, take, drop, set, get_or, ◌∙◌, arith, drop_more, take_more, map-append, set_at, append_assoc, length-map, length-take-le, Cell, Byte, bytes, written_up_to}
+use Rattle.trac_space.proofs.Imports.{◌≡◌, ℕ, ◌+◌, ◌<◌, List, [], ◌∷◌, ◌++◌, length, take, drop, set, get_or, ◌∙◌, arith, drop_more, take_more, map-append, set_at, append_assoc, length-map, length-take-le, Cell, Byte, bytes, written_up_to}
 use Rattle.trac_space.proofs.space.write_byte.Goals as goal
 
 -- one byte more is written

@@ -1,4 +1,4 @@
-use Rattle.trac_space.proofs.Words.{◌≡◌, ◌+◌, ◌-◌, ◌≤◌, length, refl, arith, put_mid, written_up_to}
+use Rattle.trac_space.proofs.Imports.{◌≡◌, ◌+◌, ◌-◌, ◌≤◌, length, refl, arith, put_mid, written_up_to}
 use Rattle.trac_space.proofs.ByteBlocks.{block-up_to, long-up_to, block-long}
 use Rattle.trac_space.proofs.space.write_two_blocks.Goals as goal
 

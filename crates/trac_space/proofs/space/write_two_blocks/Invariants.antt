@@ -1,4 +1,4 @@
-use Rattle.trac_space.proofs.Words.{◌≡◌, ◌≤◌, ◌-◌, ◌+◌, length, written_up_to}
+use Rattle.trac_space.proofs.Imports.{◌≡◌, ◌≤◌, ◌-◌, ◌+◌, length, written_up_to}
 use Rattle.trac_space.proofs.space.write_two_blocks.Given as goal
 
 -- the bytes so far are written

@@ -1,4 +1,4 @@
-use Rattle.trac_store.proofs.Words.{Byte}
+use Rattle.trac_store.proofs.Imports.{Byte}
 use Rattle.trac_store.proofs.ArgumentParts.{first-four}
 use Rattle.trac_store.proofs.arguments.before_comma.Goals as goal
 

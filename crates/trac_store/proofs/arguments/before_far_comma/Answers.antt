@@ -1,4 +1,4 @@
-use Rattle.trac_store.proofs.Words.{◌≡◌, ◌+◌, ◌-◌, ◌≤◌, length, slice_range, arith, rules, length-between}
+use Rattle.trac_store.proofs.Imports.{◌≡◌, ◌+◌, ◌-◌, ◌≤◌, length, slice_range, arith, rules, length-between}
 use Rattle.trac_store.proofs.ArgumentParts.{before_comma-within, before-eight}
 use Rattle.trac_store.proofs.arguments.before_far_comma.Goals as goal
 

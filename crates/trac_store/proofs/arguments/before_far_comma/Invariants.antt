@@ -1,4 +1,4 @@
-use Rattle.trac_store.proofs.Words.{◌≡◌, ◌≤◌, ◌+◌, ◌-◌, drop, length, before_comma}
+use Rattle.trac_store.proofs.Imports.{◌≡◌, ◌≤◌, ◌+◌, ◌-◌, drop, length, before_comma}
 use Rattle.trac_store.proofs.arguments.before_far_comma.Given as goal
 
 -- no comma mark stands among the cells so far

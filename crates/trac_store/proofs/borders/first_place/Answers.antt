@@ -1,4 +1,4 @@
-use Rattle.trac_store.proofs.Words.{get_or_default, under, subst, arith, length-map, Byte, Comma, character_of, IsNextBorder}
+use Rattle.trac_store.proofs.Imports.{get_or_default, under, subst, arith, length-map, Byte, Comma, character_of, IsNextBorder}
 use Rattle.trac_store.specs.Borders.{laid_text}
 use Rattle.trac_store.proofs.TextBorders.{searched-next, searched-found, searched-all, next-within}
 use Rattle.trac_store.proofs.borders.first_place.Goals as goal

@@ -1,4 +1,4 @@
-use Rattle.trac_store.proofs.Words.{◌<◌, length}
+use Rattle.trac_store.proofs.Imports.{◌<◌, length}
 use Rattle.trac_store.specs.Borders.{laid_text}
 use Rattle.trac_store.proofs.TextBorders.{Searched}
 use Rattle.trac_store.proofs.borders.first_place.Given as goal

@@ -1,4 +1,4 @@
-use Rattle.trac_store.proofs.Words.{◌<◌, ◌-◌, ◌∙◌, ap, arith, is_call}
+use Rattle.trac_store.proofs.Imports.{◌<◌, ◌-◌, ◌∙◌, ap, arith, is_call}
 use Rattle.trac_space.specs.Overlay.{takes_number}
 use Rattle.trac_store.proofs.LaidBorders.{up-to-first, up-to-next, text-borders, cell-is, here-is, in-neutral, laid-all}
 use Rattle.trac_store.proofs.borders.lay_borders.Goals as goal

@@ -1,4 +1,4 @@
-use Rattle.trac_store.proofs.Words.{under, ◌<◌, ◌≡◌, length, get_or, get_or-map, ap, subst, ◌∙◌, sym, arith, character_of, is_byte, Byte, byte_at, IsLongestBorder}
+use Rattle.trac_store.proofs.Imports.{under, ◌<◌, ◌≡◌, length, get_or, get_or-map, ap, subst, ◌∙◌, sym, arith, character_of, is_byte, Byte, byte_at, IsLongestBorder}
 use Rattle.trac_store.specs.Borders.{laid_text}
 use Rattle.trac_store.proofs.TextBorders.{up-to-next}
 use Rattle.trac_store.proofs.borders.next_border.Goals as goal

@@ -1,4 +1,4 @@
-use Rattle.trac_store.proofs.Words.{map, seen, text_of_cells, forms_in}
+use Rattle.trac_store.proofs.Imports.{map, seen, text_of_cells, forms_in}
 use Rattle.trac_store.proofs.DistinctForms.{found-round}
 use Rattle.trac_store.proofs.form_cells.find_from_last.Goals as goal
 

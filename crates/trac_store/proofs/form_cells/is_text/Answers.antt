@@ -1,4 +1,4 @@
-use Rattle.trac_store.proofs.Words.{◌≡◌, ℕ, ◌<◌, List, length, get_or, sym, ap, ◌∙◌, arith, false≢true, length-map, get_or-map, take_more_same, Cell, Byte, character_of, text_of_cells}
+use Rattle.trac_store.proofs.Imports.{◌≡◌, ℕ, ◌<◌, List, length, get_or, sym, ap, ◌∙◌, arith, false≢true, length-map, get_or-map, take_more_same, Cell, Byte, character_of, text_of_cells}
 use Rattle.trac_store.proofs.form_cells.is_text.Goals as goal
 
 -- the character at a place

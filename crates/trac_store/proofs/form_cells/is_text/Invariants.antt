@@ -1,4 +1,4 @@
-use Rattle.trac_store.proofs.Words.{◌≡◌, take, text_of_cells}
+use Rattle.trac_store.proofs.Imports.{◌≡◌, take, text_of_cells}
 use Rattle.trac_store.proofs.form_cells.is_text.Given as goal
 
 -- the characters so far are the same

@@ -1,4 +1,4 @@
-use Rattle.trac_store.proofs.Words.{◌≡◌, ℕ, ◌+◌, ◌-◌, ◌<◌, ◌≤◌, List, length, map, get_or, slice_range, sym, ap, ◌∙◌, subst, arith, false≢true, length-map, get_or-map, Cell, Byte, seen, character_of, IsByte, character-seen, length-between}
+use Rattle.trac_store.proofs.Imports.{◌≡◌, ℕ, ◌+◌, ◌-◌, ◌<◌, ◌≤◌, List, length, map, get_or, slice_range, sym, ap, ◌∙◌, subst, arith, false≢true, length-map, get_or-map, Cell, Byte, seen, character_of, IsByte, character-seen, length-between}
 use Rattle.trac_store.proofs.Finding.{byte-seen, bytes-of-seen, seen-decides, part-last, part-length}
 use Rattle.trac_store.proofs.form_cells.is_text_at.Goals as goal
 use Rattle.trac_store.proofs.form_cells.is_text_at.Goals.{then-len-text-via-then-len-text, then-len-text-via-else-len-text+then-byte_in-last}

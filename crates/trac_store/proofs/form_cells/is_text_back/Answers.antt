@@ -1,4 +1,4 @@
-use Rattle.trac_store.proofs.Words.{◌≡◌, ℕ, ◌+◌, ◌-◌, ◌<◌, ◌≤◌, List, ◌∷◌, length, drop, get_or, sym, ap, ◌∙◌, arith, length-map, get_or-map, drop_more, drop_all, Cell, Byte, character_of, text_of_cells}
+use Rattle.trac_store.proofs.Imports.{◌≡◌, ℕ, ◌+◌, ◌-◌, ◌<◌, ◌≤◌, List, ◌∷◌, length, drop, get_or, sym, ap, ◌∙◌, arith, length-map, get_or-map, drop_more, drop_all, Cell, Byte, character_of, text_of_cells}
 use Rattle.trac_store.proofs.form_cells.is_text_back.Goals as goal
 
 -- one number more before those that are the same

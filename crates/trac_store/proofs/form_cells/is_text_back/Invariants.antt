@@ -1,4 +1,4 @@
-use Rattle.trac_store.proofs.Words.{◌≡◌, ◌≤◌, length, drop, text_of_cells}
+use Rattle.trac_store.proofs.Imports.{◌≡◌, ◌≤◌, length, drop, text_of_cells}
 use Rattle.trac_store.proofs.form_cells.is_text_back.Given as goal
 
 -- the characters from a place on are the same

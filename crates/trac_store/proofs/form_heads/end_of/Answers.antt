@@ -1,4 +1,4 @@
-use Rattle.trac_store.proofs.Words.{arith, forms_in}
+use Rattle.trac_store.proofs.Imports.{arith, forms_in}
 use Rattle.trac_store.proofs.Places.{Stands, stands}
 use Rattle.trac_store.proofs.form_heads.end_of.Goals as goal
 use Rattle.trac_store.proofs.form_heads.end_of.Goals.{Start}

@@ -1,4 +1,4 @@
-use Rattle.trac_store.proofs.Words.{◌≡◌, ◌+◌, ◌≤◌, length, ap, ◌∙◌, arith, length-map, length-between, seen, IsHeadAt, forms_in, head_at}
+use Rattle.trac_store.proofs.Imports.{◌≡◌, ◌+◌, ◌≤◌, length, ap, ◌∙◌, arith, length-map, length-between, seen, IsHeadAt, forms_in, head_at}
 use Rattle.trac_store.proofs.HeadCells.{number-in-part, head-in-part, is-head-at}
 use Rattle.trac_store.proofs.Places.{Stands, stands, head_cells}
 use Rattle.trac_store.proofs.form_heads.heads_of.Goals as goal

@@ -1,4 +1,4 @@
-use Rattle.trac_store.proofs.Words.{◌≡◌, ◌+◌, ap, ◌∙◌, arith, head_at}
+use Rattle.trac_store.proofs.Imports.{◌≡◌, ◌+◌, ap, ◌∙◌, arith, head_at}
 use Rattle.trac_store.proofs.HeadCells.{number-in-part}
 use Rattle.trac_store.proofs.form_heads.tested_heads.Goals as goal
 

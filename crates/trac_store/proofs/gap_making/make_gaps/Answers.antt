@@ -1,4 +1,4 @@
-use Rattle.trac_store.proofs.Words.{◌≡◌, ℕ, ◌+◌, ◌-◌, ◌≤◌, List, ◌++◌, length, take, drop, set, slice_range, refl, sym, ap, subst, ◌∙◌, arith, length-set, length-append, length-take-le, length-map, length-between, drop-set-lt, Cell, Gap, Lists, character_of, under, laid_text, segment_cells, text_cells_at, IsFirst, NonePasses}
+use Rattle.trac_store.proofs.Imports.{◌≡◌, ℕ, ◌+◌, ◌-◌, ◌≤◌, List, ◌++◌, length, take, drop, set, slice_range, refl, sym, ap, subst, ◌∙◌, arith, length-set, length-append, length-take-le, length-map, length-between, drop-set-lt, Cell, Gap, Lists, character_of, under, laid_text, segment_cells, text_cells_at, IsFirst, NonePasses}
 use Rattle.trac_store.proofs.Gaps.{moved-len, moved-rest, written-gap, written-end}
 use Rattle.trac_store.proofs.gap_making.make_gaps.Goals as goal
 use Rattle.trac_store.proofs.gap_making.make_gaps.Goals.{After-next_place}

@@ -1,4 +1,4 @@
-use Rattle.trac_store.proofs.Words.{◌≡◌, ◌-◌, ◌≤◌, ◌++◌, length, take, drop, slice_range, laid_text, segment_cells}
+use Rattle.trac_store.proofs.Imports.{◌≡◌, ◌-◌, ◌≤◌, ◌++◌, length, take, drop, slice_range, laid_text, segment_cells}
 use Rattle.trac_store.proofs.gap_making.make_gaps.Given as goal
 
 -- so many cells are read, and their gaps stand

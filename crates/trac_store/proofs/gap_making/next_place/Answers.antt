@@ -1,4 +1,4 @@
-use Rattle.trac_store.proofs.Words.{◌≡◌, ◌+◌, ◌-◌, None, length, drop, slice_range, Some, sym, ap, subst, ◌∙◌, arith, length-map, length-between, length-drop, seen, character_of, under, laid_text, HaveBorders, text_cells_at, IsFirst}
+use Rattle.trac_store.proofs.Imports.{◌≡◌, ◌+◌, ◌-◌, None, length, drop, slice_range, Some, sym, ap, subst, ◌∙◌, arith, length-map, length-between, length-drop, seen, character_of, under, laid_text, HaveBorders, text_cells_at, IsFirst}
 use Rattle.trac_store.proofs.Gaps.{begins-length}
 use Rattle.trac_store.proofs.LaidBorders.{borders-seen, laid-seen}
 use Rattle.trac_store.proofs.Searches.{first-seen}

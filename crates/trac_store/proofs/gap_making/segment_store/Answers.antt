@@ -1,4 +1,4 @@
-use Rattle.trac_store.proofs.Words.{◌≡◌, ◌+◌, ◌-◌, ◌++◌, List, length, map, take, drop, slice_range, sym, ap, subst, ◌∙◌, arith, append_assoc, nil_from_length, split_between, length-between, Cell, Lists, under, laid_text, HaveBorders, part_text, segment_cells, segmented_cells}
+use Rattle.trac_store.proofs.Imports.{◌≡◌, ◌+◌, ◌-◌, ◌++◌, List, length, map, take, drop, slice_range, sym, ap, subst, ◌∙◌, arith, append_assoc, nil_from_length, split_between, length-between, Cell, Lists, under, laid_text, HaveBorders, part_text, segment_cells, segmented_cells}
 use Rattle.trac_store.proofs.FlatLemmas.{length-part_text}
 use Rattle.trac_store.proofs.Segments.{segmented-some}
 use Rattle.trac_store.proofs.gap_making.segment_store.Goals as goal

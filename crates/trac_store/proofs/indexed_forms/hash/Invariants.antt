@@ -1,4 +1,4 @@
-use Rattle.trac_store.proofs.Words.{◌≡◌, ◌<◌, ◌≤◌, ◌^◌, length, drop, text_of_cells, mixed}
+use Rattle.trac_store.proofs.Imports.{◌≡◌, ◌<◌, ◌≤◌, ◌^◌, length, drop, text_of_cells, mixed}
 use Rattle.trac_store.proofs.indexed_forms.hash.Given as goal
 
 abbrev pub invariant-loop-left : goal.invariant-loop-left

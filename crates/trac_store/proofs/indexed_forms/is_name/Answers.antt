@@ -1,4 +1,4 @@
-use Rattle.trac_store.proofs.Words.{◌+◌, slice_range, arith, length-between}
+use Rattle.trac_store.proofs.Imports.{◌+◌, slice_range, arith, length-between}
 use Rattle.trac_store.proofs.Finding.{bytes-of-seen, seen-decides}
 use Rattle.trac_store.proofs.indexed_forms.is_name.Goals as goal
 

@@ -1,4 +1,4 @@
-use Rattle.trac_store.proofs.Words.{◌≡◌, ℕ, ◌<◌, false, map, seen, cell_at, slot, is_blank}
+use Rattle.trac_store.proofs.Imports.{◌≡◌, ℕ, ◌<◌, false, map, seen, cell_at, slot, is_blank}
 use Rattle.trac_store.proofs.indexed_forms.open_slot.Given as goal
 
 -- no slot that was looked at is blank

@@ -1,4 +1,4 @@
-use Rattle.trac_store.proofs.Words.{◌≡◌, ℕ, ◌+◌, ◌≤◌, ◌++◌, Bool, true, false, List, length, map, take, drop, slice_range, sym, ap, subst, ◌∙◌, arith, length-between, length-map, NoCall, Cell, Byte, Lists, OnTrue, HaveNumbers, filled, flat_text, filled_cells, under}
+use Rattle.trac_store.proofs.Imports.{◌≡◌, ℕ, ◌+◌, ◌≤◌, ◌++◌, Bool, true, false, List, length, map, take, drop, slice_range, sym, ap, subst, ◌∙◌, arith, length-between, length-map, NoCall, Cell, Byte, Lists, OnTrue, HaveNumbers, filled, flat_text, filled_cells, under}
 use Rattle.std.specs.Bool.{OnFalse}
 use Rattle.trac_store.proofs.FilledParts.{IsBegin, given-takes, filled-flat, filled-no_call, numbers-long, numbers-fewer, under-numbers, lifted-longer}
 use Rattle.trac_store.proofs.item_copies.fill_gaps.Goals as goal

@@ -1,4 +1,4 @@
-use Rattle.trac_store.proofs.Words.{All, slice_range, subst, rules, IsByte, texts_between}
+use Rattle.trac_store.proofs.Imports.{All, slice_range, subst, rules, IsByte, texts_between}
 use Rattle.trac_store.proofs.Filling.{plain-flat, plain-length}
 use Rattle.trac_store.proofs.item_copies.fill_items.Goals as goal
 use Rattle.trac_store.proofs.item_copies.fill_items.Goals.{Then-gap-items}

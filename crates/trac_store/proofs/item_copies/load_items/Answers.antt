@@ -1,4 +1,4 @@
-use Rattle.trac_store.proofs.Words.{◌≡◌, ◌+◌, ◌-◌, [], true, nat_le, length, used, slice_range, refl, arith, All-nil, IsByte}
+use Rattle.trac_store.proofs.Imports.{◌≡◌, ◌+◌, ◌-◌, [], true, nat_le, length, used, slice_range, refl, arith, All-nil, IsByte}
 use Rattle.trac_store.proofs.item_copies.load_items.Goals as goal
 
 pub returns-then-size-eq0 : goal.returns-then-size-eq0

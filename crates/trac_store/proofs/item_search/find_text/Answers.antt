@@ -1,4 +1,4 @@
-use Rattle.trac_store.proofs.Words.{◌++◌, map, take, drop, slice_range, ap, ◌∙◌, List, Cell, Lists, under}
+use Rattle.trac_store.proofs.Imports.{◌++◌, map, take, drop, slice_range, ap, ◌∙◌, List, Cell, Lists, under}
 use Rattle.trac_store.proofs.LaidBorders.{shown-borders, shown-text}
 use Rattle.trac_store.proofs.Searches.{first-seen}
 use Rattle.trac_store.proofs.item_search.find_text.Goals as goal

@@ -1,4 +1,4 @@
-use Rattle.trac_store.proofs.Words.{NonePasses, byte_cell_at}
+use Rattle.trac_store.proofs.Imports.{NonePasses, byte_cell_at}
 use Rattle.trac_store.proofs.item_search.first_character.Given as goal
 
 abbrev pub invariant-loop-i : goal.invariant-loop-i

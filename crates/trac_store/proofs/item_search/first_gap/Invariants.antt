@@ -1,4 +1,4 @@
-use Rattle.trac_store.proofs.Words.{NonePasses, gap_cell_at}
+use Rattle.trac_store.proofs.Imports.{NonePasses, gap_cell_at}
 use Rattle.trac_store.proofs.item_search.first_gap.Given as goal
 
 abbrev pub invariant-loop-i : goal.invariant-loop-i

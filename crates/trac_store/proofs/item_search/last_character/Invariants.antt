@@ -1,4 +1,4 @@
-use Rattle.trac_store.proofs.Words.{◌≡◌, ℕ, ◌<◌, ◌≤◌, false, byte_cell_at}
+use Rattle.trac_store.proofs.Imports.{◌≡◌, ℕ, ◌<◌, ◌≤◌, false, byte_cell_at}
 use Rattle.trac_store.proofs.item_search.last_character.Given as goal
 
 abbrev pub invariant-loop-end : goal.invariant-loop-end

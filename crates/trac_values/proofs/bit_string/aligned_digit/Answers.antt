@@ -1,4 +1,4 @@
-use Rattle.trac_values.proofs.Words.{◌≡◌, ◌+◌, ◌-◌, length, get_or, sym, ap, ◌∙◌, arith, is_octal, text_of_cells}
+use Rattle.trac_values.proofs.Imports.{◌≡◌, ◌+◌, ◌-◌, length, get_or, sym, ap, ◌∙◌, arith, is_octal, text_of_cells}
 use Rattle.trac_values.proofs.Texts.{length-text, read_at, read_passes, padded_within}
 use Rattle.trac_values.proofs.bit_string.aligned_digit.Goals as goal
 

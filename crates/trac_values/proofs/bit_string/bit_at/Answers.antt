@@ -1,4 +1,4 @@
-use Rattle.trac_values.proofs.Words.{◌/◌, length, sym, ◌∙◌, false, arith, get_or_past, le-ltb, is_octal, text_of_cells, bits_of_cells}
+use Rattle.trac_values.proofs.Imports.{◌/◌, length, sym, ◌∙◌, false, arith, get_or_past, le-ltb, is_octal, text_of_cells, bits_of_cells}
 use Rattle.trac_values.proofs.Texts.{length-text, read_at, read_passes}
 use Rattle.trac_values.proofs.OctalDigits.{length-bits_of}
 use Rattle.trac_values.proofs.DigitBits.{bit_read}

@@ -1,4 +1,4 @@
-use Rattle.trac_values.proofs.Words.{◌≡◌, ◌*◌, length, pos, ap, ◌∙◌, arith, flat_map, slice_get, int_rem_euclid, bits_of_digit, octal, rotated, number, text_of_cells, bits_of_cells}
+use Rattle.trac_values.proofs.Imports.{◌≡◌, ◌*◌, length, pos, ap, ◌∙◌, arith, flat_map, slice_get, int_rem_euclid, bits_of_digit, octal, rotated, number, text_of_cells, bits_of_cells}
 use Rattle.trac_values.proofs.Texts.{length-text}
 use Rattle.trac_values.proofs.OctalDigits.{length-bits_of}
 use Rattle.trac_values.proofs.Shifts.{rotation_same}

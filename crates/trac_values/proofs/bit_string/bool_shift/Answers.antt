@@ -1,4 +1,4 @@
-use Rattle.trac_values.proofs.Words.{ap, ◌∙◌, arith, flat_map, slice_get, bits_of_digit, octal, shifted, number, text_of_cells, bits_of_cells}
+use Rattle.trac_values.proofs.Imports.{ap, ◌∙◌, arith, flat_map, slice_get, bits_of_digit, octal, shifted, number, text_of_cells, bits_of_cells}
 use Rattle.trac_values.proofs.Texts.{length-text}
 use Rattle.trac_values.proofs.OctalDigits.{length-bits_of}
 use Rattle.trac_values.proofs.Shifts.{shift_same}

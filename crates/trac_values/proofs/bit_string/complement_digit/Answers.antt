@@ -1,4 +1,4 @@
-use Rattle.trac_values.proofs.Words.{sym, arith, is_octal, text_of_cells}
+use Rattle.trac_values.proofs.Imports.{sym, arith, is_octal, text_of_cells}
 use Rattle.trac_values.proofs.Texts.{length-text, read_at, read_passes}
 use Rattle.trac_values.proofs.DigitBits.{complement_at, complement_past}
 use Rattle.trac_values.proofs.bit_string.complement_digit.Goals as goal

@@ -1,4 +1,4 @@
-use Rattle.trac_values.proofs.Words.{◌≡◌, ◌+◌, ◌-◌, length, get_or, sym, ap, ◌∙◌, arith, is_octal, text_of_cells}
+use Rattle.trac_values.proofs.Imports.{◌≡◌, ◌+◌, ◌-◌, length, get_or, sym, ap, ◌∙◌, arith, is_octal, text_of_cells}
 use Rattle.trac_values.proofs.Texts.{length-text, read_at, read_passes}
 use Rattle.trac_values.proofs.DigitBits.{intersection_at, intersection_past}
 use Rattle.trac_values.proofs.bit_string.intersection_digit.Goals as goal

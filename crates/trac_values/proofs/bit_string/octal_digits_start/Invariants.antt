@@ -1,4 +1,4 @@
-use Rattle.trac_values.proofs.Words.{◌≡◌, length, ◌+◌, ◌≤◌, take, suffix_len, is_octal, text_of_cells}
+use Rattle.trac_values.proofs.Imports.{◌≡◌, length, ◌+◌, ◌≤◌, take, suffix_len, is_octal, text_of_cells}
 use Rattle.trac_values.proofs.bit_string.octal_digits_start.Given as goal
 
 -- the cells from start on are octal digits

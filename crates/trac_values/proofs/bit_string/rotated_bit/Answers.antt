@@ -1,4 +1,4 @@
-use Rattle.trac_values.proofs.Words.{◌*◌, ◌+◌, length, sym, ap, ◌∙◌, false, get_or, arith, mod-eq_of_lt, bits_of_cells}
+use Rattle.trac_values.proofs.Imports.{◌*◌, ◌+◌, length, sym, ap, ◌∙◌, false, get_or, arith, mod-eq_of_lt, bits_of_cells}
 use Rattle.trac_values.proofs.Shifts.{wrapped}
 use Rattle.trac_values.proofs.bit_string.rotated_bit.Goals as goal
 

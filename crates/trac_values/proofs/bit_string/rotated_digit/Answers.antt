@@ -1,4 +1,4 @@
-use Rattle.trac_values.proofs.Words.{◌≡◌, ◌*◌, ◌+◌, ◌%◌, ℕ, length, pos, false, get_or, sym, ap, ◌∙◌, Some, arith, ◌+ℤ◌, int_rem_euclid, bit_at, bits_of_cells}
+use Rattle.trac_values.proofs.Imports.{◌≡◌, ◌*◌, ◌+◌, ◌%◌, ℕ, length, pos, false, get_or, sym, ap, ◌∙◌, Some, arith, ◌+ℤ◌, int_rem_euclid, bit_at, bits_of_cells}
 use Rattle.trac_values.proofs.Texts.{length-text}
 use Rattle.trac_values.proofs.OctalDigits.{length-bits_of}
 use Rattle.trac_values.proofs.Shifts.{by_digit, by_past}

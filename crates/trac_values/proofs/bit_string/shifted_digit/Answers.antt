@@ -1,4 +1,4 @@
-use Rattle.trac_values.proofs.Words.{length, pos, sym, ap, ◌∙◌, Some, arith, ◌+ℤ◌, bit_at, bits_of_cells, signed}
+use Rattle.trac_values.proofs.Imports.{length, pos, sym, ap, ◌∙◌, Some, arith, ◌+ℤ◌, bit_at, bits_of_cells, signed}
 use Rattle.trac_values.proofs.Texts.{length-text}
 use Rattle.trac_values.proofs.OctalDigits.{length-bits_of}
 use Rattle.trac_values.proofs.Shifts.{by_digit, by_past}

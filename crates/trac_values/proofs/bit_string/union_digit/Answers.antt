@@ -1,4 +1,4 @@
-use Rattle.trac_values.proofs.Words.{sym, arith, text_of_cells}
+use Rattle.trac_values.proofs.Imports.{sym, arith, text_of_cells}
 use Rattle.trac_values.proofs.Texts.{length-text}
 use Rattle.trac_values.proofs.DigitBits.{union_at, union_past}
 use Rattle.trac_values.proofs.bit_string.union_digit.Goals as goal

@@ -1,4 +1,4 @@
-use Rattle.trac_values.proofs.Words.{◌≡◌, nat_cmp, text_of_cells, value_upto}
+use Rattle.trac_values.proofs.Imports.{◌≡◌, nat_cmp, text_of_cells, value_upto}
 use Rattle.trac_values.proofs.number.compare_digits.Given as goal
 
 -- the numbers up to the place are in this order

@@ -1,4 +1,4 @@
-use Rattle.trac_values.proofs.Words.{arith, length, ◌+◌, ◌-◌}
+use Rattle.trac_values.proofs.Imports.{arith, length, ◌+◌, ◌-◌}
 use Rattle.trac_values.proofs.Suffixes.{digit_at, value_upto_more}
 use Rattle.trac_values.proofs.number.digit_at.Goals as goal
 

@@ -1,4 +1,4 @@
-use Rattle.trac_values.proofs.Words.{ap, sym, ◌∙◌, arith, is_ascii_digit}
+use Rattle.trac_values.proofs.Imports.{ap, sym, ◌∙◌, arith, is_ascii_digit}
 use Rattle.trac_values.proofs.Suffixes.{suffix_more, suffix_stops}
 use Rattle.trac_values.proofs.number.digits_start.Goals as goal
 

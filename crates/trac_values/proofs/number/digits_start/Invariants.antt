@@ -1,4 +1,4 @@
-use Rattle.trac_values.proofs.Words.{◌≡◌, length, ◌+◌, ◌≤◌, take, suffix_len, is_ascii_digit, text_of_cells}
+use Rattle.trac_values.proofs.Imports.{◌≡◌, length, ◌+◌, ◌≤◌, take, suffix_len, is_ascii_digit, text_of_cells}
 use Rattle.trac_values.proofs.number.digits_start.Given as goal
 
 -- the cells from start on are digits

@@ -1,5 +1,5 @@
-use Rattle.trac_values.proofs.Words.{◌≡◌, ℕ, ◌+◌, ◌-◌, ◌*◌, ◌^◌, ◌<◌, ◌≤◌, List, ◌++◌, length, take, drop, Some, pos, sym, ap, ◌∙◌, arith, is_ascii_digit, slice_index, digits_value, take-add, take-map, drop-map, get_or-take, get_or-drop, length-map, length-take-le, length-drop, if_in_range, Cell}
-use Rattle.trac_values.proofs.Words.{character_of, text_of_cells, IsDecimal}
+use Rattle.trac_values.proofs.Imports.{◌≡◌, ℕ, ◌+◌, ◌-◌, ◌*◌, ◌^◌, ◌<◌, ◌≤◌, List, ◌++◌, length, take, drop, Some, pos, sym, ap, ◌∙◌, arith, is_ascii_digit, slice_index, digits_value, take-add, take-map, drop-map, get_or-take, get_or-drop, length-map, length-take-le, length-drop, if_in_range, Cell}
+use Rattle.trac_values.proofs.Imports.{character_of, text_of_cells, IsDecimal}
 use Rattle.trac_values.proofs.DigitsFromEnd.{value-append}
 use Rattle.trac_values.proofs.number.long_value.Goals as goal
 

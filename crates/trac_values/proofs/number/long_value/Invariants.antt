@@ -1,4 +1,4 @@
-use Rattle.trac_values.proofs.Words.{◌≡◌, ◌-◌, ◌≤◌, Some, pos, length, take, digits_value, if_in_range, text_of_cells}
+use Rattle.trac_values.proofs.Imports.{◌≡◌, ◌-◌, ◌≤◌, Some, pos, length, take, digits_value, if_in_range, text_of_cells}
 use Rattle.trac_values.proofs.number.long_value.Given as goal
 
 -- the value of the digits so far

@@ -1,4 +1,4 @@
-use Rattle.trac_values.proofs.Words.{◌≡◌, ◌<◌, ◌^◌, length, true, sym, ap, ◌∙◌, refl, arith, rules, length-map, get_or-map, take_all, digits_value, is_ascii_digit, Cell, Byte, character_of, text_of_cells, IsByte}
+use Rattle.trac_values.proofs.Imports.{◌≡◌, ◌<◌, ◌^◌, length, true, sym, ap, ◌∙◌, refl, arith, rules, length-map, get_or-map, take_all, digits_value, is_ascii_digit, Cell, Byte, character_of, text_of_cells, IsByte}
 use Rattle.trac_values.proofs.DigitsFromEnd.{fits_before}
 use Rattle.trac_values.proofs.Suffixes.{digit_at, value_more, within_text}
 use Rattle.trac_values.proofs.number.part_value.Goals as goal

@@ -1,4 +1,4 @@
-use Rattle.trac_values.proofs.Words.{ap, sym, ◌∙◌, ◌≡◌, ◌+◌, ◌*◌, ◌-◌, ◌%◌, take, digits_value, text_of_cells}
+use Rattle.trac_values.proofs.Imports.{ap, sym, ◌∙◌, ◌≡◌, ◌+◌, ◌*◌, ◌-◌, ◌%◌, take, digits_value, text_of_cells}
 use Rattle.trac_values.proofs.Suffixes.{digit_at, value_more}
 use Rattle.trac_values.proofs.LongNumbers.{rest_more}
 use Rattle.trac_values.proofs.number.remainder_of.Goals as goal

@@ -1,4 +1,4 @@
-use Rattle.trac_values.proofs.Words.{◌≡◌, ◌%◌, take, digits_value, text_of_cells}
+use Rattle.trac_values.proofs.Imports.{◌≡◌, ◌%◌, take, digits_value, text_of_cells}
 use Rattle.trac_values.proofs.number.remainder_of.Given as goal
 
 -- what is left of the value of the digits so far

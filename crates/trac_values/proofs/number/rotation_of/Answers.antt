@@ -1,4 +1,4 @@
-use Rattle.trac_values.proofs.Words.{arith, sym, ◌∙◌, text_of_cells}
+use Rattle.trac_values.proofs.Imports.{arith, sym, ◌∙◌, text_of_cells}
 use Rattle.trac_values.proofs.LongNumbers.{rotation_minus, rotation_plain, rotation_none}
 use Rattle.trac_values.proofs.number.rotation_of.Goals as goal
 use Rattle.trac_values.proofs.number.rotation_of.Goals.{else-rest-gt0-via-then-rest-gt0+else-ends_with, else-rest-gt0-via-else-rest-gt0}

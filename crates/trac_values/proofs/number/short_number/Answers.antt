@@ -1,4 +1,4 @@
-use Rattle.trac_values.proofs.Words.{◌≡◌, ◌-◌, ◌*◌, ◌+◌, ◌<◌, ◌^◌, length, drop, sym, ap, ◌∙◌, subst, arith, get_or, length-map, get_or-map, is_ascii_digit, digit_value, digits_value, Byte, character_of, text_of_cells}
+use Rattle.trac_values.proofs.Imports.{◌≡◌, ◌-◌, ◌*◌, ◌+◌, ◌<◌, ◌^◌, length, drop, sym, ap, ◌∙◌, subst, arith, get_or, length-map, get_or-map, is_ascii_digit, digit_value, digits_value, Byte, character_of, text_of_cells}
 use Rattle.trac_values.proofs.DigitsFromEnd.{value_before, fits_before}
 use Rattle.trac_values.proofs.Suffixes.{digit_facts, suffix_more, suffix_stops}
 use Rattle.trac_values.proofs.SuffixCells.{place}

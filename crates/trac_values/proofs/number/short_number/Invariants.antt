@@ -1,4 +1,4 @@
-use Rattle.trac_values.proofs.Words.{◌≡◌, length, ◌+◌, ◌-◌, ◌<◌, ◌≤◌, ◌^◌, take, drop, suffix_len, is_ascii_digit, digits_value, text_of_cells}
+use Rattle.trac_values.proofs.Imports.{◌≡◌, length, ◌+◌, ◌-◌, ◌<◌, ◌≤◌, ◌^◌, take, drop, suffix_len, is_ascii_digit, digits_value, text_of_cells}
 use Rattle.trac_values.proofs.number.short_number.Given as goal
 
 -- the cells from start on are digits, and the value is theirs

@@ -1,4 +1,4 @@
-use Rattle.trac_values.proofs.Words.{◌≡◌, sym, subst, length, get_or, true, ◌<◌, ℕ, is_ascii_digit, text_of_cells}
+use Rattle.trac_values.proofs.Imports.{◌≡◌, sym, subst, length, get_or, true, ◌<◌, ℕ, is_ascii_digit, text_of_cells}
 use Rattle.trac_values.proofs.SuffixCells.{back_passes}
 use Rattle.trac_values.proofs.number.split_digits.Goals as goal
 

@@ -1,4 +1,4 @@
-use Rattle.trac_values.proofs.Words.{ap, sym, ◌∙◌, ◌≡◌, ◌+◌, ◌*◌, ◌-◌, min, take, digits_value, text_of_cells}
+use Rattle.trac_values.proofs.Imports.{ap, sym, ◌∙◌, ◌≡◌, ◌+◌, ◌*◌, ◌-◌, min, take, digits_value, text_of_cells}
 use Rattle.trac_values.proofs.Suffixes.{digit_at, value_more}
 use Rattle.trac_values.proofs.LongNumbers.{limited_more}
 use Rattle.trac_values.proofs.number.value_up_to.Goals as goal

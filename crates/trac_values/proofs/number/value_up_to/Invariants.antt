@@ -1,4 +1,4 @@
-use Rattle.trac_values.proofs.Words.{◌≡◌, min, take, digits_value, text_of_cells}
+use Rattle.trac_values.proofs.Imports.{◌≡◌, min, take, digits_value, text_of_cells}
 use Rattle.trac_values.proofs.number.value_up_to.Given as goal
 
 -- the value of the digits so far, up to the limit

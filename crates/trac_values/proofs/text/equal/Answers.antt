@@ -1,4 +1,4 @@
-use Rattle.trac_values.proofs.Words.{get_or, arith, sym, ap, ◌∙◌, false≢true}
+use Rattle.trac_values.proofs.Imports.{get_or, arith, sym, ap, ◌∙◌, false≢true}
 use Rattle.trac_values.proofs.Texts.{read, same_more}
 use Rattle.trac_values.proofs.text.equal.Goals as goal
 

@@ -1,4 +1,4 @@
-use Rattle.trac_values.proofs.Words.{◌≡◌, take, text_of_cells}
+use Rattle.trac_values.proofs.Imports.{◌≡◌, take, text_of_cells}
 use Rattle.trac_values.proofs.text.equal.Given as goal
 
 -- the texts are the same so far

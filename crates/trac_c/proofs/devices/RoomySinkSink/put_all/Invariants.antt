@@ -1,4 +1,4 @@
-use Rattle.trac_c.proofs.Words.{◌≡◌, ◌++◌, length, take}
+use Rattle.trac_c.proofs.Imports.{◌≡◌, ◌++◌, length, take}
 use Rattle.trac_c.specs.Turns.{written_to}
 use Rattle.trac_c.proofs.devices.RoomySinkSink.put_all.Given as goal
 

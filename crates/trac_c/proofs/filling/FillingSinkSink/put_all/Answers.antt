@@ -1,4 +1,4 @@
-use Rattle.trac_c.proofs.Words.{refl}
+use Rattle.trac_c.proofs.Imports.{refl}
 use Rattle.trac_devices.proofs.PutTexts.{breaks-text}
 use Rattle.trac_c.proofs.filling.FillingSinkSink.put_all.Goals as goal
 

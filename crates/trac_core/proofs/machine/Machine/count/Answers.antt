@@ -1,4 +1,4 @@
-use Rattle.trac_core.proofs.Words.{arith}
+use Rattle.trac_core.proofs.Imports.{arith}
 use Rattle.trac_functions.proofs.FlatLemmas.{size-used}
 use Rattle.trac_core.proofs.machine.Machine.count.Goals as goal
 

@@ -1,4 +1,4 @@
-use Rattle.trac_core.proofs.Words.{◌∙◌, sym, ap, slice_range, neutral_of}
+use Rattle.trac_core.proofs.Imports.{◌∙◌, sym, ap, slice_range, neutral_of}
 use Rattle.trac_core.proofs.RuleRows.{neutral_of-seen, whole-range}
 use Rattle.trac_core.proofs.machine.Machine.neutral.Goals as goal
 

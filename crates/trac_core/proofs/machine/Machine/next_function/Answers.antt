@@ -1,4 +1,4 @@
-use Rattle.trac_core.proofs.Words.{◌≡◌, true, false, not, ◌∙◌, ap, arith, is_some, nat_lt}
+use Rattle.trac_core.proofs.Imports.{◌≡◌, true, false, not, ◌∙◌, ap, arith, is_some, nat_lt}
 use Rattle.trac_core.proofs.machine.Machine.next_function.Goals as goal
 
 pub returns-then-self : goal.returns-then-self

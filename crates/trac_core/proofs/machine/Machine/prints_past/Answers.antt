@@ -1,4 +1,4 @@
-use Rattle.trac_core.proofs.Words.{◌≡◌, ◌≤◌, ◌<◌, length, ap, sym, ◌∙◌, subst, arith, Text, Input, MatchOption, memory_of}
+use Rattle.trac_core.proofs.Imports.{◌≡◌, ◌≤◌, ◌<◌, length, ap, sym, ◌∙◌, subst, arith, Text, Input, MatchOption, memory_of}
 use Rattle.trac_core.proofs.Printed.{next-printing, next-quiet}
 use Rattle.trac_core.specs.Session.{next_printed, step_prints}
 use Rattle.trac_core.proofs.machine.Machine.prints_past.Goals as goal

@@ -1,4 +1,4 @@
-use Rattle.trac_core.proofs.Words.{refl, ap, MachineState}
+use Rattle.trac_core.proofs.Imports.{refl, ap, MachineState}
 use Rattle.trac_core.proofs.Reported.{reports-made}
 use Rattle.trac_core.proofs.machine.Machine.run.Goals as goal
 

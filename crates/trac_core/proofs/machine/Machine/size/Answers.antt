@@ -1,4 +1,4 @@
-use Rattle.trac_core.proofs.Words.{◌∙◌, sym}
+use Rattle.trac_core.proofs.Imports.{◌∙◌, sym}
 use Rattle.trac_functions.proofs.FlatLemmas.{size-used}
 use Rattle.trac_core.proofs.machine.Machine.size.Goals as goal
 

@@ -1,4 +1,4 @@
-use Rattle.trac_core.proofs.Words.{◌<◌, ◌≤◌, ◌+◌, [], length, refl, arith, sym, ap, subst, Contents, used, memory_of, MachineState}
+use Rattle.trac_core.proofs.Imports.{◌<◌, ◌≤◌, ◌+◌, [], length, refl, arith, sym, ap, subst, Contents, used, memory_of, MachineState}
 use Rattle.trac_functions.proofs.FlatLemmas.{size-used}
 use Rattle.trac_core.proofs.StepsInRow.{tried-passed}
 use Rattle.trac_core.proofs.machine.Machine.step.Goals as goal

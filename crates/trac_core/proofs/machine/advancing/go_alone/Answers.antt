@@ -1,4 +1,4 @@
-use Rattle.trac_core.proofs.Words.{◌≡◌, ◌⊎◌, ◌≤◌, ◌+◌, ◌-◌, cells, AsksFor, refl, sym, ap, ◌∙◌, subst, arith, inl, inr, None, Some, length-drop, Contents, memory_of, TriedAlone, NeedsMore, GoesAlone, running}
+use Rattle.trac_core.proofs.Imports.{◌≡◌, ◌⊎◌, ◌≤◌, ◌+◌, ◌-◌, cells, AsksFor, refl, sym, ap, ◌∙◌, subst, arith, inl, inr, None, Some, length-drop, Contents, memory_of, TriedAlone, NeedsMore, GoesAlone, running}
 use Rattle.trac_core.specs.StepsInRow.{idling_begun}
 use Rattle.trac_core.proofs.RunningOn.{need-fits, need-counted}
 use Rattle.trac_core.proofs.Advancing.{counters_after, alone-run, alone-step, alone-idling, alone-stays, alone-ends, least-of}

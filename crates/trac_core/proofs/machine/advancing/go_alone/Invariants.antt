@@ -1,4 +1,4 @@
-use Rattle.trac_core.proofs.Words.{◌≡◌, ◌≤◌, ◌+◌, ◌-◌, ◌⊎◌, IsSound, used, IsPlainFrom, running, GoesAlone}
+use Rattle.trac_core.proofs.Imports.{◌≡◌, ◌≤◌, ◌+◌, ◌-◌, ◌⊎◌, IsSound, used, IsPlainFrom, running, GoesAlone}
 use Rattle.trac_core.proofs.Advancing.{counters_after}
 use Rattle.trac_core.proofs.machine.advancing.go_alone.Given as goal
 

@@ -1,4 +1,4 @@
-use Rattle.trac_core.proofs.Words.{◌≡◌, ℕ, Option, None, Some, MatchOption, slice_get, sym, IsLastCall, NoCall, text_of_cells, Contents, memory_of, performs}
+use Rattle.trac_core.proofs.Imports.{◌≡◌, ℕ, Option, None, Some, MatchOption, slice_get, sym, IsLastCall, NoCall, text_of_cells, Contents, memory_of, performs}
 use Rattle.trac_core.proofs.Performed.{performs-other, performs-none}
 use Rattle.trac_core.proofs.machine.closing.closed_call.Goals as goal
 

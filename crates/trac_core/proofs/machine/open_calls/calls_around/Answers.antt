@@ -1,4 +1,4 @@
-use Rattle.trac_core.proofs.Words.{◌≡◌, ap, arith, length, take, neutral_of}
+use Rattle.trac_core.proofs.Imports.{◌≡◌, ap, arith, length, take, neutral_of}
 use Rattle.trac_functions.proofs.FlatLemmas.{calls-none}
 use Rattle.trac_core.proofs.OpenCalls.{counted-around}
 use Rattle.trac_core.proofs.machine.open_calls.calls_around.Goals as goal

@@ -1,4 +1,4 @@
-use Rattle.trac_core.proofs.Words.{◌≡◌, ◌+◌, ◌≤◌, length, take, neutral_of}
+use Rattle.trac_core.proofs.Imports.{◌≡◌, ◌+◌, ◌≤◌, length, take, neutral_of}
 use Rattle.trac_space.specs.Cells.{IsCallAt}
 use Rattle.trac_core.proofs.machine.open_calls.calls_around.Given as goal
 

@@ -1,4 +1,4 @@
-use Rattle.trac_core.proofs.Words.{◌≡◌, ◌-◌, ◌∙◌, ap, sym, arith}
+use Rattle.trac_core.proofs.Imports.{◌≡◌, ◌-◌, ◌∙◌, ap, sym, arith}
 use Rattle.trac_core.proofs.OpenCalls.{mark-last, mark-none, mark-outside, mark-further, mark_from}
 use Rattle.trac_core.proofs.machine.open_calls.mark_of.Goals as goal
 

@@ -1,4 +1,4 @@
-use Rattle.trac_core.proofs.Words.{◌≡◌, ◌-◌, neutral_of}
+use Rattle.trac_core.proofs.Imports.{◌≡◌, ◌-◌, neutral_of}
 use Rattle.trac_space.specs.Cells.{IsCallAt}
 use Rattle.trac_core.specs.OpenCalls.{mark_of}
 use Rattle.trac_core.proofs.OpenCalls.{mark_from}

@@ -1,4 +1,4 @@
-use Rattle.trac_core.proofs.Words.{◌∙◌, sym, ap, seen}
+use Rattle.trac_core.proofs.Imports.{◌∙◌, sym, ap, seen}
 use Rattle.std.specs.Option.{option_map}
 use Rattle.trac_core.proofs.OpenCalls.{mode-none}
 use Rattle.trac_core.proofs.machine.open_calls.mode_at.Goals as goal

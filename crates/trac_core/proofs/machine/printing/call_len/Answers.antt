@@ -1,4 +1,4 @@
-use Rattle.trac_core.proofs.Words.{Some, length, ap, sym, ◌∙◌, form_named, arguments_at, texts, world, function_at, display}
+use Rattle.trac_core.proofs.Imports.{Some, length, ap, sym, ◌∙◌, form_named, arguments_at, texts, world, function_at, display}
 use Rattle.trac_core.proofs.PrintCalls.{argument-one}
 use Rattle.trac_functions.proofs.ArgumentLemmas.{part-long}
 use Rattle.trac_core.proofs.Printed.{string-prints, form-prints, other-prints}

@@ -1,4 +1,4 @@
-use Rattle.trac_core.proofs.Words.{◌≤◌, ◌∙◌, length, arith, world, function_at}
+use Rattle.trac_core.proofs.Imports.{◌≤◌, ◌∙◌, length, arith, world, function_at}
 use Rattle.trac_core.proofs.Printed.{prints-no-more}
 use Rattle.std.proofs.lemmas.Grind.{common_steps}
 use Rattle.trac_core.proofs.machine.printing.call_past.Goals as goal

@@ -1,4 +1,4 @@
-use Rattle.trac_core.proofs.Words.{length, ap, sym, ◌∙◌, show_form, Contents, form_at, part_text, display}
+use Rattle.trac_core.proofs.Imports.{length, ap, sym, ◌∙◌, show_form, Contents, form_at, part_text, display}
 use Rattle.trac_forms.proofs.DistinctForms.{form_named-at, form_named-none}
 use Rattle.trac_core.proofs.machine.printing.named_len.Goals as goal
 

@@ -1,4 +1,4 @@
-use Rattle.trac_core.proofs.Words.{ap, sym, ◌∙◌, length, memory_of}
+use Rattle.trac_core.proofs.Imports.{ap, sym, ◌∙◌, length, memory_of}
 use Rattle.trac_core.proofs.Printed.{step-prints-none, step-prints-call}
 use Rattle.trac_core.proofs.machine.printing.printed_len.Goals as goal
 

@@ -1,4 +1,4 @@
-use Rattle.trac_core.proofs.Words.{◌≡◌, ◌<◌, ◌≤◌, ap, sym, ◌∙◌, subst, length, memory_of, arith, Text, Input, MatchOption}
+use Rattle.trac_core.proofs.Imports.{◌≡◌, ◌<◌, ◌≤◌, ap, sym, ◌∙◌, subst, length, memory_of, arith, Text, Input, MatchOption}
 use Rattle.trac_core.proofs.Performed.{performs-innermost}
 use Rattle.trac_core.proofs.Printed.{step-prints-none, step-prints-call}
 use Rattle.trac_core.proofs.machine.printing.printed_past.Goals as goal

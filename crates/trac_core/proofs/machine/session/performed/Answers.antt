@@ -1,4 +1,4 @@
-use Rattle.trac_core.proofs.Words.{◌∙◌, sym}
+use Rattle.trac_core.proofs.Imports.{◌∙◌, sym}
 use Rattle.trac_core.proofs.Performed.{performs-innermost}
 use Rattle.trac_core.proofs.machine.session.performed.Goals as goal
 

@@ -1,6 +1,6 @@
 use Rattle.std.proofs.lemmas.Grind.{common_steps}
 use Rattle.std.proofs.lemmas.List.{length-map}
-use Rattle.trac_core.proofs.Words.{character_of, ◌≡◌, ◌+◌, ◌-◌, take, length, All-take, All-drop, drop, subst, sym, ◌∙◌, All, None, Some, protected, IsByte, arith, text_of_cells}
+use Rattle.trac_core.proofs.Imports.{character_of, ◌≡◌, ◌+◌, ◌-◌, take, length, All-take, All-drop, drop, subst, sym, ◌∙◌, All, None, Some, protected, IsByte, arith, text_of_cells}
 use Rattle.trac_functions.proofs.ArgumentLemmas.{bytes-seen}
 use Rattle.trac_core.proofs.RuleRows.{dropped-other, dropped-parenthesis}
 use Rattle.trac_core.proofs.Scanning.{text-after}

@@ -1,5 +1,5 @@
 use Rattle.std.proofs.lemmas.List.{take_all}
-use Rattle.trac_core.proofs.Words.{◌≡◌, ◌-◌, length, drop, true, false, ap, sym, ◌∙◌, arith, rule, text_of_cells, length-drop}
+use Rattle.trac_core.proofs.Imports.{◌≡◌, ◌-◌, length, drop, true, false, ap, sym, ◌∙◌, arith, rule, text_of_cells, length-drop}
 use Rattle.trac_core.specs.View.{row_of, stops_before, steps_before_call, taken}
 use Rattle.trac_core.proofs.Scanning.{text-from}
 use Rattle.trac_core.proofs.RuleRows.{steps-end, steps-more, steps-none}

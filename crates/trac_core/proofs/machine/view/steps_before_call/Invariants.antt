@@ -1,4 +1,4 @@
-use Rattle.trac_core.proofs.Words.{◌≡◌, ◌+◌, ◌-◌, ◌≤◌, drop, length, text_of_cells}
+use Rattle.trac_core.proofs.Imports.{◌≡◌, ◌+◌, ◌-◌, ◌≤◌, drop, length, text_of_cells}
 use Rattle.trac_core.specs.View.{steps_before_call}
 use Rattle.trac_core.proofs.machine.view.steps_before_call.Given as goal
 

@@ -1,5 +1,5 @@
 use Rattle.std.proofs.lemmas.List.{length-map, take_all}
-use Rattle.trac_core.proofs.Words.{◌≡◌, ◌+◌, ◌-◌, length, drop, take, All, All-drop, None, Some, ap, sym, subst, ◌∙◌, arith, protected, IsByte, character_of, text_of_cells, length-drop}
+use Rattle.trac_core.proofs.Imports.{◌≡◌, ◌+◌, ◌-◌, length, drop, take, All, All-drop, None, Some, ap, sym, subst, ◌∙◌, arith, protected, IsByte, character_of, text_of_cells, length-drop}
 use Rattle.std.proofs.Math.Seq.{length-take-le}
 use Rattle.trac_core.specs.View.{taken_in_row}
 use Rattle.trac_core.proofs.Scanning.{text-from}

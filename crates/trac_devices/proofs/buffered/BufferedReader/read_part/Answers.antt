@@ -1,4 +1,4 @@
-use Rattle.trac_devices.proofs.Words.{◌≡◌, ◌∙◌, ◌+◌, ◌++◌, [], ap, take, drop, length, sym, subst, arith, take_at, length-take, length-append, length-drop, slice_range, Consumes, Keeps, IsAtEnd, unread}
+use Rattle.trac_devices.proofs.Imports.{◌≡◌, ◌∙◌, ◌+◌, ◌++◌, [], ap, take, drop, length, sym, subst, arith, take_at, length-take, length-append, length-drop, slice_range, Consumes, Keeps, IsAtEnd, unread}
 use Rattle.trac_devices.proofs.Bytes.{at_end, consumes_front, consumes_kept, part_split}
 use Rattle.trac_devices.proofs.buffered.BufferedReader.read_part.Goals as goal
 

@@ -1,4 +1,4 @@
-use Rattle.trac_devices.proofs.Words.{◌+◌, ◌≤◌, ap, length, arith, length-between}
+use Rattle.trac_devices.proofs.Imports.{◌+◌, ◌≤◌, ap, length, arith, length-between}
 use Rattle.trac_devices.proofs.Bytes.{input_skipped}
 use Rattle.trac_devices.proofs.buffered.BufferedReader.skip.Goals as goal
 

@@ -1,4 +1,4 @@
-use Rattle.trac_devices.proofs.Words.{◌≡◌, ◌∙◌, ◌+◌, ◌∷◌, ◌++◌, [], ap, sym, take, arith, get_or, set, slice_range}
+use Rattle.trac_devices.proofs.Imports.{◌≡◌, ◌∙◌, ◌+◌, ◌∷◌, ◌++◌, [], ap, sym, take, arith, get_or, set, slice_range}
 use Rattle.trac_devices.proofs.Bytes.{consumes_front, one_given, part_first}
 use Rattle.trac_devices.proofs.buffered.BufferedReaderRead.read.Goals as goal
 

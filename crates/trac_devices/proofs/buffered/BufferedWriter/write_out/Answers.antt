@@ -1,4 +1,4 @@
-use Rattle.trac_devices.proofs.Words.{◌-◌, ◌<◌, ◌++◌, ◌∙◌, ap, sym, take, drop, length, refl, subst, arith, length-take, slice_range, OnErr, take-append-drop}
+use Rattle.trac_devices.proofs.Imports.{◌-◌, ◌<◌, ◌++◌, ◌∙◌, ap, sym, take, drop, length, refl, subst, arith, length-take, slice_range, OnErr, take-append-drop}
 use Rattle.trac_devices.proofs.Bytes.{keeps_passed, on_err, part_dropped}
 use Rattle.trac_devices.proofs.buffered.BufferedWriter.write_out.Goals as goal
 

@@ -1,4 +1,4 @@
-use Rattle.trac_devices.proofs.Words.{◌≡◌, take, length, sym, subst, arith, length-take, slice_range, Keeps, accepted}
+use Rattle.trac_devices.proofs.Imports.{◌≡◌, take, length, sym, subst, arith, length-take, slice_range, Keeps, accepted}
 use Rattle.trac_devices.proofs.Bytes.{appends_behind, appends_kept, part_appended}
 use Rattle.trac_devices.proofs.buffered.BufferedWriter.write_part.Goals as goal
 

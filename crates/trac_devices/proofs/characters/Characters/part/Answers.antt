@@ -1,4 +1,4 @@
-use Rattle.trac_devices.proofs.Words.{◌-◌, take, drop, sym, ap, ◌∙◌, take-map, drop-map, character_of}
+use Rattle.trac_devices.proofs.Imports.{◌-◌, take, drop, sym, ap, ◌∙◌, take-map, drop-map, character_of}
 use Rattle.trac_devices.proofs.characters.Characters.part.Goals as goal
 
 pub returns : goal.returns

@@ -1,4 +1,4 @@
-use Rattle.trac_devices.proofs.Words.{◌≡◌, ◌++◌, take}
+use Rattle.trac_devices.proofs.Imports.{◌≡◌, ◌++◌, take}
 use Rattle.trac_devices.proofs.device.Sink.put_all.Given as goal
 
 -- the characters so far were written

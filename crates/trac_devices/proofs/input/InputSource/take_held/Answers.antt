@@ -1,4 +1,4 @@
-use Rattle.trac_devices.proofs.Words.{take, refl, subst, sym, unread, IfTells}
+use Rattle.trac_devices.proofs.Imports.{take, refl, subst, sym, unread, IfTells}
 use Rattle.trac_devices.proofs.Bytes.{taken_known}
 use Rattle.trac_devices.proofs.input.InputSource.take_held.Goals as goal
 

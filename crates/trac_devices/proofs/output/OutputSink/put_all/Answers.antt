@@ -1,4 +1,4 @@
-use Rattle.trac_devices.proofs.Words.{◌-◌, ◌≤◌, ◌++◌, length, take, drop, sym, ap, subst, ◌∙◌, arith, take-add, length-drop, Appends, Appends-trans, take-append-drop, IsSome, accepted}
+use Rattle.trac_devices.proofs.Imports.{◌-◌, ◌≤◌, ◌++◌, length, take, drop, sym, ap, subst, ◌∙◌, arith, take-add, length-drop, Appends, Appends-trans, take-append-drop, IsSome, accepted}
 use Rattle.trac_devices.proofs.Bytes.{appended_known, rest_is}
 use Rattle.trac_devices.proofs.output.OutputSink.put_all.Goals as goal
 

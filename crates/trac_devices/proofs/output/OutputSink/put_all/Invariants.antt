@@ -1,4 +1,4 @@
-use Rattle.trac_devices.proofs.Words.{◌≡◌, ◌≤◌, ◌-◌, take, length, Appends, accepted}
+use Rattle.trac_devices.proofs.Imports.{◌≡◌, ◌≤◌, ◌-◌, take, length, Appends, accepted}
 use Rattle.trac_devices.proofs.output.OutputSink.put_all.Given as goal
 
 -- the characters so far were taken

@@ -1,4 +1,4 @@
-use Rattle.trac_events.proofs.Words.{◌≡◌, drop, behind_text}
+use Rattle.trac_events.proofs.Imports.{◌≡◌, drop, behind_text}
 use Rattle.trac_events.proofs.place.Place.behind_bytes.Given as goal
 
 -- the bytes that are left lead from here to the place wanted

@@ -1,4 +1,4 @@
-use Rattle.trac_events.proofs.Words.{◌≡◌, drop, text_of_cells, behind_text}
+use Rattle.trac_events.proofs.Imports.{◌≡◌, drop, text_of_cells, behind_text}
 use Rattle.trac_events.proofs.place.Place.behind_cells.Given as goal
 
 -- the cells that are left lead from here to the place wanted

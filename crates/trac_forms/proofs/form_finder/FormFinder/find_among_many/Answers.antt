@@ -1,4 +1,4 @@
-use Rattle.trac_forms.proofs.Words.{map, seen, text_of_cells, forms_in, length, sym, ap, ◌∙◌, Contents}
+use Rattle.trac_forms.proofs.Imports.{map, seen, text_of_cells, forms_in, length, sym, ap, ◌∙◌, Contents}
 use Rattle.trac_store.proofs.DistinctForms.{found-round}
 use Rattle.trac_forms.proofs.form_finder.FormFinder.find_among_many.Goals as goal
 

@@ -1,4 +1,4 @@
-use Rattle.trac_forms.proofs.Words.{ap, length, arith}
+use Rattle.trac_forms.proofs.Imports.{ap, length, arith}
 use Rattle.trac_forms.proofs.ListedForms.{first-listed}
 use Rattle.trac_forms.proofs.listed.FormsIterator.next.Goals as goal
 

@@ -1,4 +1,4 @@
-use Rattle.trac_forms.proofs.Words.{◌≡◌, ◌+◌, ◌++◌, ◌∷◌, [], ◌∙◌, List, length, take, sym, ap, subst, arith, length_push, take_at, sum_by_push, Form, form_cells, Lists, new_form, forms_in, start_of, flat_forms, IsStored, IsIndexed, index-kept, forms_in-flat, count-le, length-flat, length-new_form}
+use Rattle.trac_forms.proofs.Imports.{◌≡◌, ◌+◌, ◌++◌, ◌∷◌, [], ◌∙◌, List, length, take, sym, ap, subst, arith, length_push, take_at, sum_by_push, Form, form_cells, Lists, new_form, forms_in, start_of, flat_forms, IsStored, IsIndexed, index-kept, forms_in-flat, count-le, length-flat, length-new_form}
 use Rattle.trac_forms.proofs.Strings.{used-stored, shown-restored}
 use Rattle.trac_forms.proofs.StoreChanges.{added, added-stored}
 use Rattle.trac_forms.proofs.work.Work.append.Goals as goal

@@ -1,4 +1,4 @@
-use Rattle.trac_forms.proofs.Words.{arith, AreItems, items}
+use Rattle.trac_forms.proofs.Imports.{arith, AreItems, items}
 use Rattle.trac_forms.proofs.work.Work.called_place.Goals as goal
 use Rattle.trac_forms.proofs.work.Work.called_place.Goals.{After-heads_of-heads}
 

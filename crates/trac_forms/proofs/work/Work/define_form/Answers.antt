@@ -1,4 +1,4 @@
-use Rattle.trac_forms.proofs.Words.{refl, arith, false≢true, part_text, forms_in, IsSound, NoneNamed-after, cells-without}
+use Rattle.trac_forms.proofs.Imports.{refl, arith, false≢true, part_text, forms_in, IsSound, NoneNamed-after, cells-without}
 use Rattle.trac_forms.proofs.Strings.{used-stored}
 use Rattle.trac_forms.proofs.work.Work.define_form.Goals as goal
 

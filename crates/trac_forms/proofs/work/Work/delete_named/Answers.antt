@@ -1,4 +1,4 @@
-use Rattle.trac_forms.proofs.Words.{texts_between}
+use Rattle.trac_forms.proofs.Imports.{texts_between}
 use Rattle.trac_forms.proofs.Removed.{formed, none-marked, marks-forms, marks-count, removed-shown, removed-stored}
 use Rattle.trac_forms.proofs.work.Work.delete_named.Goals as goal
 

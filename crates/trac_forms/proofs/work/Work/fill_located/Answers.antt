@@ -1,4 +1,4 @@
-use Rattle.trac_forms.proofs.Words.{◌≡◌, map, slice_range, filled_body, shown, called_part, item_of, forms_in}
+use Rattle.trac_forms.proofs.Imports.{◌≡◌, map, slice_range, filled_body, shown, called_part, item_of, forms_in}
 use Rattle.trac_forms.proofs.Strings.{used-stored, appended-or-kept, shown-appended}
 use Rattle.trac_forms.proofs.work.Work.fill_located.Goals as goal
 use Rattle.trac_forms.proofs.work.Work.fill_located.Goals.{After-called_place-items}

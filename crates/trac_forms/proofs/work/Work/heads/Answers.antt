@@ -1,4 +1,4 @@
-use Rattle.trac_forms.proofs.Words.{arith, forms_in, pointer-within}
+use Rattle.trac_forms.proofs.Imports.{arith, forms_in, pointer-within}
 use Rattle.trac_forms.proofs.Strings.{known, used-stored}
 use Rattle.trac_forms.proofs.work.Work.heads.Goals as goal
 

@@ -1,5 +1,5 @@
-use Rattle.trac_forms.proofs.Words.{◌≡◌, ℕ, ◌+◌, ◌≤◌, ◌++◌, List, [], ◌∷◌, length, Option, Some, None, MatchOption, refl, sym, ap, subst, arith, length-map, Item, text_of, Byte, Lists, claimed, flat_text, form_place, AreCharacters, called_part, IsLoaded, forms_in, shown, IsStored, bytes-flat}
-use Rattle.trac_forms.proofs.Words.{claimed-kept, plain-items, plain-text, item_of, IsByte, All, map, slice_range, ◌∙◌, length-between}
+use Rattle.trac_forms.proofs.Imports.{◌≡◌, ℕ, ◌+◌, ◌≤◌, ◌++◌, List, [], ◌∷◌, length, Option, Some, None, MatchOption, refl, sym, ap, subst, arith, length-map, Item, text_of, Byte, Lists, claimed, flat_text, form_place, AreCharacters, called_part, IsLoaded, forms_in, shown, IsStored, bytes-flat}
+use Rattle.trac_forms.proofs.Imports.{claimed-kept, plain-items, plain-text, item_of, IsByte, All, map, slice_range, ◌∙◌, length-between}
 use Rattle.trac_language.specs.declared.item.Item.TheVariants as item
 use Rattle.trac_space.specs.Lists as lists
 use Rattle.trac_forms.proofs.Strings.{used-stored, before-active}

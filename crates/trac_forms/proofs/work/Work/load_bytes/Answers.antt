@@ -1,4 +1,4 @@
-use Rattle.trac_forms.proofs.Words.{◌+◌, ◌≤◌, length, arith, refl, length-map, All-map, Byte, bytes, IsByte, claimed-kept}
+use Rattle.trac_forms.proofs.Imports.{◌+◌, ◌≤◌, length, arith, refl, length-map, All-map, Byte, bytes, IsByte, claimed-kept}
 use Rattle.trac_space.specs.Lists as lists
 use Rattle.trac_forms.proofs.Strings.{used-stored, before-active}
 use Rattle.trac_forms.proofs.work.Work.load_bytes.Goals as goal

@@ -1,4 +1,4 @@
-use Rattle.trac_forms.proofs.Words.{◌+◌, ◌≤◌, length, slice_range, refl, inl, arith, length-between}
+use Rattle.trac_forms.proofs.Imports.{◌+◌, ◌≤◌, length, slice_range, refl, inl, arith, length-between}
 use Rattle.trac_space.specs.Lists as lists
 use Rattle.trac_forms.proofs.Strings.{used-stored, before-active}
 use Rattle.trac_forms.proofs.work.Work.load_part.Goals as goal

@@ -1,4 +1,4 @@
-use Rattle.trac_forms.proofs.Words.{◌≡◌, ◌≤◌, ◌++◌, false≢true, length, arith, map, slice_range, OnTrue, flat_text, item_of, called_part, claimed, claimed-kept, forms_in, shown}
+use Rattle.trac_forms.proofs.Imports.{◌≡◌, ◌≤◌, ◌++◌, false≢true, length, arith, map, slice_range, OnTrue, flat_text, item_of, called_part, claimed, claimed-kept, forms_in, shown}
 use Rattle.trac_forms.specs.Loading.{next_text}
 use Rattle.trac_forms.proofs.NextItems.{has-next, next-less, next-byte, next-fits, next-put}
 use Rattle.trac_forms.proofs.Strings.{used-stored, text-appended, shown-appended}

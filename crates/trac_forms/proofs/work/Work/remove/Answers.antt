@@ -1,4 +1,4 @@
-use Rattle.trac_forms.proofs.Words.{◌≡◌, ◌-◌, length, refl, sym, ap, ◌∙◌, arith, remove, length-remove, Lists, flat_forms, forms_in, start_of, ◌+◌, IsStore-remove, cells-remove, Stands, stands, removed-lists}
+use Rattle.trac_forms.proofs.Imports.{◌≡◌, ◌-◌, length, refl, sym, ap, ◌∙◌, arith, remove, length-remove, Lists, flat_forms, forms_in, start_of, ◌+◌, IsStore-remove, cells-remove, Stands, stands, removed-lists}
 use Rattle.trac_forms.proofs.Strings.{used-stored, restored, shown-restored}
 use Rattle.trac_forms.proofs.work.Work.remove.Goals as goal
 use Rattle.trac_forms.proofs.work.Work.remove.Goals.{After-unindex, After-remove_store}

@@ -1,4 +1,4 @@
-use Rattle.trac_forms.proofs.Words.{sym, ap, part_text, without-at, without-none, IsSound}
+use Rattle.trac_forms.proofs.Imports.{sym, ap, part_text, without-at, without-none, IsSound}
 use Rattle.trac_forms.proofs.work.Work.remove_found.Goals as goal
 
 pub returns-in-Some-clause-gone : goal.returns-in-Some-clause-gone

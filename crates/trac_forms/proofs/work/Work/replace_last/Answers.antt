@@ -1,4 +1,4 @@
-use Rattle.trac_forms.proofs.Words.{◌+◌, ◌≤◌, length, ap, ◌∙◌, arith, IsSound, part_text, defined-last}
+use Rattle.trac_forms.proofs.Imports.{◌+◌, ◌≤◌, length, ap, ◌∙◌, arith, IsSound, part_text, defined-last}
 use Rattle.trac_forms.proofs.Strings.{used-stored}
 use Rattle.trac_forms.proofs.work.Work.replace_last.Goals as goal
 

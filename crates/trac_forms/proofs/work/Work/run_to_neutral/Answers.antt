@@ -1,4 +1,4 @@
-use Rattle.trac_forms.proofs.Words.{arith}
+use Rattle.trac_forms.proofs.Imports.{arith}
 use Rattle.trac_forms.proofs.Strings.{run-moved}
 use Rattle.trac_forms.proofs.work.Work.run_to_neutral.Goals as goal
 

@@ -1,4 +1,4 @@
-use Rattle.trac_forms.proofs.Words.{arith, forms_in}
+use Rattle.trac_forms.proofs.Imports.{arith, forms_in}
 use Rattle.trac_forms.proofs.ListedForms.{stored-form, stored-is_form}
 use Rattle.trac_forms.proofs.Strings.{known}
 use Rattle.trac_forms.proofs.work.Work.stored_at.Goals as goal

@@ -1,4 +1,4 @@
-use Rattle.trac_forms.proofs.Words.{All-map, Byte, Call, Cell, Comma, Gap, Head, IsByte, Some, ap, bytes-seen, form_named, form_named-at, form_named-none, forms_in, map, seen, sym, text_of_cells, ◌∙◌}
+use Rattle.trac_forms.proofs.Imports.{All-map, Byte, Call, Cell, Comma, Gap, Head, IsByte, Some, ap, bytes-seen, form_named, form_named-at, form_named-none, forms_in, map, seen, sym, text_of_cells, ◌∙◌}
 use Rattle.trac_forms.proofs.work.Work.stored_named.Goals as goal
 
 byte-seen : (cell : Cell) → IsByte cell → IsByte (seen cell)

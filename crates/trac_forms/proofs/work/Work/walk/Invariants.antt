@@ -1,4 +1,4 @@
-use Rattle.trac_forms.proofs.Words.{◌≡◌, forms_in, start_of}
+use Rattle.trac_forms.proofs.Imports.{◌≡◌, forms_in, start_of}
 use Rattle.trac_forms.proofs.work.Work.walk.Given as goal
 
 abbrev pub invariant-loop-number : goal.invariant-loop-number

@@ -1,4 +1,4 @@
-use Rattle.trac_forms.proofs.Words.{◌≡◌, ◌+◌, ◌-◌, length, set, ap, arith, length-set, Head, Lists, form_at, flat_forms, forms_in, items_of, part_text, IsStored}
+use Rattle.trac_forms.proofs.Imports.{◌≡◌, ◌+◌, ◌-◌, length, set, ap, arith, length-set, Head, Lists, form_at, flat_forms, forms_in, items_of, part_text, IsStored}
 use Rattle.trac_forms.proofs.Strings.{known, shown-restored}
 use Rattle.trac_forms.proofs.StoreChanges.{rewritten-stored, written-long}
 use Rattle.trac_forms.proofs.work.Work.write_body.Goals as goal

@@ -1,4 +1,4 @@
-use Rattle.trac_forms.proofs.Words.{take, true, arith, length-take-le, claimed-kept}
+use Rattle.trac_forms.proofs.Imports.{take, true, arith, length-take-le, claimed-kept}
 use Rattle.trac_forms.proofs.Strings.{used-stored, text-appended}
 use Rattle.trac_forms.proofs.work.WorkNeutral.push_before.Goals as goal
 

@@ -1,4 +1,4 @@
-use Rattle.trac_functions.proofs.Words.{ap, ◌+◌, arith, found-comma}
+use Rattle.trac_functions.proofs.Imports.{ap, ◌+◌, arith, found-comma}
 use Rattle.trac_functions.proofs.ArgumentLemmas.{next-fits, last-long}
 use Rattle.trac_functions.proofs.arguments.Arguments.end_of_next.Goals as goal
 

@@ -1,4 +1,4 @@
-use Rattle.trac_functions.proofs.Words.{refl, sym, ap, ◌∙◌, function_named, texts_from}
+use Rattle.trac_functions.proofs.Imports.{refl, sym, ap, ◌∙◌, function_named, texts_from}
 use Rattle.trac_functions.proofs.ArgumentLemmas.{first-read, behind-first, taken-rest, taken-left}
 use Rattle.trac_functions.proofs.arguments.Arguments.function.Goals as goal
 

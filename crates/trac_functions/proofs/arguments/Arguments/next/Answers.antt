@@ -1,4 +1,4 @@
-use Rattle.trac_functions.proofs.Words.{refl, arith}
+use Rattle.trac_functions.proofs.Imports.{refl, arith}
 use Rattle.trac_functions.proofs.ArgumentLemmas.{next-fits, taken-part, taken-text, taken-rest, taken-left, argument-later}
 use Rattle.trac_functions.proofs.arguments.Arguments.next.Goals as goal
 

@@ -1,4 +1,4 @@
-use Rattle.trac_space.proofs.Words.{◌∙◌, map, ap, arith, seen}
+use Rattle.trac_space.proofs.Imports.{◌∙◌, map, ap, arith, seen}
 use Rattle.trac_space.proofs.BlockChanges.{sizes, maps, active-part}
 use Rattle.trac_space.proofs.space.Space.active_part.Goals as goal
 

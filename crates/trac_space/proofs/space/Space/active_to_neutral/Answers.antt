@@ -1,4 +1,4 @@
-use Rattle.trac_space.proofs.Words.{◌++◌, ◌∙◌, take, arith, refl, map-append}
+use Rattle.trac_space.proofs.Imports.{◌++◌, ◌∙◌, take, arith, refl, map-append}
 use Rattle.trac_space.proofs.BlockChanges.{parts_of, sizes, shown, laid-more, parts-to_neutral}
 use Rattle.trac_space.proofs.Seen.{seen-drop_active}
 use Rattle.trac_space.proofs.Runs.{front-seen}

@@ -1,4 +1,4 @@
-use Rattle.trac_space.proofs.Words.{◌≡◌, ◌-◌, ◌∙◌, length, take, drop, replicate, ap, arith, refl, length-take, length-drop, length-replicate, Byte}
+use Rattle.trac_space.proofs.Imports.{◌≡◌, ◌-◌, ◌∙◌, length, take, drop, replicate, ap, arith, refl, length-take, length-drop, length-replicate, Byte}
 use Rattle.trac_space.proofs.BlockChanges.{parts_of, sizes, shown, laid, parts-put_last}
 use Rattle.trac_space.proofs.Seen.{seen-other_spare, seen-blank}
 use Rattle.trac_space.proofs.space.Space.blank_spare.Goals as goal

@@ -1,4 +1,4 @@
-use Rattle.trac_space.proofs.Words.{◌≡◌, ◌+◌, ◌-◌, take, drop, arith, take-map}
+use Rattle.trac_space.proofs.Imports.{◌≡◌, ◌+◌, ◌-◌, take, drop, arith, take-map}
 use Rattle.trac_space.proofs.LastCalls.{last_call-from}
 use Rattle.trac_space.proofs.space.Space.call_before.Goals as goal
 

@@ -1,4 +1,4 @@
-use Rattle.trac_space.proofs.Words.{arith}
+use Rattle.trac_space.proofs.Imports.{arith}
 use Rattle.trac_space.proofs.BlockChanges.{sizes}
 use Rattle.trac_space.proofs.Characters.{part-bytes, part-stop}
 use Rattle.trac_space.proofs.space.Space.characters_from.Goals as goal

@@ -1,4 +1,4 @@
-use Rattle.trac_space.proofs.Words.{◌≡◌, ◌-◌, ◌∙◌, arith}
+use Rattle.trac_space.proofs.Imports.{◌≡◌, ◌-◌, ◌∙◌, arith}
 use Rattle.trac_space.proofs.BlockChanges.{parts_of, shown, parts-drop_active}
 use Rattle.trac_space.proofs.Seen.{seen-no_active}
 use Rattle.trac_space.proofs.space.Space.clear_active.Goals as goal

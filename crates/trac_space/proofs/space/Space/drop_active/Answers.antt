@@ -1,4 +1,4 @@
-use Rattle.trac_space.proofs.Words.{◌∙◌, arith}
+use Rattle.trac_space.proofs.Imports.{◌∙◌, arith}
 use Rattle.trac_space.proofs.BlockChanges.{sizes, shown, parts-drop_active, parts_of}
 use Rattle.trac_space.proofs.Seen.{seen-drop_active}
 use Rattle.trac_space.proofs.space.Space.drop_active.Goals as goal

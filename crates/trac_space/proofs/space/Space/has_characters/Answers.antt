@@ -1,4 +1,4 @@
-use Rattle.trac_space.proofs.Words.{◌≡◌, ◌+◌, ◌-◌, arith}
+use Rattle.trac_space.proofs.Imports.{◌≡◌, ◌+◌, ◌-◌, arith}
 use Rattle.trac_space.proofs.BlockChanges.{sizes}
 use Rattle.trac_space.proofs.Characters.{part-bytes}
 use Rattle.trac_space.proofs.space.Space.has_characters.Goals as goal

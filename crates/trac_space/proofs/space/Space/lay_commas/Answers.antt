@@ -1,4 +1,4 @@
-use Rattle.trac_space.proofs.Words.{◌≡◌, ◌+◌, ◌-◌, ◌++◌, ◌∙◌, All, ap, arith, refl, sym, subst, length, map, take, drop, slice_range, length-map, length-between, take-map, drop-map, seen, HaveCommas, Lists, lists}
+use Rattle.trac_space.proofs.Imports.{◌≡◌, ◌+◌, ◌-◌, ◌++◌, ◌∙◌, All, ap, arith, refl, sym, subst, length, map, take, drop, slice_range, length-map, length-between, take-map, drop-map, seen, HaveCommas, Lists, lists}
 use Rattle.trac_space.specs.Overlay.{under, HaveNumbers}
 use Rattle.trac_space.proofs.BlockChanges.{sizes, shown, laid, parts-in_neutral, parts_of, neutral-part}
 use Rattle.trac_space.proofs.Calls.{marks-numbered, marks-calls, marks-linked}

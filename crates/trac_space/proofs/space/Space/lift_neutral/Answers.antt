@@ -1,4 +1,4 @@
-use Rattle.trac_space.proofs.Words.{◌≡◌, ◌-◌, ◌∙◌, ap, arith, refl, length, map, slice_range, length-map, length-between}
+use Rattle.trac_space.proofs.Imports.{◌≡◌, ◌-◌, ◌∙◌, ap, arith, refl, length, map, slice_range, length-map, length-between}
 use Rattle.trac_space.specs.Overlay.{under}
 use Rattle.trac_space.proofs.BlockChanges.{sizes, shown, maps, laid, parts-in_neutral, parts_of, neutral-part}
 use Rattle.trac_space.proofs.Calls.{marks-lifted, marks-calls, marks-linked}

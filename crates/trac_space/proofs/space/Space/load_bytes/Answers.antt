@@ -1,4 +1,4 @@
-use Rattle.trac_space.proofs.Words.{◌++◌, ◌∙◌, length, map, take, ap, arith, refl, length-map, Byte, seen, seen_lists}
+use Rattle.trac_space.proofs.Imports.{◌++◌, ◌∙◌, length, map, take, ap, arith, refl, length-map, Byte, seen, seen_lists}
 use Rattle.trac_space.proofs.BlockChanges.{parts_of, sizes, shown, laid, parts-load}
 use Rattle.trac_space.proofs.Seen.{seen-more_active, seen-bytes}
 use Rattle.trac_space.proofs.space.Space.load_bytes.Goals as goal

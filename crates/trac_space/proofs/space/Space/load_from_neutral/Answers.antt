@@ -1,4 +1,4 @@
-use Rattle.trac_space.proofs.Words.{◌≡◌, ◌+◌, ◌-◌, ◌++◌, ◌∙◌, ap, arith, refl, map, take, slice_range, copy_within, length-between, seen_lists, seen}
+use Rattle.trac_space.proofs.Imports.{◌≡◌, ◌+◌, ◌-◌, ◌++◌, ◌∙◌, ap, arith, refl, map, take, slice_range, copy_within, length-between, seen_lists, seen}
 use Rattle.trac_space.proofs.BlockChanges.{sizes, shown, maps, laid, parts-before, neutral-part, parts_of}
 use Rattle.trac_space.proofs.Seen.{seen-more_active}
 use Rattle.trac_space.proofs.space.Space.load_from_neutral.Goals as goal

@@ -1,4 +1,4 @@
-use Rattle.trac_space.proofs.Words.{◌-◌, ◌∙◌, length, drop, sym, ap, arith, refl, seen_lists}
+use Rattle.trac_space.proofs.Imports.{◌-◌, ◌∙◌, length, drop, sym, ap, arith, refl, seen_lists}
 use Rattle.trac_space.proofs.BlockChanges.{parts_of, sizes, shown, laid, parts-move_active}
 use Rattle.trac_space.proofs.Seen.{seen-other_spare}
 use Rattle.trac_space.proofs.space.Space.move_active.Goals as goal

@@ -1,4 +1,4 @@
-use Rattle.trac_space.proofs.Words.{◌∙◌, arith, refl}
+use Rattle.trac_space.proofs.Imports.{◌∙◌, arith, refl}
 use Rattle.trac_space.proofs.BlockChanges.{sizes, shown, maps, laid, parts-move_in_store}
 use Rattle.trac_space.proofs.space.Space.move_in_store.Goals as goal
 

@@ -1,4 +1,4 @@
-use Rattle.trac_space.proofs.Words.{◌≡◌, ℕ, ◌+◌, ◌≤◌, List, length, ◌∙◌, take, drop, map, arith, rules, refl, length-map, places, seen}
+use Rattle.trac_space.proofs.Imports.{◌≡◌, ℕ, ◌+◌, ◌≤◌, List, length, ◌∙◌, take, drop, map, arith, rules, refl, length-map, places, seen}
 use Rattle.trac_space.proofs.BlockChanges.{sizes, shown, maps, laid, parts-open}
 use Rattle.trac_space.proofs.space.Space.open_store.Goals as goal
 

@@ -1,4 +1,4 @@
-use Rattle.trac_space.proofs.Words.{◌∙◌, arith, refl, length, ap, length-map, Byte}
+use Rattle.trac_space.proofs.Imports.{◌∙◌, arith, refl, length, ap, length-map, Byte}
 use Rattle.trac_space.proofs.BlockChanges.{sizes, shown, maps, laid-more, parts-append}
 use Rattle.trac_space.proofs.Seen.{seen-bytes, no_call-bytes}
 use Rattle.trac_space.proofs.space.Space.put_bytes.Goals as goal

@@ -1,4 +1,4 @@
-use Rattle.trac_space.proofs.Words.{◌≡◌, ◌+◌, ◌-◌, ◌++◌, List, length, map, slice_range, refl, sym, ap, ◌∙◌, subst, arith, false≢true, length-map, map-append, take-map, drop-map, Cell, lists, seen, NoCall, filled, Lists}
+use Rattle.trac_space.proofs.Imports.{◌≡◌, ◌+◌, ◌-◌, ◌++◌, List, length, map, slice_range, refl, sym, ap, ◌∙◌, subst, arith, false≢true, length-map, map-append, take-map, drop-map, Cell, lists, seen, NoCall, filled, Lists}
 use Rattle.trac_space.specs.Overlay.{under}
 use Rattle.trac_space.proofs.BlockChanges.{sizes, shown, laid-more, laid, parts-more-to, parts-kept, neutral-part, store-part}
 use Rattle.trac_space.proofs.Lifted.{seen-under}

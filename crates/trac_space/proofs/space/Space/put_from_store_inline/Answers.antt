@@ -1,4 +1,4 @@
-use Rattle.trac_space.proofs.Words.{◌≡◌, ◌+◌, ◌-◌, ◌∙◌, arith, refl, slice_range, copy_within}
+use Rattle.trac_space.proofs.Imports.{◌≡◌, ◌+◌, ◌-◌, ◌∙◌, arith, refl, slice_range, copy_within}
 use Rattle.trac_space.proofs.BlockChanges.{sizes, shown, maps, laid-more, parts-from_store, parts_of}
 use Rattle.trac_space.proofs.space.Space.put_from_store_inline.Goals as goal
 use Rattle.trac_space.proofs.space.Space.put_from_store_inline.Goals.{After-copy_short_higher}

@@ -1,4 +1,4 @@
-use Rattle.trac_space.proofs.Words.{◌-◌, ◌++◌, ◌∙◌, take, length, ap, sym, arith, refl, map-append, length-map, get_or-drop, Byte, number_in, turned, turned_by, right_of}
+use Rattle.trac_space.proofs.Imports.{◌-◌, ◌++◌, ◌∙◌, take, length, ap, sym, arith, refl, map-append, length-map, get_or-drop, Byte, number_in, turned, turned_by, right_of}
 use Rattle.trac_space.proofs.BlockChanges.{parts_of, begin, sizes, shown, laid-more, parts-for_active}
 use Rattle.trac_space.proofs.Seen.{seen-drop_active}
 use Rattle.trac_space.proofs.Runs.{front-bytes, front-run, front-turned, front-plain, front-next, turned-calls}

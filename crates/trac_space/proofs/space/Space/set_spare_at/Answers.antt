@@ -1,4 +1,4 @@
-use Rattle.trac_space.proofs.Words.{◌∙◌, arith, refl}
+use Rattle.trac_space.proofs.Imports.{◌∙◌, arith, refl}
 use Rattle.trac_space.proofs.BlockChanges.{sizes, shown, laid, parts-write_spare, parts_of}
 use Rattle.trac_space.proofs.Seen.{seen-write_spare}
 use Rattle.trac_space.proofs.space.Space.set_spare_at.Goals as goal

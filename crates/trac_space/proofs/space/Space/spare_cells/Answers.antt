@@ -1,4 +1,4 @@
-use Rattle.trac_space.proofs.Words.{map, ap, ◌∙◌, seen}
+use Rattle.trac_space.proofs.Imports.{map, ap, ◌∙◌, seen}
 use Rattle.trac_space.proofs.BlockChanges.{maps, spare-part}
 use Rattle.trac_space.proofs.space.Space.spare_cells.Goals as goal
 

@@ -1,4 +1,4 @@
-use Rattle.trac_space.proofs.Words.{◌≡◌, ◌∙◌, arith, refl, false, is_call, Byte, get_or, sym}
+use Rattle.trac_space.proofs.Imports.{◌≡◌, ◌∙◌, arith, refl, false, is_call, Byte, get_or, sym}
 use Rattle.trac_space.proofs.BlockChanges.{sizes, shown, maps, laid, parts-write_neutral, parts_of}
 use Rattle.trac_space.proofs.Calls.{call-seen, marks-write, marks-calls, marks-linked}
 use Rattle.trac_space.proofs.Seen.{seen-no_call}

@@ -1,4 +1,4 @@
-use Rattle.trac_space.proofs.Words.{◌≡◌, ◌+◌, ◌-◌, ◌∙◌, arith, refl}
+use Rattle.trac_space.proofs.Imports.{◌≡◌, ◌+◌, ◌-◌, ◌∙◌, arith, refl}
 use Rattle.trac_space.proofs.BlockChanges.{sizes, shown, maps, laid, parts-over}
 use Rattle.trac_space.proofs.space.Space.write_part.Goals as goal
 

@@ -1,4 +1,4 @@
-use Rattle.trac_store.proofs.Words.{ℕ, ◌≡◌, ◌+◌, ◌-◌, length, map, All, slice_range, get_or, Some, sym, ap, ◌∙◌, subst, arith, both_ways, Form, NoneNamed, Byte, Head, seen, flat_text, text_of_cells, IsByte, forms_in, head_number, start_of, form_at}
+use Rattle.trac_store.proofs.Imports.{ℕ, ◌≡◌, ◌+◌, ◌-◌, length, map, All, slice_range, get_or, Some, sym, ap, ◌∙◌, subst, arith, both_ways, Form, NoneNamed, Byte, Head, seen, flat_text, text_of_cells, IsByte, forms_in, head_number, start_of, form_at}
 use Rattle.trac_store.proofs.Finding.{Begins, begins_at, number_is, bytes-flat}
 use Rattle.trac_store.proofs.HeadCells.{is_head}
 use Rattle.trac_store.proofs.FlatLemmas.{Byte-character_of, character_of-Byte}

@@ -1,4 +1,4 @@
-use Rattle.trac_store.proofs.Words.{◌≡◌, ◌+◌, ◌-◌, ◌≤◌, map, slice_range, NoneNamed, seen, text_of_cells, forms_in, start_of}
+use Rattle.trac_store.proofs.Imports.{◌≡◌, ◌+◌, ◌-◌, ◌≤◌, map, slice_range, NoneNamed, seen, text_of_cells, forms_in, start_of}
 use Rattle.trac_store.proofs.form_cells.FormCells.find_between.Given as goal
 
 -- the name of the form that is next begins at the place, and no form before it has the name

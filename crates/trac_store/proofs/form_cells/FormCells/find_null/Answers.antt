@@ -1,4 +1,4 @@
-use Rattle.trac_store.proofs.Words.{◌≡◌, ◌+◌, [], length, map, get_or, ap, ◌∙◌, arith, Byte, seen, forms_in, form_at, nil_from_length}
+use Rattle.trac_store.proofs.Imports.{◌≡◌, ◌+◌, [], length, map, get_or, ap, ◌∙◌, arith, Byte, seen, forms_in, form_at, nil_from_length}
 use Rattle.trac_store.proofs.Finding.{Begins, begins_at, number_is}
 use Rattle.trac_store.proofs.HeadCells.{is_head}
 use Rattle.trac_store.proofs.DistinctForms.{NoneNamed-more}

@@ -1,4 +1,4 @@
-use Rattle.trac_store.proofs.Words.{◌≡◌, [], map, take, NoneNamed, seen, forms_in, start_of}
+use Rattle.trac_store.proofs.Imports.{◌≡◌, [], map, take, NoneNamed, seen, forms_in, start_of}
 use Rattle.trac_store.proofs.form_cells.FormCells.find_null.Given as goal
 
 abbrev pub invariant-loop-k : goal.invariant-loop-k

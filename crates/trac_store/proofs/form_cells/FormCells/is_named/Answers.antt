@@ -1,4 +1,4 @@
-use Rattle.trac_store.proofs.Words.{◌≡◌, ℕ, ◌+◌, List, All, length, map, slice_range, sym, ap, ◌∙◌, subst, arith, Text, Cell, Byte, seen, text_of_cells, IsByte, form_at, forms_in}
+use Rattle.trac_store.proofs.Imports.{◌≡◌, ℕ, ◌+◌, List, All, length, map, slice_range, sym, ap, ◌∙◌, subst, arith, Text, Cell, Byte, seen, text_of_cells, IsByte, form_at, forms_in}
 use Rattle.trac_store.proofs.Finding.{Begins, begins_at, number_is, bytes-flat, bytes-of-seen}
 use Rattle.trac_store.proofs.FlatLemmas.{character_of-Byte}
 use Rattle.trac_store.proofs.Gaps.{bytes-seen}

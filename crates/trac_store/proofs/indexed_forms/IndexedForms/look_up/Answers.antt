@@ -1,4 +1,4 @@
-use Rattle.trac_store.proofs.Words.{◌≡◌, ℕ, ◌+◌, ◌-◌, ◌*◌, ◌/◌, ◌<◌, List, length, map, get_or, sym, ap, ◌∙◌, arith, ⊎_elim, bit_and, cases_lt, Cell, Byte, Head, seen, text_of_cells, name_at, hash, slot, cell_at, is_blank}
+use Rattle.trac_store.proofs.Imports.{◌≡◌, ℕ, ◌+◌, ◌-◌, ◌*◌, ◌/◌, ◌<◌, List, length, map, get_or, sym, ap, ◌∙◌, arith, ⊎_elim, bit_and, cases_lt, Cell, Byte, Head, seen, text_of_cells, name_at, hash, slot, cell_at, is_blank}
 use Rattle.trac_store.proofs.TableChanges.{slot-within}
 use Rattle.trac_store.proofs.Finding.{bytes-of-seen}
 use Rattle.trac_store.proofs.Gaps.{bytes-seen}

@@ -1,4 +1,4 @@
-use Rattle.trac_store.proofs.Words.{◌≡◌, ◌≢◌, ℕ, ◌<◌, length, map, Head, seen, text_of_cells, name_at, cell_at, slot, hash}
+use Rattle.trac_store.proofs.Imports.{◌≡◌, ◌≢◌, ℕ, ◌<◌, length, map, Head, seen, text_of_cells, name_at, cell_at, slot, hash}
 use Rattle.trac_store.proofs.indexed_forms.IndexedForms.look_up.Given as goal
 
 -- no slot that was looked at holds a form of the name

@@ -1,5 +1,5 @@
-use Rattle.trac_store.proofs.Words.{◌≡◌, ℕ, ◌+◌, ◌-◌, ◌*◌, ◌/◌, ◌<◌, ◌≤◌, List, length, map, get_or, slice_range, All, Some, sym, ap, ◌∙◌, subst, arith, both_ways, length-map, get_or-map, Cell, Byte, Head, seen, IsByte, flat_text, text_of_cells, name_at, flat_forms, forms_in, start_of}
-use Rattle.trac_store.proofs.Words.{head_number, cell_at, IsIndex}
+use Rattle.trac_store.proofs.Imports.{◌≡◌, ℕ, ◌+◌, ◌-◌, ◌*◌, ◌/◌, ◌<◌, ◌≤◌, List, length, map, get_or, slice_range, All, Some, sym, ap, ◌∙◌, subst, arith, both_ways, length-map, get_or-map, Cell, Byte, Head, seen, IsByte, flat_text, text_of_cells, name_at, flat_forms, forms_in, start_of}
+use Rattle.trac_store.proofs.Imports.{head_number, cell_at, IsIndex}
 use Rattle.trac_store.proofs.Finding.{begins_at, number_is, bytes-flat}
 use Rattle.trac_store.proofs.HeadCells.{is_head, number-seen}
 use Rattle.trac_store.proofs.FlatLemmas.{Byte-character_of, character_of-Byte}

@@ -1,4 +1,4 @@
--- The words that the proofs of this crate cite.
+-- What the proofs of this crate import.
 pub use Rattle.std.proofs.Common.{List, None, Option, Some, [], ap, arith, drop, false, get_or, length, refl, suc, sym, take, zero, ℕ, ◌++◌, ◌+◌, ◌-◌, ◌<◌, ◌∙◌, ◌∷◌, ◌≡◌, ◌≤◌}
 pub use Rattle.std.proofs.lemmas.List.{drop-append-le, drop_all, get_or-append-add, get_or_append_left, length-drop, length-take-le, length_push, take-append-le, take_all, take_more}
 pub use Rattle.std.proofs.lemmas.List.Elements.{All-append}

@@ -1,4 +1,4 @@
--- The words that the proofs of this crate cite.
+-- What the proofs of this crate import.
 pub use Rattle.std.proofs.Common.{All, Bool, List, MatchOption, None, Option, Some, [], ap, arith, cond, drop, false, get_or, inl, inr, length, map, nat_le, refl, rules, set, slice_get, slice_range, subst, suc, sym, take, true, zero, ℕ, ⊎_elim, ◌&&◌, ◌*◌, ◌++◌, ◌+◌, ◌-◌, ◌/◌, ◌<◌, ◌==◌, ◌^◌, ◌∙◌, ◌∷◌, ◌≡◌, ◌≢◌, ◌≤◌, ◌⊎◌}
 pub use Rattle.std.proofs.Math.Bool.{and-false}
 pub use Rattle.std.proofs.Math.Seq.{drop-append-add, get_or-append_seam}

@@ -1,4 +1,4 @@
--- The words that the proofs of this crate cite.
+-- What the proofs of this crate import.
 pub use Rattle.std.proofs.Common.{rules, All, Bool, List, MatchOption, None, Option, Some, [], ap, append-nil, append_assoc, arith, cond, drop, eq-eqb, eqb, false, get_or, inl, inr, length, length-append, map, max, min, not, refl, slice_get, slice_range, subst, suc, sum_by, sym, take, true, zero, ℕ, ⊎_elim, ◌%◌, ◌&&◌, ◌*◌, ◌++◌, ◌+◌, ◌-◌, ◌/◌, ◌<◌, ◌||◌, ◌∙◌, ◌∷◌, ◌≡◌, ◌≢◌, ◌≤◌, ◌⊎◌}
 pub use Rattle.std.proofs.Math.Seq.{drop-append-add, drop-append_seam, drop-cons, drop-length, take-add, take-append_seam, take-length}
 pub use Rattle.std.proofs.lemmas.Bool.{or_parts, or_right, true≢false, cases_Bool, cases_eq, cases_lt, eqb-true, false_from_ne_true, ne_eqb}

@@ -1,4 +1,4 @@
--- The words that the proofs of this crate cite.
+-- What the proofs of this crate import.
 pub use Rattle.std.proofs.Common.{Bool, List, None, Some, [], ap, arith, cond, drop, eqb, false, get_or, length, map, max, min, neg_ℤ, negsuc, not, pos, refl, replicate, reverse, rules, subst, suc, sym, take, true, zero, ℕ, ℤ, ⊎_elim, ◌%◌, ◌&&◌, ◌*◌, ◌++◌, ◌+◌, ◌-◌, ◌/◌, ◌<◌, ◌^◌, ◌||◌, ◌∙◌, ◌∷◌, ◌≡◌, ◌≤◌}
 pub use Rattle.std.proofs.Math.Nat.{add-mod-mod, add-mod_left, add-mul, mod-add-mod, mod-eq_of_lt, mul-le-mul_right, mul_assoc, mul_right_comm, pow-le-pow_right}
 pub use Rattle.std.proofs.Math.Seq.{take-add}

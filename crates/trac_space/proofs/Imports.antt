@@ -1,4 +1,4 @@
--- The words that the proofs of this crate cite.
+-- What the proofs of this crate import.
 pub use Rattle.std.proofs.Common.{All, Bool, IsTrue, List, MatchOption, None, Option, Some, [], ap, arith, cond, count_by, drop, false, get_or, length, map, nat_eq, nat_lt, refl, replicate, rules, set, slice_get, slice_index_or, slice_range, subst, suc, sum_by, sym, take, true, zero, ℕ, inl, inr, ⊎_elim, ◌⊎◌, ◌%◌, ◌*◌, ◌++◌, ◌+◌, ◌-◌, ◌/◌, ◌<◌, ◌↔◌, ◌∙◌, ◌∷◌, ◌≡◌, ◌≤◌}
 pub use Rattle.std.proofs.Math.Nat.{add_assoc, mod-lt}
 pub use Rattle.std.proofs.Math.Seq.{get_or-append_seam, take-add, take-length}

@@ -1,4 +1,4 @@
--- The words that the proofs of this crate cite.
+-- What the proofs of this crate import.
 pub use Rattle.std.proofs.Common.{Bool, List, None, Option, Some, [], ap, append-nil, append_assoc, arith, drop, false, get_or, length, length-append, map, max, min, not, refl, rules, slice_set, subst, suc, sum_by, sym, take, zero, ℕ, ⊎_elim, ◌++◌, ◌+◌, ◌-◌, ◌<◌, ◌∙◌, ◌∷◌, ◌≡◌, ◌≢◌, ◌≤◌}
 pub use Rattle.std.proofs.Math.Seq.{length-take-le}
 pub use Rattle.std.proofs.lemmas.List.{drop-drop, length-drop, length-map, map-append, take_more}
