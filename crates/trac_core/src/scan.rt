@@ -25,6 +25,18 @@ use trac_space::{Cell, byte_in};
 /// prints what is left of it (Mooers 1966).
 const IDLING: &[u8; 11] = b"#(ps,#(rs))";
 
+/// What the neutral string holds behind those steps of the idling procedure which come before its two
+/// right parentheses.
+const BEGUN: &[Cell] = &[
+    Cell::Call(Mode::Active, 0),
+    Cell::Byte(b'p'),
+    Cell::Byte(b's'),
+    Cell::Comma,
+    Cell::Call(Mode::Active, 0),
+    Cell::Byte(b'r'),
+    Cell::Byte(b's'),
+];
+
 /// How many steps `begin_idling` makes.
 pub(crate) const IDLING_STEPS: u64 = 8;
 
@@ -380,16 +392,9 @@ pub(crate) fn begin_idling(work: &mut Work) -> u32
     ensures need { result ≡ cells work.old.forms + 11 }
     ensures keeps { KeepsRoom work.old work.new }
 {
-    load_procedure(work);
-    let need = work.used();
-    work.active_to_cell(2, Cell::Call(Mode::Active, 0));
-    work.active_to_cell(1, Cell::Byte(b'p'));
-    work.active_to_cell(1, Cell::Byte(b's'));
-    work.active_to_cell(1, Cell::Comma);
-    work.active_to_cell(2, Cell::Call(Mode::Active, 0));
-    work.active_to_cell(1, Cell::Byte(b'r'));
-    work.active_to_cell(1, Cell::Byte(b's'));
-    need
+    work.set_strings(BEGUN, b"))");
+    // Each of the two call marks stands for two characters.
+    work.used() + 2
 }
 
 /// The text between a left parenthesis and its match is added unscanned; where there is no match
