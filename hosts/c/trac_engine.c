@@ -4,7 +4,7 @@
  * and what compilers make of it (memcpy, memset) alone.
  *
  * Crates: trac_language trac_space trac_values trac_store trac_forms trac_devices trac_functions trac_laws trac_core trac_events trac_warnings trac_lent trac_views trac_checker trac_c
- * Sources: 6a7e9b4d55ec6775c2bda2af26fdd7436366ee3bf0d9ce309b30d6e9aaf9b366
+ * Sources: 33f693d45be8b2a46dd38042b535c0428a1f0a53cc7b6d2128ce151dc63074b6
  * Kit: rattle-kit-13b logic dac8208d650f15bf
  * Tools: wasm-opt version 108, wabt 1.0.32
  */
@@ -339,6 +339,7 @@ static void core_scan_protect(u64 stack, u64 l0);
 static INLINE u64 core_scan_begin_argument(u64 stack, u64 l0, u64 l1, u64 l2, u32 l3);
 static u64 core_scan_add_characters(u64 stack, u64 l0, u64 l1, u64 l2, u64 l3);
 static INLINE void space_copies_copy_slice_by_parts(u64 stack, u64 l0, u64 l1, u64 l2);
+static void space_space_Space_drop_spare(u64 stack, u64 l0);
 static void space_space_Space_move_active(u64 stack, u64 l0, u32 l1);
 static void space_space_write_bytes(u64 stack, u64 l0, u64 l1, u64 l2);
 static void devices_slice_source_SliceSourceSource_take_held(u64 stack, u64 l0, u32 l1, u64 l2);
@@ -1749,7 +1750,7 @@ static u32 space_space_Space_try_claim_spare(u64 stack, u64 l0, u64 l1) {
         const u32 t5 = load32(l0 + 20ull);
         l3 = l1 <= (u64)((t2 - (t3 + (t4 + t5))));
         if (l3) {
-            space_space_Space_move_active(stack, l0, 0u);
+            space_space_Space_drop_spare(stack, l0);
         }
         stack = l2;
         return l3;
@@ -2442,7 +2443,7 @@ static void functions_form_calls_define_string(u64 stack, u64 l0, u64 l1, u64 l2
         l24 = l26;
         const u32 t142 = load32(l1 + 28ull);
         if (l22 > (t142 - l36)) {
-            space_space_Space_move_active(stack, l1, 0u);
+            space_space_Space_drop_spare(stack, l1);
             const u32 t144 = load32(l1 + 16ull);
             l24 = t144;
             const u32 t145 = load32(l1 + 20ull);
@@ -2613,7 +2614,7 @@ static void functions_form_calls_define_string(u64 stack, u64 l0, u64 l1, u64 l2
                     {
                         const u32 t192 = forms_index_index_fitting(stack, l1, l28);
                         if (t192 == 0) {
-                            space_space_Space_move_active(stack, l1, 0u);
+                            space_space_Space_drop_spare(stack, l1);
                         }
                         stack = l2;
                         goto L190;
@@ -2711,7 +2712,7 @@ static void functions_form_calls_define_string(u64 stack, u64 l0, u64 l1, u64 l2
                 goto L186;
             }
             L207:;
-            space_space_Space_move_active(stack, l1, 0u);
+            space_space_Space_drop_spare(stack, l1);
         }
         L186:;
         store32(l1 + 48ull, l26);
@@ -4514,7 +4515,7 @@ static void functions_form_calls_delete_all(u64 stack, u64 l0, u64 l1) {
             const u32 t6 = load32(l1 + 28ull);
             l11 = t6;
             if (t4 < (((u32)l2 - l11) >> 5)) {
-                space_space_Space_move_active(stack, l1, 0u);
+                space_space_Space_drop_spare(stack, l1);
                 goto L3;
             }
             l3 = (u64)l11;
@@ -7972,7 +7973,7 @@ static void functions_arithmetic_arithmetic(u64 stack, u64 l0, u64 l1, u32 l2, u
                         const u32 t101 = load32(l3);
                         l2 = t101;
                         if (l19 > (l2 - l22)) {
-                            space_space_Space_move_active(stack, l1, 0u);
+                            space_space_Space_drop_spare(stack, l1);
                             const u32 t103 = load32(l1 + 24ull);
                             l27 = t103;
                             const u32 t104 = load32(l3);
@@ -7993,7 +7994,7 @@ static void functions_arithmetic_arithmetic(u64 stack, u64 l0, u64 l1, u32 l2, u
                         l3 = l1 + 16ull;
                         const u32 t108 = load32(l3);
                         if (l22 > (l2 - (t107 + (l19 + t108)))) {
-                            space_space_Space_move_active(stack, l1, 0u);
+                            space_space_Space_drop_spare(stack, l1);
                             const u32 t110 = load32(l12);
                             l19 = t110;
                             const u32 t111 = load32(l1 + 28ull);
@@ -8009,7 +8010,7 @@ static void functions_arithmetic_arithmetic(u64 stack, u64 l0, u64 l1, u32 l2, u
                         const u32 t114 = load32(l14);
                         const u32 t115 = load32(l3);
                         if (l21 > (l2 - (t114 + (l19 + t115)))) {
-                            space_space_Space_move_active(stack, l1, 0u);
+                            space_space_Space_drop_spare(stack, l1);
                             const u32 t117 = load32(l1 + 24ull);
                             l19 = t117;
                             const u32 t118 = load32(l4);
@@ -8237,7 +8238,7 @@ static void functions_arithmetic_arithmetic(u64 stack, u64 l0, u64 l1, u32 l2, u
                 l2 = t190;
                 u32 v191;
                 if (l20 > (l2 - l22)) {
-                    space_space_Space_move_active(stack, l1, 0u);
+                    space_space_Space_drop_spare(stack, l1);
                     const u32 t192 = load32(l1 + 24ull);
                     l27 = t192;
                     const u64 t193 = load64(l1);
@@ -9276,7 +9277,7 @@ static void store_item_copies_load_items_over_spare(u64 stack, u64 l0, u64 l1, u
             l3 = t26;
             u32 v27;
             if (l2 > (l3 - l24)) {
-                space_space_Space_move_active(stack, l1, 0u);
+                space_space_Space_drop_spare(stack, l1);
                 const u32 t28 = load32(l1 + 24ull);
                 l23 = t28;
                 const u64 t29 = load64(l1);
@@ -11753,6 +11754,17 @@ static INLINE void space_copies_copy_slice_by_parts(u64 stack, u64 l0, u64 l1, u
     trap();
 }
 
+static void space_space_Space_drop_spare(u64 stack, u64 l0) {
+    u64 l1 = 0;
+    l1 = stack;
+    {
+        space_space_Space_move_active(stack, l0, 0u);
+        stack = l1;
+        return;
+    }
+    trap();
+}
+
 static void space_space_Space_move_active(u64 stack, u64 l0, u32 l1) {
     u64 l2 = 0;
     u64 l3 = 0;
@@ -12139,7 +12151,7 @@ static void devices_slice_source_SliceSourceSource_take_held(u64 stack, u64 l0, 
         l1 = (u32)l4;
         const u32 t31 = load32(l2 + 28ull);
         if (l1 > (t31 - l14)) {
-            space_space_Space_move_active(stack, l2, 0u);
+            space_space_Space_drop_spare(stack, l2);
             const u32 t33 = load32(l11);
             const u32 t34 = load32(l2 + 16ull);
             l13 = t33 + t34;
@@ -12625,7 +12637,7 @@ static void forms_index_index_from(u64 stack, u64 l0, u32 l1, u32 l2, u32 l3) {
                         goto L6;
                     }
                     L23:;
-                    space_space_Space_move_active(stack, l0, 0u);
+                    space_space_Space_drop_spare(stack, l0);
                 }
                 L6:;
                 l15 = 0u;
@@ -13838,12 +13850,13 @@ static u32 store_item_copies_fill_items(u64 stack, u64 l0, u32 l1, u32 l2, u32 l
     l5 = stack - 64ull;
     stack = l5;
     {
+        u32 v2;
         {
             {
                 {
                     l19 = l5;
                     {
-                        l36 = 1u;
+                        l39 = 1u;
                         if (l1 == l2) goto L1;
                         l12 = (u64)l1;
                         const u64 t6 = load64(l0);
@@ -13852,9 +13865,9 @@ static u32 store_item_copies_fill_items(u64 stack, u64 l0, u32 l1, u32 l2, u32 l
                         l8 = (u64)l35;
                         l7 = l8;
                         const u32 t7 = load32(l0 + 16ull);
-                        l37 = t7;
+                        l36 = t7;
                         const u32 t8 = load32(l0 + 20ull);
-                        l39 = l37 + t8;
+                        l38 = l36 + t8;
                         const u32 t9 = load32(l0 + 24ull);
                         l40 = t9;
                         const u32 t10 = load32(l0 + 28ull);
@@ -13917,13 +13930,13 @@ static u32 store_item_copies_fill_items(u64 stack, u64 l0, u32 l1, u32 l2, u32 l
                         }
                         L13:;
                         if (t11 == (t12 + (u32)v13)) {
-                            l3 = l41 - (l39 + l40);
+                            l3 = l41 - (l38 + l40);
                             if (l35 > ((l3 < 64u) ? l3 : 64u)) {
                                 const u32 t31 = space_space_Space_copy_store(stack, l0, l1, l2);
-                                l36 = t31;
+                                l39 = t31;
                                 goto L1;
                             }
-                            l1 = l39 - l1;
+                            l1 = l38 - l1;
                             l17 = (u64)l1;
                             {
                                 if (l35 >= 8u) {
@@ -14167,11 +14180,11 @@ static u32 store_item_copies_fill_items(u64 stack, u64 l0, u32 l1, u32 l2, u32 l
                             store32(l5, t119 + l35);
                             goto L1;
                         }
-                        l38 = (l3 > l4) ? l4 : l3;
-                        l17 = (u64)(l37 + l38);
+                        l37 = (l3 > l4) ? l4 : l3;
+                        l17 = (u64)(l36 + l37);
                         l10 = 0ull;
                         if (l3 < l4) {
-                            l5 = (u64)(l4 + l37) - l17;
+                            l5 = (u64)(l4 + l36) - l17;
                             l6 = 0ull - ((l5 > 1ull) ? l5 : 1ull);
                             l1 = 0u;
                             l8 = l9 + (l17 << 3);
@@ -14199,26 +14212,26 @@ static u32 store_item_copies_fill_items(u64 stack, u64 l0, u32 l1, u32 l2, u32 l
                             const u32 t126 = load32(l0 + 16ull);
                             l1 = t126;
                             const u32 t127 = load32(l0 + 20ull);
-                            l39 = l1 + t127;
+                            l38 = l1 + t127;
                             const u32 t128 = load32(l0 + 24ull);
                             l40 = t128;
                             const u32 t129 = load32(l0 + 28ull);
                             l41 = t129;
-                            l17 = (u64)(l1 + l38);
+                            l17 = (u64)(l1 + l37);
                             const u64 t130 = load64(l0);
                             l9 = t130;
                         }
                         store64(l19 + 40u, l17);
                         l20 = l10 & 4294967295ull;
                         store64(l19 + 56u, l20);
-                        l33 = (u64)(l4 - l38);
+                        l33 = (u64)(l4 - l37);
                         store64(l19 + 48u, l33);
                         l24 = (u64)l2;
-                        l37 = (u32)l10;
+                        l36 = (u32)l10;
                         {
                             {
                                 l22 = (u64)(l41 - l40);
-                                l10 = (u64)l39;
+                                l10 = (u64)l38;
                                 if (l22 < (l10 + 8ull)) {
                                     l7 = l12;
                                     goto L132;
@@ -14974,8 +14987,7 @@ static u32 store_item_copies_fill_items(u64 stack, u64 l0, u32 l1, u32 l2, u32 l
                             goto L3;
                         }
                         L131:;
-                        l36 = 0u;
-                        space_space_Space_move_active(stack, l0, 0u);
+                        space_space_Space_drop_spare(stack, l0);
                         const u32 t384 = load32(l0 + 24ull);
                         l3 = t384;
                         const u32 t385 = load32(l0 + 28ull);
@@ -14988,7 +15000,7 @@ static u32 store_item_copies_fill_items(u64 stack, u64 l0, u32 l1, u32 l2, u32 l
                         l9 = t388;
                         store64(l19 + 56u, l20);
                         store64(l19 + 48u, l33);
-                        l17 = (u64)(l1 + l38);
+                        l17 = (u64)(l1 + l37);
                         store64(l19 + 40u, l17);
                         {
                             l16 = (u64)(l35 - l3);
@@ -15084,7 +15096,7 @@ static u32 store_item_copies_fill_items(u64 stack, u64 l0, u32 l1, u32 l2, u32 l
                                                     }
                                                     l13 = l7 - l6;
                                                     if (l13 <= (l16 - l10)) goto L414;
-                                                    goto L2;
+                                                    v2 = 0u; goto L2;
                                                 }
                                                 l14 = l17;
                                                 l8 = 0ull;
@@ -15666,7 +15678,7 @@ static u32 store_item_copies_fill_items(u64 stack, u64 l0, u32 l1, u32 l2, u32 l
                         L389:;
                         space_filling_fill_each(stack, l19 + 8ull, l9, l12, l24, l10, l16, l19 + 40ull);
                         const u32 t608 = load8(l19 + 8u);
-                        if (t608 != 1u) goto L2;
+                        if (t608 != 1u) { v2 = 0u; goto L2; }
                         const u64 t609 = load64(l19 + 16u);
                         l5 = t609;
                         goto L4;
@@ -15676,19 +15688,20 @@ static u32 store_item_copies_fill_items(u64 stack, u64 l0, u32 l1, u32 l2, u32 l
                 L4:;
                 const u32 t610 = load32(l0 + 16ull);
                 store32(l0 + 20ull, (u32)l5 - t610);
-                l36 = 1u;
-                goto L2;
+                v2 = 1u; goto L2;
             }
             L3:;
             const u32 t611 = load32(l0 + 16ull);
             store32(l0 + 20ull, (u32)l5 - t611);
+            v2 = 1u;
         }
         L2:;
-        if (l37 == 0) goto L1;
+        l39 = v2;
+        if (l36 == 0) goto L1;
         const u32 t612 = load32(l0 + 16ull);
         l1 = t612;
-        l5 = (u64)(l1 + l38);
-        l6 = (u64)((l1 + (l37 + l38))) - l5;
+        l5 = (u64)(l1 + l37);
+        l6 = (u64)((l1 + (l36 + l37))) - l5;
         const u64 t613 = load64(l0);
         l5 = t613 + (l5 << 3);
         L614:;
@@ -15732,7 +15745,7 @@ static u32 store_item_copies_fill_items(u64 stack, u64 l0, u32 l1, u32 l2, u32 l
     }
     L1:;
     stack = l19 + 64ull;
-    return l36;
+    return l39;
 }
 
 static void space_filling_fill_each(u64 stack, u64 l0, u64 l1, u64 l2, u64 l3, u64 l4, u64 l5, u64 l6) {
@@ -16710,7 +16723,7 @@ static u32 forms_work_Work_load_other_part(u64 stack, u64 l0, u32 l1, u32 l2) {
             const u32 t7 = load32(l3);
             l23 = t7;
             if (l2 > (l23 - l24)) {
-                space_space_Space_move_active(stack, l0, 0u);
+                space_space_Space_drop_spare(stack, l0);
                 const u32 t9 = load32(l3);
                 l23 = t9;
                 const u32 t10 = load32(l0 + 16ull);
@@ -18784,127 +18797,92 @@ static u64 engine_form_text(u64 stack, u64 l0, u64 l1, u64 l2, u64 l3);
 static void engine_turn(u64 stack, u64 l0, u64 l1, u64 l2, u64 l3, u64 l4, u64 l5, u32 l6, u64 l7);
 
 static u32 core_scan_begin_idling(u64 stack, u64 l0) {
-    u64 l1 = 0;
-    u64 l2 = 0;
-    u64 l3 = 0;
+    u32 l1 = 0;
+    u32 l2 = 0;
+    u32 l3 = 0;
     u64 l4 = 0;
     u64 l5 = 0;
     u64 l6 = 0;
-    u32 l7 = 0;
-    u32 l8 = 0;
-    u32 l9 = 0;
-    u32 l10 = 0;
-    u32 l11 = 0;
-    l4 = stack;
+    u64 l7 = 0;
+    u64 l8 = 0;
+    u64 l9 = 0;
+    l8 = stack;
     {
-        store32(l0 + 32ull, 0u);
-        store32(l0 + 20ull, 0u);
-        {
-            const u32 t3 = load32(l0 + 28ull);
-            l7 = t3;
-            l1 = l0 + 24ull;
-            const u32 t4 = load32(l1);
-            l8 = t4;
-            const u32 t5 = load32(l0 + 16ull);
-            if ((l7 - (l8 + t5)) <= 10u) {
-                const u32 t7 = space_space_Space_try_claim_spare(stack, l0, 11ull);
-                l7 = t7;
-                const u32 t8 = load32(l1);
-                l8 = t8;
-                if (l7 == 0) goto L2;
-                const u32 t9 = load32(l0 + 28ull);
-                l7 = t9;
-            }
-            const u64 t10 = load64(l0);
-            l8 = l8 + 11u;
-            l1 = t10 + ((u64)(l7 - l8) << 3);
-            store64(l1 + 56u, 0ull);
-            store64(l1 + 48u, 0ull);
-            store64(l1 + 40u, 0ull);
-            store64(l1 + 32u, 0ull);
-            store64(l1 + 24u, 0ull);
-            store64(l1 + 16u, 0ull);
-            store64(l1 + 8u, 0ull);
-            store64(l1, 0ull);
-            store16(l1 + 80u, (u16)10496u);
-            store16(l1 + 72u, (u16)10496u);
-            store16(l1 + 64u, (u16)29440u);
-            store32(l1 + 84ull, 0u);
-            store32(l1 + 76ull, 0u);
-            store32(l1 + 68ull, 0u);
-            store8(l1 + 57ull, (u8)114u);
-            store8(l1 + 49ull, (u8)40u);
-            store8(l1 + 41ull, (u8)35u);
-            store8(l1 + 33ull, (u8)44u);
-            store8(l1 + 25ull, (u8)115u);
-            store8(l1 + 17ull, (u8)112u);
-            store8(l1 + 9ull, (u8)40u);
-            store8(l1 + 1ull, (u8)35u);
+        l6 = l0 + 32ull;
+        store32(l6, 0u);
+        l7 = l0 + 20ull;
+        store64(l7, 0ull);
+        l1 = 2u;
+        l4 = l0 + 28ull;
+        const u32 t2 = load32(l4);
+        l2 = t2;
+        const u32 t3 = load32(l0 + 16ull);
+        if ((l2 - t3) <= 8u) {
+            space_space_Space_drop_spare(stack, l0);
+            const u32 t5 = load32(l4);
+            l2 = t5;
+            const u32 t6 = load32(l0 + 24ull);
+            l1 = t6 + 2u;
         }
-        L2:;
-        l1 = l0 + 24ull;
-        store32(l1, l8 - 2u);
-        l5 = l0 + 32ull;
-        const u32 t11 = load32(l5);
-        l9 = t11;
+        const u64 t7 = load64(l0);
+        l4 = t7 + ((u64)(l2 - l1) << 3);
+        store16(l4 + 8u, (u16)10496u);
+        store16(l4, (u16)10496u);
+        store32(l4 + 12ull, 0u);
+        store32(l4 + 4ull, 0u);
+        l9 = l0 + 24ull;
+        store32(l9, l1);
+        const u32 t8 = load32(l6);
+        l2 = t8;
+        const u64 t9 = load64(l0);
+        const u32 t10 = load32(l7);
+        l1 = t10;
+        l4 = l0 + 16ull;
+        const u32 t11 = load32(l4);
+        l5 = t9 + ((u64)(l1 + t11) << 3);
+        store16(l5, (u16)1u);
+        store32(l5 + 4ull, l2 ? ((l1 - l2) + 1u) : 0u);
         const u64 t12 = load64(l0);
-        l6 = l0 + 20ull;
-        const u32 t13 = load32(l6);
-        l7 = t13;
-        l3 = l0 + 16ull;
-        const u32 t14 = load32(l3);
-        l11 = l7 + t14;
-        l2 = t12 + ((u64)l11 << 3);
-        store16(l2, (u16)1u);
-        l10 = l7 + 1u;
-        store32(l2 + 4ull, l9 ? (l10 - l9) : 0u);
-        const u32 t15 = load32(l1);
-        store32(l1, t15 - 1u);
+        l2 = l1 + 1u;
+        const u32 t13 = load32(l4);
+        l5 = t12 + ((u64)(l2 + t13) << 3);
+        store16(l5, (u16)28672u);
+        store32(l5 + 4ull, 0u);
+        const u64 t14 = load64(l0);
+        const u32 t15 = load32(l4);
+        l5 = t14 + ((u64)(((l1 + t15) + 2u)) << 3);
+        store16(l5, (u16)29440u);
+        store32(l5 + 4ull, 0u);
         const u64 t16 = load64(l0);
-        const u32 t17 = load32(l3);
-        l2 = t16 + ((u64)(t17 + l10) << 3);
-        store16(l2, (u16)28672u);
-        store32(l2 + 4ull, 0u);
-        const u32 t18 = load32(l1);
-        store32(l1, t18 - 1u);
-        const u64 t19 = load64(l0);
-        const u32 t20 = load32(l3);
-        l2 = t19 + ((u64)(((l7 + t20) + 2u)) << 3);
-        store16(l2, (u16)29440u);
-        store32(l2 + 4ull, 0u);
-        const u32 t21 = load32(l1);
-        store32(l1, t21 - 1u);
+        const u32 t17 = load32(l4);
+        l5 = t16 + ((u64)(((l1 + t17) + 3u)) << 3);
+        store16(l5, (u16)2u);
+        store32(l5 + 4ull, 0u);
+        const u64 t18 = load64(l0);
+        const u32 t19 = load32(l4);
+        l5 = t18 + ((u64)(((l1 + t19) + 4u)) << 3);
+        store16(l5, (u16)1u);
+        store32(l5 + 4ull, l2 ? 4u : 0u);
+        const u64 t20 = load64(l0);
+        l2 = l1 + 5u;
+        const u32 t21 = load32(l4);
+        l5 = t20 + ((u64)(l2 + t21) << 3);
+        store16(l5, (u16)29184u);
+        store32(l5 + 4ull, 0u);
         const u64 t22 = load64(l0);
-        const u32 t23 = load32(l3);
-        l2 = t22 + ((u64)(((l7 + t23) + 3u)) << 3);
-        store16(l2, (u16)29442u);
-        store32(l2 + 4ull, 0u);
-        const u32 t24 = load32(l1);
-        store32(l1, t24 - 2u);
-        const u64 t25 = load64(l0);
-        const u32 t26 = load32(l3);
-        l2 = t25 + ((u64)(((l7 + t26) + 4u)) << 3);
-        store16(l2, (u16)1u);
-        store32(l2 + 4ull, l10 ? 4u : 0u);
-        const u32 t27 = load32(l1);
-        store32(l1, t27 - 1u);
-        const u64 t28 = load64(l0);
-        l9 = l7 + 5u;
-        const u32 t29 = load32(l3);
-        l2 = t28 + ((u64)(l9 + t29) << 3);
-        store16(l2, (u16)29184u);
-        store32(l2 + 4ull, 0u);
-        const u32 t30 = load32(l1);
-        store32(l1, t30 - 1u);
-        const u64 t31 = load64(l0);
-        const u32 t32 = load32(l3);
-        l0 = t31 + ((u64)(((l7 + t32) + 6u)) << 3);
+        const u32 t23 = load32(l4);
+        l0 = t22 + ((u64)(((l1 + t23) + 6u)) << 3);
         store16(l0, (u16)29440u);
         store32(l0 + 4ull, 0u);
-        store32(l6, l7 + 7u);
-        store32(l5, l9);
-        stack = l4;
-        return l8 + l11;
+        l1 = l1 + 7u;
+        store32(l7, l1);
+        store32(l6, l2);
+        const u32 t24 = load32(l4);
+        l2 = t24;
+        const u32 t25 = load32(l9);
+        l3 = t25;
+        stack = l8;
+        return (l3 + (l1 + l2)) + 2u;
     }
     trap();
     return 0;
@@ -20033,39 +20011,39 @@ static void engine_run(u64 stack, u64 l0, u64 l1, u64 l2, u64 l3, u64 l4, u64 l5
                 store64(l10 + 176u, 0ull);
                 l15 = l10 + 160ull;
                 l8 = l10 + 72ull;
-                l18 = l10 + 128ull;
-                l2 = l10 + 184ull;
+                l19 = l10 + 128ull;
+                l1 = l10 + 184ull;
                 l13 = l10 + 40ull;
                 l14 = l10 + 8ull;
-                l1 = stack - 192ull;
-                stack = l1;
+                l2 = stack - 192ull;
+                stack = l2;
                 {
-                    l4 = l1;
+                    l6 = l2;
                     {
-                        const u64 t11 = load64(l2);
+                        const u64 t11 = load64(l1);
                         l16 = t11;
-                        store32(l4 + 88u, 0u);
+                        store32(l6 + 88u, 0u);
                         const u32 t12 = load32(l8 + 20ull);
                         l31 = t12;
-                        store32(l4 + 92u, l31);
-                        const u32 t13 = load32(l2 + 16u);
+                        store32(l6 + 92u, l31);
+                        const u32 t13 = load32(l1 + 16u);
                         l38 = t13;
-                        const u64 t14 = load64(l2 + 8u);
+                        const u64 t14 = load64(l1 + 8u);
                         l11 = l16 - t14;
                         if ((l11 == 0) == 0) {
                             const u32 t16 = load32(l8 + 24ull);
                             const u32 t17 = load32(l8 + 16ull);
                             l37 = t16 + (l31 + t17);
-                            l17 = l4 + 141ull;
-                            l19 = l4 + 181ull;
-                            l20 = l4 + 125ull;
+                            l17 = l6 + 141ull;
+                            l20 = l6 + 181ull;
+                            l21 = l6 + 125ull;
                             L18:;
                             {
                                 const u32 t19 = load32(l8 + 28ull);
                                 l31 = t19;
                                 const u64 t20 = load64(l8);
-                                l2 = t20;
-                                u64 v21;
+                                l1 = t20;
+                                u32 v21;
                                 {
                                     {
                                         {
@@ -20082,13 +20060,13 @@ static void engine_run(u64 stack, u64 l0, u64 l1, u64 l2, u64 l3, u64 l4, u64 l5
                                                                                     const u32 t34 = load32(l8 + 24ull);
                                                                                     l33 = t34;
                                                                                     if (l33) {
-                                                                                        l1 = 1ull;
+                                                                                        l2 = 1ull;
                                                                                         {
                                                                                             {
                                                                                                 {
                                                                                                     l41 = l31 - l33;
-                                                                                                    l6 = (u64)l41;
-                                                                                                    l3 = l2 + (l6 << 3);
+                                                                                                    l7 = (u64)l41;
+                                                                                                    l3 = l1 + (l7 << 3);
                                                                                                     const u32 t39 = load8(l3 + 1ull);
                                                                                                     switch (t39 - 9u) {
                                                                                                     case 0: goto L23;
@@ -20103,155 +20081,155 @@ static void engine_run(u64 stack, u64 l0, u64 l1, u64 l2, u64 l3, u64 l4, u64 l5
                                                                                                 }
                                                                                                 L38:;
                                                                                                 {
-                                                                                                    l6 = (u64)l31 - l6;
-                                                                                                    if (l6 < 2ull) goto L40;
+                                                                                                    l7 = (u64)l31 - l7;
+                                                                                                    if (l7 < 2ull) goto L40;
                                                                                                     const u32 t41 = load8(l3 + 9ull);
                                                                                                     l31 = t41;
                                                                                                     if (l31 == 40u) goto L26;
                                                                                                     if (l31 != 35u) goto L40;
-                                                                                                    if (l6 == 2ull) goto L40;
+                                                                                                    if (l7 == 2ull) goto L40;
                                                                                                     const u32 t42 = load8(l3 + 17ull);
                                                                                                     if (t42 != 40u) goto L40;
-                                                                                                    l7 = l8 + 24ull;
-                                                                                                    store32(l7, l33 - 3u);
-                                                                                                    l6 = l8 + 32ull;
-                                                                                                    const u32 t43 = load32(l6);
+                                                                                                    l4 = l8 + 24ull;
+                                                                                                    store32(l4, l33 - 3u);
+                                                                                                    l7 = l8 + 32ull;
+                                                                                                    const u32 t43 = load32(l7);
                                                                                                     l31 = t43;
                                                                                                     l3 = l8 + 20ull;
                                                                                                     const u32 t44 = load32(l3);
                                                                                                     l33 = t44;
                                                                                                     l9 = l8 + 16ull;
                                                                                                     const u32 t45 = load32(l9);
-                                                                                                    l2 = l2 + ((u64)(l33 + t45) << 3);
-                                                                                                    store16(l2, (u16)257u);
+                                                                                                    l1 = l1 + ((u64)(l33 + t45) << 3);
+                                                                                                    store16(l1, (u16)257u);
                                                                                                     l33 = l33 + 1u;
-                                                                                                    store32(l2 + 4ull, l31 ? (l33 - l31) : 0u);
+                                                                                                    store32(l1 + 4ull, l31 ? (l33 - l31) : 0u);
                                                                                                     store32(l3, l33);
-                                                                                                    store32(l6, l33);
-                                                                                                    const u32 t46 = load32(l4 + 88u);
+                                                                                                    store32(l7, l33);
+                                                                                                    const u32 t46 = load32(l6 + 88u);
                                                                                                     if (t46 > 1u) goto L22;
                                                                                                     const u32 t47 = load32(l8 + 28ull);
-                                                                                                    const u32 t48 = load32(l7);
+                                                                                                    const u32 t48 = load32(l4);
                                                                                                     l31 = t48;
                                                                                                     l12 = (u64)(t47 - l31);
                                                                                                     const u32 t49 = load32(l9);
-                                                                                                    l7 = (u64)(t49 + l33);
+                                                                                                    l4 = (u64)(t49 + l33);
                                                                                                     const u64 t50 = load64(l8);
-                                                                                                    l2 = t50;
+                                                                                                    l1 = t50;
                                                                                                     {
-                                                                                                        l1 = (u64)l31;
-                                                                                                        l6 = l11 - 1ull;
-                                                                                                        l3 = (l1 < l6) ? l1 : l6;
+                                                                                                        l2 = (u64)l31;
+                                                                                                        l7 = l11 - 1ull;
+                                                                                                        l3 = (l2 < l7) ? l2 : l7;
                                                                                                         if (l3 >= 12ull) {
-                                                                                                            l7 = l2 + (l7 << 3);
-                                                                                                            l3 = (l2 + (l12 << 3)) + 1ull;
-                                                                                                            l2 = 0ull;
+                                                                                                            l4 = l1 + (l4 << 3);
+                                                                                                            l3 = (l1 + (l12 << 3)) + 1ull;
                                                                                                             l1 = 0ull;
+                                                                                                            l2 = 0ull;
                                                                                                             l9 = 0ull;
                                                                                                             {
                                                                                                                 L54:;
                                                                                                                 {
                                                                                                                     {
-                                                                                                                        const u32 t56 = load8(l1 + l3);
+                                                                                                                        const u32 t56 = load8(l2 + l3);
                                                                                                                         l31 = t56;
                                                                                                                         const u32 t57 = load8(((u64)l31 & 255ull) + TABLES + 513u);
                                                                                                                         if (t57 == 0) {
-                                                                                                                            l6 = l1 + l7;
-                                                                                                                            store8(l6, (u8)0u);
-                                                                                                                            store32(l6 + 4ull, 0u);
-                                                                                                                            store8(l6 + 1ull, (u8)l31);
+                                                                                                                            l7 = l2 + l4;
+                                                                                                                            store8(l7, (u8)0u);
+                                                                                                                            store32(l7 + 4ull, 0u);
+                                                                                                                            store8(l7 + 1ull, (u8)l31);
                                                                                                                             goto L55;
                                                                                                                         }
                                                                                                                         if ((l31 & 255u) != 44u) goto L53;
-                                                                                                                        l6 = l1 + l7;
-                                                                                                                        store16(l6, (u16)2u);
-                                                                                                                        store32(l6 + 4ull, 0u);
-                                                                                                                        l9 = l2 + 1ull;
+                                                                                                                        l7 = l2 + l4;
+                                                                                                                        store16(l7, (u16)2u);
+                                                                                                                        store32(l7 + 4ull, 0u);
+                                                                                                                        l9 = l1 + 1ull;
                                                                                                                     }
                                                                                                                     L55:;
-                                                                                                                    l2 = l2 + 1ull;
-                                                                                                                    l1 = l1 + 8ull;
-                                                                                                                    if (l1 != 96ull) goto L54;
+                                                                                                                    l1 = l1 + 1ull;
+                                                                                                                    l2 = l2 + 8ull;
+                                                                                                                    if (l2 != 96ull) goto L54;
                                                                                                                 }
-                                                                                                                l2 = 12ull;
+                                                                                                                l1 = 12ull;
                                                                                                             }
                                                                                                             L53:;
-                                                                                                            l1 = l8 + 24ull;
-                                                                                                            const u32 t59 = load32(l1);
-                                                                                                            l31 = (u32)l2;
-                                                                                                            store32(l1, t59 - l31);
-                                                                                                            l1 = l8 + 20ull;
-                                                                                                            const u32 t60 = load32(l1);
-                                                                                                            store32(l1, t60 + l31);
+                                                                                                            l2 = l8 + 24ull;
+                                                                                                            const u32 t59 = load32(l2);
+                                                                                                            l31 = (u32)l1;
+                                                                                                            store32(l2, t59 - l31);
+                                                                                                            l2 = l8 + 20ull;
+                                                                                                            const u32 t60 = load32(l2);
+                                                                                                            store32(l2, t60 + l31);
                                                                                                             l31 = (u32)l9;
                                                                                                             if (l31 == 0) goto L51;
-                                                                                                            store32(l4 + 92u, l31 + l33);
+                                                                                                            store32(l6 + 92u, l31 + l33);
                                                                                                             goto L51;
                                                                                                         }
                                                                                                         if (l3 == 0) {
-                                                                                                            l2 = 0ull;
+                                                                                                            l1 = 0ull;
                                                                                                             goto L51;
                                                                                                         }
-                                                                                                        l1 = l2 + (l7 << 3);
-                                                                                                        l6 = (l2 + (l12 << 3)) + 1ull;
-                                                                                                        l2 = 0ull;
-                                                                                                        l7 = 0ull;
+                                                                                                        l2 = l1 + (l4 << 3);
+                                                                                                        l7 = (l1 + (l12 << 3)) + 1ull;
+                                                                                                        l1 = 0ull;
+                                                                                                        l4 = 0ull;
                                                                                                         {
                                                                                                             L63:;
                                                                                                             {
                                                                                                                 {
-                                                                                                                    const u32 t65 = load8(l6);
+                                                                                                                    const u32 t65 = load8(l7);
                                                                                                                     l31 = t65;
                                                                                                                     const u32 t66 = load8(((u64)l31 & 255ull) + TABLES + 513u);
                                                                                                                     if (t66 == 0) {
-                                                                                                                        store8(l1, (u8)0u);
-                                                                                                                        store32(l1 + 4ull, 0u);
-                                                                                                                        store8(l1 + 1ull, (u8)l31);
+                                                                                                                        store8(l2, (u8)0u);
+                                                                                                                        store32(l2 + 4ull, 0u);
+                                                                                                                        store8(l2 + 1ull, (u8)l31);
                                                                                                                         goto L64;
                                                                                                                     }
                                                                                                                     if ((l31 & 255u) != 44u) goto L62;
-                                                                                                                    store16(l1, (u16)2u);
-                                                                                                                    store32(l1 + 4ull, 0u);
-                                                                                                                    l7 = l2 + 1ull;
+                                                                                                                    store16(l2, (u16)2u);
+                                                                                                                    store32(l2 + 4ull, 0u);
+                                                                                                                    l4 = l1 + 1ull;
                                                                                                                 }
                                                                                                                 L64:;
-                                                                                                                l6 = l6 + 8ull;
-                                                                                                                l1 = l1 + 8ull;
-                                                                                                                l2 = l2 + 1ull;
-                                                                                                                if (l3 != l2) goto L63;
+                                                                                                                l7 = l7 + 8ull;
+                                                                                                                l2 = l2 + 8ull;
+                                                                                                                l1 = l1 + 1ull;
+                                                                                                                if (l3 != l1) goto L63;
                                                                                                             }
-                                                                                                            l2 = l3;
+                                                                                                            l1 = l3;
                                                                                                         }
                                                                                                         L62:;
-                                                                                                        l1 = l8 + 24ull;
-                                                                                                        const u32 t68 = load32(l1);
-                                                                                                        l31 = (u32)l2;
-                                                                                                        store32(l1, t68 - l31);
-                                                                                                        l1 = l8 + 20ull;
-                                                                                                        const u32 t69 = load32(l1);
-                                                                                                        store32(l1, t69 + l31);
-                                                                                                        l31 = (u32)l7;
+                                                                                                        l2 = l8 + 24ull;
+                                                                                                        const u32 t68 = load32(l2);
+                                                                                                        l31 = (u32)l1;
+                                                                                                        store32(l2, t68 - l31);
+                                                                                                        l2 = l8 + 20ull;
+                                                                                                        const u32 t69 = load32(l2);
+                                                                                                        store32(l2, t69 + l31);
+                                                                                                        l31 = (u32)l4;
                                                                                                         if (l31 == 0) goto L51;
-                                                                                                        store32(l4 + 92u, l31 + l33);
+                                                                                                        store32(l6 + 92u, l31 + l33);
                                                                                                     }
                                                                                                     L51:;
-                                                                                                    l1 = (l2 & 4294967295ull) + 1ull;
+                                                                                                    l2 = (l1 & 4294967295ull) + 1ull;
                                                                                                     goto L22;
                                                                                                 }
                                                                                                 L40:;
                                                                                                 store32(l8 + 24ull, l33 - 1u);
-                                                                                                l6 = l8 + 32ull;
-                                                                                                const u32 t70 = load32(l6);
+                                                                                                l7 = l8 + 32ull;
+                                                                                                const u32 t70 = load32(l7);
                                                                                                 l31 = t70;
                                                                                                 l3 = l8 + 20ull;
                                                                                                 const u32 t71 = load32(l3);
                                                                                                 l33 = t71;
                                                                                                 const u32 t72 = load32(l8 + 16ull);
-                                                                                                l2 = l2 + ((u64)(l33 + t72) << 3);
-                                                                                                store16(l2, (u16)8960u);
-                                                                                                store32(l2 + 4ull, 0u);
+                                                                                                l1 = l1 + ((u64)(l33 + t72) << 3);
+                                                                                                store16(l1, (u16)8960u);
+                                                                                                store32(l1 + 4ull, 0u);
                                                                                                 store32(l3, l33 + 1u);
-                                                                                                store32(l6, l31);
+                                                                                                store32(l7, l31);
                                                                                                 goto L22;
                                                                                             }
                                                                                             L37:;
@@ -20262,8 +20240,8 @@ static void engine_run(u64 stack, u64 l0, u64 l1, u64 l2, u64 l3, u64 l4, u64 l5
                                                                                             goto L22;
                                                                                         }
                                                                                         L36:;
-                                                                                        const u64 t74 = core_scan_add_characters(stack, l8, l11, l4 + 92ull, l4 + 88ull);
-                                                                                        l1 = t74;
+                                                                                        const u64 t74 = core_scan_add_characters(stack, l8, l11, l6 + 92ull, l6 + 88ull);
+                                                                                        l2 = t74;
                                                                                         goto L22;
                                                                                     }
                                                                                     const u32 t75 = load32(l8 + 16ull);
@@ -20274,20 +20252,20 @@ static void engine_run(u64 stack, u64 l0, u64 l1, u64 l2, u64 l3, u64 l4, u64 l5
                                                                                         if ((t77 - l37) < 11u) goto L76;
                                                                                         const u32 t78 = core_scan_begin_idling(stack, l8);
                                                                                         l31 = t78;
-                                                                                        store32(l4 + 88u, 0u);
+                                                                                        store32(l6 + 88u, 0u);
                                                                                         const u32 t79 = load32(l8 + 20ull);
                                                                                         l33 = t79;
-                                                                                        store32(l4 + 92u, l33);
+                                                                                        store32(l6 + 92u, l33);
                                                                                         const u32 t80 = load32(l8 + 24ull);
                                                                                         const u32 t81 = load32(l8 + 16ull);
                                                                                         l37 = t80 + (l33 + t81);
-                                                                                        l38 = (l31 > l38) ? l31 : l38;
-                                                                                        v21 = l11 - 8ull; goto L21;
+                                                                                        l11 = l11 - 8ull;
+                                                                                        v21 = (l31 > l38) ? l31 : l38; goto L21;
                                                                                     }
                                                                                     L76:;
                                                                                     store32(l8 + 32ull, 0u);
-                                                                                    l1 = l8 + 20ull;
-                                                                                    store32(l1, 0u);
+                                                                                    l2 = l8 + 20ull;
+                                                                                    store32(l2, 0u);
                                                                                     l33 = 11u;
                                                                                     if ((l31 - l37) <= 10u) {
                                                                                         const u32 t83 = space_space_Space_try_claim_spare(stack, l8, 11ull);
@@ -20297,33 +20275,33 @@ static void engine_run(u64 stack, u64 l0, u64 l1, u64 l2, u64 l3, u64 l4, u64 l5
                                                                                         const u32 t85 = load32(l8 + 28ull);
                                                                                         l31 = t85;
                                                                                         const u64 t86 = load64(l8);
-                                                                                        l2 = t86;
+                                                                                        l1 = t86;
                                                                                     }
-                                                                                    l2 = l2 + ((u64)(l31 - l33) << 3);
-                                                                                    store64(l2 + 56u, 0ull);
-                                                                                    store64(l2 + 48u, 0ull);
-                                                                                    store64(l2 + 40u, 0ull);
-                                                                                    store64(l2 + 32u, 0ull);
-                                                                                    store64(l2 + 24u, 0ull);
-                                                                                    store64(l2 + 16u, 0ull);
-                                                                                    store64(l2 + 8u, 0ull);
-                                                                                    store64(l2, 0ull);
-                                                                                    store16(l2 + 80u, (u16)10496u);
-                                                                                    store16(l2 + 72u, (u16)10496u);
-                                                                                    store16(l2 + 64u, (u16)29440u);
-                                                                                    store32(l2 + 84ull, 0u);
-                                                                                    store32(l2 + 76ull, 0u);
-                                                                                    store32(l2 + 68ull, 0u);
-                                                                                    store8(l2 + 57ull, (u8)114u);
-                                                                                    store8(l2 + 49ull, (u8)40u);
-                                                                                    store8(l2 + 41ull, (u8)35u);
-                                                                                    store8(l2 + 33ull, (u8)44u);
-                                                                                    store8(l2 + 25ull, (u8)115u);
-                                                                                    store8(l2 + 17ull, (u8)112u);
-                                                                                    store8(l2 + 9ull, (u8)40u);
-                                                                                    store8(l2 + 1ull, (u8)35u);
+                                                                                    l1 = l1 + ((u64)(l31 - l33) << 3);
+                                                                                    store64(l1 + 56u, 0ull);
+                                                                                    store64(l1 + 48u, 0ull);
+                                                                                    store64(l1 + 40u, 0ull);
+                                                                                    store64(l1 + 32u, 0ull);
+                                                                                    store64(l1 + 24u, 0ull);
+                                                                                    store64(l1 + 16u, 0ull);
+                                                                                    store64(l1 + 8u, 0ull);
+                                                                                    store64(l1, 0ull);
+                                                                                    store16(l1 + 80u, (u16)10496u);
+                                                                                    store16(l1 + 72u, (u16)10496u);
+                                                                                    store16(l1 + 64u, (u16)29440u);
+                                                                                    store32(l1 + 84ull, 0u);
+                                                                                    store32(l1 + 76ull, 0u);
+                                                                                    store32(l1 + 68ull, 0u);
+                                                                                    store8(l1 + 57ull, (u8)114u);
+                                                                                    store8(l1 + 49ull, (u8)40u);
+                                                                                    store8(l1 + 41ull, (u8)35u);
+                                                                                    store8(l1 + 33ull, (u8)44u);
+                                                                                    store8(l1 + 25ull, (u8)115u);
+                                                                                    store8(l1 + 17ull, (u8)112u);
+                                                                                    store8(l1 + 9ull, (u8)40u);
+                                                                                    store8(l1 + 1ull, (u8)35u);
                                                                                     store32(l8 + 24ull, l33);
-                                                                                    const u32 t87 = load32(l1);
+                                                                                    const u32 t87 = load32(l2);
                                                                                     l31 = t87;
                                                                                     const u32 t88 = load32(l8 + 16ull);
                                                                                     l41 = t88;
@@ -20337,14 +20315,14 @@ static void engine_run(u64 stack, u64 l0, u64 l1, u64 l2, u64 l3, u64 l4, u64 l5
                                                                                 l37 = t89;
                                                                                 const u32 t90 = load32(l8 + 16ull);
                                                                                 l33 = t90;
-                                                                                const u32 t91 = load32(l4 + 92u);
+                                                                                const u32 t91 = load32(l6 + 92u);
                                                                                 l34 = t91;
-                                                                                store64(l4 + 96u, 0ull);
+                                                                                store64(l6 + 96u, 0ull);
                                                                                 l31 = l43 - 1u;
-                                                                                const u32 t92 = load8((l2 + ((u64)(l33 + l31) << 3)) + 1ull);
+                                                                                const u32 t92 = load8((l1 + ((u64)(l33 + l31) << 3)) + 1ull);
                                                                                 l32 = t92;
-                                                                                store8(l4 + 130u, (u8)0u);
-                                                                                store16(l4 + 128u, (u16)0u);
+                                                                                store8(l6 + 130u, (u8)0u);
+                                                                                store16(l6 + 128u, (u16)0u);
                                                                                 {
                                                                                     {
                                                                                         {
@@ -20357,16 +20335,16 @@ static void engine_run(u64 stack, u64 l0, u64 l1, u64 l2, u64 l3, u64 l4, u64 l5
                                                                                                                     {
                                                                                                                         {
                                                                                                                             l44 = l33 + l37;
-                                                                                                                            l1 = (u64)(l33 + l43);
-                                                                                                                            l6 = (u64)l44 - l1;
-                                                                                                                            if (l6 < 2ull) goto L103;
-                                                                                                                            l1 = l2 + (l1 << 3);
-                                                                                                                            if (l6 != 2ull) {
-                                                                                                                                const u32 t105 = load8(l1 + 16ull);
+                                                                                                                            l2 = (u64)(l33 + l43);
+                                                                                                                            l7 = (u64)l44 - l2;
+                                                                                                                            if (l7 < 2ull) goto L103;
+                                                                                                                            l2 = l1 + (l2 << 3);
+                                                                                                                            if (l7 != 2ull) {
+                                                                                                                                const u32 t105 = load8(l2 + 16ull);
                                                                                                                                 if (t105 != 2u) goto L103;
                                                                                                                             }
-                                                                                                                            functions_function_function_of(stack, l4 + 128ull, l1, l1 + 8ull);
-                                                                                                                            const u32 t106 = load8(l4 + 128u);
+                                                                                                                            functions_function_function_of(stack, l6 + 128ull, l2, l2 + 8ull);
+                                                                                                                            const u32 t106 = load8(l6 + 128u);
                                                                                                                             if (t106 != 1u) goto L103;
                                                                                                                             l39 = l32 == 0;
                                                                                                                             l42 = l43 + 3u;
@@ -20375,7 +20353,7 @@ static void engine_run(u64 stack, u64 l0, u64 l1, u64 l2, u64 l3, u64 l4, u64 l5
                                                                                                                                     {
                                                                                                                                         {
                                                                                                                                             {
-                                                                                                                                                const u32 t112 = load8(l4 + 129u);
+                                                                                                                                                const u32 t112 = load8(l6 + 129u);
                                                                                                                                                 l35 = t112;
                                                                                                                                                 switch (l35 - 1u) {
                                                                                                                                                 case 0: goto L111;
@@ -20414,52 +20392,52 @@ static void engine_run(u64 stack, u64 l0, u64 l1, u64 l2, u64 l3, u64 l4, u64 l5
                                                                                                                                             }
                                                                                                                                             {
                                                                                                                                                 const u64 t116 = load64(l13 + 8u);
-                                                                                                                                                l2 = t116;
-                                                                                                                                                if (l2 == 0) {
+                                                                                                                                                l1 = t116;
+                                                                                                                                                if (l1 == 0) {
                                                                                                                                                     const u32 t118 = load8(l13 + 16ull);
                                                                                                                                                     if (t118) goto L115;
                                                                                                                                                     l36 = 1u;
                                                                                                                                                     store8(l13 + 17ull, (u8)1u);
                                                                                                                                                     goto L95;
                                                                                                                                                 }
-                                                                                                                                                store64(l13 + 8u, l2 - 1ull);
+                                                                                                                                                store64(l13 + 8u, l1 - 1ull);
                                                                                                                                                 const u64 t119 = load64(l13);
-                                                                                                                                                l2 = t119;
-                                                                                                                                                store64(l13, l2 + 1ull);
-                                                                                                                                                const u32 t120 = load8(l2);
+                                                                                                                                                l1 = t119;
+                                                                                                                                                store64(l13, l1 + 1ull);
+                                                                                                                                                const u32 t120 = load8(l1);
                                                                                                                                                 l32 = t120;
-                                                                                                                                                store64(l4 + 128u, 0ull);
-                                                                                                                                                store8(l4 + 129u, (u8)l32);
+                                                                                                                                                store64(l6 + 128u, 0ull);
+                                                                                                                                                store8(l6 + 129u, (u8)l32);
                                                                                                                                                 const u32 t121 = load32(l8 + 28ull);
-                                                                                                                                                l2 = l8 + 20ull;
-                                                                                                                                                const u32 t122 = load32(l2);
+                                                                                                                                                l1 = l8 + 20ull;
+                                                                                                                                                const u32 t122 = load32(l1);
                                                                                                                                                 l34 = t122;
                                                                                                                                                 const u32 t123 = load32(l8 + 16ull);
                                                                                                                                                 l35 = l34 + t123;
                                                                                                                                                 const u32 t124 = load32(l8 + 24ull);
                                                                                                                                                 if (t121 != (l35 + t124)) {
-                                                                                                                                                    l6 = l8 + 32ull;
-                                                                                                                                                    const u32 t126 = load32(l6);
+                                                                                                                                                    l7 = l8 + 32ull;
+                                                                                                                                                    const u32 t126 = load32(l7);
                                                                                                                                                     l36 = t126;
                                                                                                                                                     const u64 t127 = load64(l8);
-                                                                                                                                                    l1 = t127 + ((u64)l35 << 3);
-                                                                                                                                                    store8(l1, (u8)0u);
-                                                                                                                                                    store32(l1 + 4ull, 0u);
-                                                                                                                                                    store8(l1 + 1ull, (u8)l32);
-                                                                                                                                                    store32(l2, l34 + 1u);
-                                                                                                                                                    store32(l6, l36);
+                                                                                                                                                    l2 = t127 + ((u64)l35 << 3);
+                                                                                                                                                    store8(l2, (u8)0u);
+                                                                                                                                                    store32(l2 + 4ull, 0u);
+                                                                                                                                                    store8(l2 + 1ull, (u8)l32);
+                                                                                                                                                    store32(l1, l34 + 1u);
+                                                                                                                                                    store32(l7, l36);
                                                                                                                                                     goto L96;
                                                                                                                                                 }
-                                                                                                                                                const u32 t128 = space_space_Space_push_over_spare(stack, l8, l4 + 128ull);
+                                                                                                                                                const u32 t128 = space_space_Space_push_over_spare(stack, l8, l6 + 128ull);
                                                                                                                                                 if (t128) goto L96;
                                                                                                                                                 l35 = 0u;
                                                                                                                                                 l36 = 0u;
                                                                                                                                                 goto L95;
                                                                                                                                             }
                                                                                                                                             L115:;
-                                                                                                                                            l2 = l13 + 24ull;
-                                                                                                                                            const u64 t129 = load64(l2);
-                                                                                                                                            store64(l2, t129 + 1ull);
+                                                                                                                                            l1 = l13 + 24ull;
+                                                                                                                                            const u64 t129 = load64(l1);
+                                                                                                                                            store64(l1, t129 + 1ull);
                                                                                                                                             l36 = 4u;
                                                                                                                                             goto L95;
                                                                                                                                         }
@@ -20467,62 +20445,62 @@ static void engine_run(u64 stack, u64 l0, u64 l1, u64 l2, u64 l3, u64 l4, u64 l5
                                                                                                                                         l32 = 0u;
                                                                                                                                         store16(l17, (u16)0u);
                                                                                                                                         store8(l17 + 2u, (u8)0u);
-                                                                                                                                        store8(l4 + 140u, (u8)l39);
-                                                                                                                                        store32(l4 + 136u, l34);
-                                                                                                                                        store32(l4 + 132u, l37);
-                                                                                                                                        store32(l4 + 128u, l42);
-                                                                                                                                        functions_arguments_Arguments_next(stack, l4 + 8ull, l4 + 128ull, l8);
-                                                                                                                                        const u32 t130 = load32(l4 + 12u);
+                                                                                                                                        store8(l6 + 140u, (u8)l39);
+                                                                                                                                        store32(l6 + 136u, l34);
+                                                                                                                                        store32(l6 + 132u, l37);
+                                                                                                                                        store32(l6 + 128u, l42);
+                                                                                                                                        functions_arguments_Arguments_next(stack, l6 + 8ull, l6 + 128ull, l8);
+                                                                                                                                        const u32 t130 = load32(l6 + 12u);
                                                                                                                                         l34 = t130;
-                                                                                                                                        const u32 t131 = load32(l4 + 8u);
+                                                                                                                                        const u32 t131 = load32(l6 + 8u);
                                                                                                                                         l35 = t131;
-                                                                                                                                        l1 = (u64)(l35 + l33);
-                                                                                                                                        l6 = (u64)(l34 + l33) - l1;
-                                                                                                                                        store64(l4 + 176u, l6);
-                                                                                                                                        l1 = l2 + (l1 << 3);
-                                                                                                                                        store64(l4 + 168u, l1);
+                                                                                                                                        l2 = (u64)(l35 + l33);
+                                                                                                                                        l7 = (u64)(l34 + l33) - l2;
+                                                                                                                                        store64(l6 + 176u, l7);
+                                                                                                                                        l2 = l1 + (l2 << 3);
+                                                                                                                                        store64(l6 + 168u, l2);
                                                                                                                                         if (l34 == l35) goto L98;
                                                                                                                                         l3 = l14 + 16ull;
                                                                                                                                         const u64 t132 = load64(l3);
-                                                                                                                                        l2 = t132;
+                                                                                                                                        l1 = t132;
                                                                                                                                         {
-                                                                                                                                            if (l6 <= 15ull) {
-                                                                                                                                                l1 = l1 + 1ull;
+                                                                                                                                            if (l7 <= 15ull) {
+                                                                                                                                                l2 = l2 + 1ull;
                                                                                                                                                 L135:;
                                                                                                                                                 {
                                                                                                                                                     const u64 t136 = load64(l14 + 8ull);
-                                                                                                                                                    if (t136 > l2) {
+                                                                                                                                                    if (t136 > l1) {
                                                                                                                                                         const u64 t138 = load64(l14);
-                                                                                                                                                        const u32 t139 = load8(l1);
-                                                                                                                                                        store8(t138 + l2, (u8)t139);
-                                                                                                                                                        l2 = l14 + 16ull;
-                                                                                                                                                        const u64 t140 = load64(l2);
-                                                                                                                                                        const u64 t141 = l2;
-                                                                                                                                                        l2 = t140 + 1ull;
-                                                                                                                                                        store64(t141, l2);
-                                                                                                                                                        l1 = l1 + 8ull;
-                                                                                                                                                        l6 = l6 - 1ull;
-                                                                                                                                                        if ((l6 == 0) == 0) goto L135;
+                                                                                                                                                        const u32 t139 = load8(l2);
+                                                                                                                                                        store8(t138 + l1, (u8)t139);
+                                                                                                                                                        l1 = l14 + 16ull;
+                                                                                                                                                        const u64 t140 = load64(l1);
+                                                                                                                                                        const u64 t141 = l1;
+                                                                                                                                                        l1 = t140 + 1ull;
+                                                                                                                                                        store64(t141, l1);
+                                                                                                                                                        l2 = l2 + 8ull;
+                                                                                                                                                        l7 = l7 - 1ull;
+                                                                                                                                                        if ((l7 == 0) == 0) goto L135;
                                                                                                                                                         goto L98;
                                                                                                                                                     }
                                                                                                                                                 }
-                                                                                                                                                l2 = l14 + 24ull;
-                                                                                                                                                const u64 t142 = load64(l2);
-                                                                                                                                                store64(l2, t142 + 1ull);
+                                                                                                                                                l1 = l14 + 24ull;
+                                                                                                                                                const u64 t142 = load64(l1);
+                                                                                                                                                store64(l1, t142 + 1ull);
                                                                                                                                                 goto L133;
                                                                                                                                             }
                                                                                                                                             const u64 t143 = load64(l14);
                                                                                                                                             const u64 t144 = load64(l14 + 8ull);
-                                                                                                                                            const u64 t145 = c_filling_put_characters(stack, l4 + 168ull, l2, t143, t144);
-                                                                                                                                            l2 = t145;
+                                                                                                                                            const u64 t145 = c_filling_put_characters(stack, l6 + 168ull, l1, t143, t144);
+                                                                                                                                            l1 = t145;
                                                                                                                                             const u64 t146 = load64(l3);
-                                                                                                                                            store64(l3, l2 + t146);
+                                                                                                                                            store64(l3, l1 + t146);
                                                                                                                                             l35 = 3u;
                                                                                                                                             l36 = 0u;
-                                                                                                                                            if (l2 >= l6) goto L97;
-                                                                                                                                            l2 = l14 + 24ull;
-                                                                                                                                            const u64 t147 = load64(l2);
-                                                                                                                                            store64(l2, t147 + 1ull);
+                                                                                                                                            if (l1 >= l7) goto L97;
+                                                                                                                                            l1 = l14 + 24ull;
+                                                                                                                                            const u64 t147 = load64(l1);
+                                                                                                                                            store64(l1, t147 + 1ull);
                                                                                                                                         }
                                                                                                                                         L133:;
                                                                                                                                         l36 = 5u;
@@ -20530,22 +20508,22 @@ static void engine_run(u64 stack, u64 l0, u64 l1, u64 l2, u64 l3, u64 l4, u64 l5
                                                                                                                                         goto L97;
                                                                                                                                     }
                                                                                                                                     L109:;
-                                                                                                                                    store16(l19, (u16)0u);
-                                                                                                                                    store8(l19 + 2u, (u8)0u);
-                                                                                                                                    store8(l4 + 180u, (u8)l39);
-                                                                                                                                    store32(l4 + 176u, l34);
-                                                                                                                                    store32(l4 + 172u, l37);
-                                                                                                                                    store32(l4 + 168u, l42);
-                                                                                                                                    functions_arguments_Arguments_next(stack, l4 + 32ull, l4 + 168ull, l8);
-                                                                                                                                    const u32 t148 = load32(l4 + 36u);
+                                                                                                                                    store16(l20, (u16)0u);
+                                                                                                                                    store8(l20 + 2u, (u8)0u);
+                                                                                                                                    store8(l6 + 180u, (u8)l39);
+                                                                                                                                    store32(l6 + 176u, l34);
+                                                                                                                                    store32(l6 + 172u, l37);
+                                                                                                                                    store32(l6 + 168u, l42);
+                                                                                                                                    functions_arguments_Arguments_next(stack, l6 + 32ull, l6 + 168ull, l8);
+                                                                                                                                    const u32 t148 = load32(l6 + 36u);
                                                                                                                                     l32 = t148;
-                                                                                                                                    const u32 t149 = load32(l4 + 32u);
+                                                                                                                                    const u32 t149 = load32(l6 + 32u);
                                                                                                                                     l34 = t149;
-                                                                                                                                    store64(l4 + 160u, 0ull);
-                                                                                                                                    store64(l4 + 152u, 0ull);
-                                                                                                                                    store64(l4 + 144u, 0ull);
-                                                                                                                                    store64(l4 + 136u, 0ull);
-                                                                                                                                    store64(l4 + 128u, 0ull);
+                                                                                                                                    store64(l6 + 160u, 0ull);
+                                                                                                                                    store64(l6 + 152u, 0ull);
+                                                                                                                                    store64(l6 + 144u, 0ull);
+                                                                                                                                    store64(l6 + 136u, 0ull);
+                                                                                                                                    store64(l6 + 128u, 0ull);
                                                                                                                                     {
                                                                                                                                         {
                                                                                                                                             u32 v152;
@@ -20553,38 +20531,38 @@ static void engine_run(u64 stack, u64 l0, u64 l1, u64 l2, u64 l3, u64 l4, u64 l5
                                                                                                                                                 const u32 t153 = load32(l8 + 40ull);
                                                                                                                                                 l35 = t153;
                                                                                                                                                 if (l35 >= 8u) {
-                                                                                                                                                    forms_work_Work_find_among_more(stack, l4 + 16ull, l8, l34, l32);
-                                                                                                                                                    const u32 t155 = load8(l4 + 16u);
+                                                                                                                                                    forms_work_Work_find_among_more(stack, l6 + 16ull, l8, l34, l32);
+                                                                                                                                                    const u32 t155 = load8(l6 + 16u);
                                                                                                                                                     l32 = t155;
-                                                                                                                                                    const u32 t156 = load32(l4 + 20u);
+                                                                                                                                                    const u32 t156 = load32(l6 + 20u);
                                                                                                                                                     v152 = t156; goto L152;
                                                                                                                                                 }
                                                                                                                                                 {
                                                                                                                                                     if (l35 == 0) goto L157;
-                                                                                                                                                    const u64 t158 = load32(l2 + 4ull);
-                                                                                                                                                    l6 = (u64)(l32 + l33);
-                                                                                                                                                    l1 = (u64)(l33 + l34);
-                                                                                                                                                    if (t158 != (l6 - l1)) goto L157;
-                                                                                                                                                    l7 = 17ull - (l1 << 3);
-                                                                                                                                                    l1 = (l6 ^ 18446744073709551615ull) + l1;
-                                                                                                                                                    l2 = l2 + (l6 << 3);
+                                                                                                                                                    const u64 t158 = load32(l1 + 4ull);
+                                                                                                                                                    l7 = (u64)(l32 + l33);
+                                                                                                                                                    l2 = (u64)(l33 + l34);
+                                                                                                                                                    if (t158 != (l7 - l2)) goto L157;
+                                                                                                                                                    l4 = 17ull - (l2 << 3);
+                                                                                                                                                    l2 = (l7 ^ 18446744073709551615ull) + l2;
+                                                                                                                                                    l1 = l1 + (l7 << 3);
                                                                                                                                                     L159:;
                                                                                                                                                     {
-                                                                                                                                                        l1 = l1 + 1ull;
-                                                                                                                                                        if (l1 == 0) goto L151;
-                                                                                                                                                        l6 = l2 - 7ull;
-                                                                                                                                                        l3 = l2 + l7;
-                                                                                                                                                        l2 = l2 - 8ull;
+                                                                                                                                                        l2 = l2 + 1ull;
+                                                                                                                                                        if (l2 == 0) goto L151;
+                                                                                                                                                        l7 = l1 - 7ull;
+                                                                                                                                                        l3 = l1 + l4;
+                                                                                                                                                        l1 = l1 - 8ull;
                                                                                                                                                         const u32 t160 = load8(l3);
-                                                                                                                                                        const u32 t161 = load8(l6);
+                                                                                                                                                        const u32 t161 = load8(l7);
                                                                                                                                                         if (t160 == t161) goto L159;
                                                                                                                                                     }
                                                                                                                                                 }
                                                                                                                                                 L157:;
-                                                                                                                                                forms_work_Work_find_among_few(stack, l4 + 24ull, l8, l34, l32);
-                                                                                                                                                const u32 t162 = load8(l4 + 24u);
+                                                                                                                                                forms_work_Work_find_among_few(stack, l6 + 24ull, l8, l34, l32);
+                                                                                                                                                const u32 t162 = load8(l6 + 24u);
                                                                                                                                                 l32 = t162;
-                                                                                                                                                const u32 t163 = load32(l4 + 28u);
+                                                                                                                                                const u32 t163 = load32(l6 + 28u);
                                                                                                                                                 v152 = t163;
                                                                                                                                             }
                                                                                                                                             L152:;
@@ -20592,7 +20570,7 @@ static void engine_run(u64 stack, u64 l0, u64 l1, u64 l2, u64 l3, u64 l4, u64 l5
                                                                                                                                             if ((l32 & 255u) == 1u) goto L150;
                                                                                                                                             l36 = 0u;
                                                                                                                                             l35 = 3u;
-                                                                                                                                            store8(l4 + 97u, (u8)0u);
+                                                                                                                                            store8(l6 + 97u, (u8)0u);
                                                                                                                                             goto L95;
                                                                                                                                         }
                                                                                                                                         L151:;
@@ -20600,16 +20578,16 @@ static void engine_run(u64 stack, u64 l0, u64 l1, u64 l2, u64 l3, u64 l4, u64 l5
                                                                                                                                         l34 = 0u;
                                                                                                                                     }
                                                                                                                                     L150:;
-                                                                                                                                    forms_work_Work_stored(stack, l4 + 128ull, l8, l34);
-                                                                                                                                    const u32 t164 = core_display_show_form(stack, l4 + 128ull, l14);
+                                                                                                                                    forms_work_Work_stored(stack, l6 + 128ull, l8, l34);
+                                                                                                                                    const u32 t164 = core_display_show_form(stack, l6 + 128ull, l14);
                                                                                                                                     l32 = t164 & 255u;
                                                                                                                                     l35 = l32 + 3u;
                                                                                                                                     l36 = l32 ? 5u : 0u;
-                                                                                                                                    store8(l4 + 97u, (u8)l36);
+                                                                                                                                    store8(l6 + 97u, (u8)l36);
                                                                                                                                     goto L95;
                                                                                                                                 }
                                                                                                                                 L108:;
-                                                                                                                                const u32 t165 = load8(l4 + 130u);
+                                                                                                                                const u32 t165 = load8(l6 + 130u);
                                                                                                                                 l40 = t165;
                                                                                                                                 {
                                                                                                                                     if ((l35 - 5u) < 20u) goto L166;
@@ -20625,23 +20603,23 @@ static void engine_run(u64 stack, u64 l0, u64 l1, u64 l2, u64 l3, u64 l4, u64 l5
                                                                                                                                     L167:;
                                                                                                                                     store16(l17, (u16)0u);
                                                                                                                                     store8(l17 + 2u, (u8)0u);
-                                                                                                                                    store8(l4 + 140u, (u8)l39);
-                                                                                                                                    store32(l4 + 136u, l34);
-                                                                                                                                    store32(l4 + 132u, l37);
-                                                                                                                                    store32(l4 + 128u, l42);
-                                                                                                                                    functions_arguments_Arguments_next(stack, l4 + 40ull, l4 + 128ull, l8);
-                                                                                                                                    const u32 t168 = load32(l4 + 40u);
+                                                                                                                                    store8(l6 + 140u, (u8)l39);
+                                                                                                                                    store32(l6 + 136u, l34);
+                                                                                                                                    store32(l6 + 132u, l37);
+                                                                                                                                    store32(l6 + 128u, l42);
+                                                                                                                                    functions_arguments_Arguments_next(stack, l6 + 40ull, l6 + 128ull, l8);
+                                                                                                                                    const u32 t168 = load32(l6 + 40u);
                                                                                                                                     l34 = t168;
-                                                                                                                                    const u32 t169 = load32(l4 + 44u);
+                                                                                                                                    const u32 t169 = load32(l6 + 44u);
                                                                                                                                     if (l34 != t169) {
-                                                                                                                                        l2 = l2 + ((u64)(l33 + l34) << 3);
-                                                                                                                                        const u32 t171 = load8(l2);
-                                                                                                                                        const u64 t172 = l18;
+                                                                                                                                        l1 = l1 + ((u64)(l33 + l34) << 3);
+                                                                                                                                        const u32 t171 = load8(l1);
+                                                                                                                                        const u64 t172 = l19;
                                                                                                                                         u32 v173;
                                                                                                                                         if (t171) {
                                                                                                                                             v173 = 0u;
                                                                                                                                         } else {
-                                                                                                                                            const u32 t174 = load8(l2 + 1ull);
+                                                                                                                                            const u32 t174 = load8(l1 + 1ull);
                                                                                                                                             v173 = t174;
                                                                                                                                         }
                                                                                                                                         store8(t172, (u8)v173);
@@ -20650,13 +20628,13 @@ static void engine_run(u64 stack, u64 l0, u64 l1, u64 l2, u64 l3, u64 l4, u64 l5
                                                                                                                                     goto L97;
                                                                                                                                 }
                                                                                                                                 L166:;
-                                                                                                                                store16(l20, (u16)0u);
-                                                                                                                                store8(l20 + 2u, (u8)0u);
-                                                                                                                                store8(l4 + 124u, (u8)l39);
-                                                                                                                                store32(l4 + 120u, l34);
-                                                                                                                                store32(l4 + 116u, l37);
-                                                                                                                                store32(l4 + 112u, l42);
-                                                                                                                                store64(l4 + 104u, 0ull);
+                                                                                                                                store16(l21, (u16)0u);
+                                                                                                                                store8(l21 + 2u, (u8)0u);
+                                                                                                                                store8(l6 + 124u, (u8)l39);
+                                                                                                                                store32(l6 + 120u, l34);
+                                                                                                                                store32(l6 + 116u, l37);
+                                                                                                                                store32(l6 + 112u, l42);
+                                                                                                                                store64(l6 + 104u, 0ull);
                                                                                                                                 {
                                                                                                                                     {
                                                                                                                                         {
@@ -20701,184 +20679,259 @@ static void engine_run(u64 stack, u64 l0, u64 l1, u64 l2, u64 l3, u64 l4, u64 l5
                                                                                                                                                                                                                 }
                                                                                                                                                                                                             }
                                                                                                                                                                                                             L194:;
-                                                                                                                                                                                                            functions_form_calls_define_string(stack, l4 + 104ull, l8, l4 + 112ull);
+                                                                                                                                                                                                            functions_form_calls_define_string(stack, l6 + 104ull, l8, l6 + 112ull);
                                                                                                                                                                                                             goto L99;
                                                                                                                                                                                                         }
                                                                                                                                                                                                         L193:;
-                                                                                                                                                                                                        functions_form_calls_segment_string(stack, l4 + 104ull, l8, l4 + 112ull);
+                                                                                                                                                                                                        functions_form_calls_segment_string(stack, l6 + 104ull, l8, l6 + 112ull);
                                                                                                                                                                                                         goto L99;
                                                                                                                                                                                                     }
                                                                                                                                                                                                     L192:;
-                                                                                                                                                                                                    functions_form_calls_delete_definition(stack, l4 + 104ull, l8, l4 + 112ull);
+                                                                                                                                                                                                    functions_form_calls_delete_definition(stack, l6 + 104ull, l8, l6 + 112ull);
                                                                                                                                                                                                     goto L99;
                                                                                                                                                                                                 }
                                                                                                                                                                                                 L191:;
-                                                                                                                                                                                                functions_form_calls_delete_all(stack, l4 + 104ull, l8);
+                                                                                                                                                                                                space_space_Space_remove_store(stack, l8, 0u, l33);
+                                                                                                                                                                                                {
+                                                                                                                                                                                                    const u32 t196 = load32(l8 + 40ull);
+                                                                                                                                                                                                    const u64 t197 = load64(l8 + 8ull);
+                                                                                                                                                                                                    l1 = t197;
+                                                                                                                                                                                                    const u32 t198 = load32(l8 + 28ull);
+                                                                                                                                                                                                    l32 = t198;
+                                                                                                                                                                                                    if (t196 < (((u32)l1 - l32) >> 5)) {
+                                                                                                                                                                                                        space_space_Space_drop_spare(stack, l8);
+                                                                                                                                                                                                        goto L195;
+                                                                                                                                                                                                    }
+                                                                                                                                                                                                    l2 = (u64)l32;
+                                                                                                                                                                                                    if (l1 == l2) goto L195;
+                                                                                                                                                                                                    l9 = l1 - l2;
+                                                                                                                                                                                                    const u64 t200 = load64(l8);
+                                                                                                                                                                                                    l12 = t200 + (l2 << 3);
+                                                                                                                                                                                                    l4 = 0ull;
+                                                                                                                                                                                                    L201:;
+                                                                                                                                                                                                    {
+                                                                                                                                                                                                        l1 = l4;
+                                                                                                                                                                                                        l2 = l9 - l1;
+                                                                                                                                                                                                        l3 = (l2 < 254ull) ? l2 : 254ull;
+                                                                                                                                                                                                        l4 = l3 + l1;
+                                                                                                                                                                                                        {
+                                                                                                                                                                                                            l2 = l3 << 3;
+                                                                                                                                                                                                            l18 = l1 << 3;
+                                                                                                                                                                                                            l1 = l12 + l18;
+                                                                                                                                                                                                            if (l2 > (l1 - (TABLES + 772u))) {
+                                                                                                                                                                                                                l2 = l3 & 3ull;
+                                                                                                                                                                                                                l7 = 0ull;
+                                                                                                                                                                                                                const u64 t204 = l12;
+                                                                                                                                                                                                                const u64 t205 = l18;
+                                                                                                                                                                                                                u64 v206;
+                                                                                                                                                                                                                if ((l3 - 1ull) >= 3ull) {
+                                                                                                                                                                                                                    l3 = 0ull - (l3 & 18446744073709551612ull);
+                                                                                                                                                                                                                    L207:;
+                                                                                                                                                                                                                    {
+                                                                                                                                                                                                                        store16(l1, (u16)0u);
+                                                                                                                                                                                                                        store32(l1 + 28ull, 0u);
+                                                                                                                                                                                                                        store16(l1 + 24ull, (u16)0u);
+                                                                                                                                                                                                                        store32(l1 + 20ull, 0u);
+                                                                                                                                                                                                                        store16(l1 + 16ull, (u16)0u);
+                                                                                                                                                                                                                        store32(l1 + 12ull, 0u);
+                                                                                                                                                                                                                        store16(l1 + 8ull, (u16)0u);
+                                                                                                                                                                                                                        store32(l1 + 4ull, 0u);
+                                                                                                                                                                                                                        l1 = l1 + 32ull;
+                                                                                                                                                                                                                        l7 = l7 - 4ull;
+                                                                                                                                                                                                                        if (l3 != l7) goto L207;
+                                                                                                                                                                                                                    }
+                                                                                                                                                                                                                    if (l2 == 0) goto L202;
+                                                                                                                                                                                                                    v206 = 0ull - l7;
+                                                                                                                                                                                                                } else {
+                                                                                                                                                                                                                    v206 = 0ull;
+                                                                                                                                                                                                                }
+                                                                                                                                                                                                                l1 = t204 + (t205 + (v206 << 3));
+                                                                                                                                                                                                                L208:;
+                                                                                                                                                                                                                {
+                                                                                                                                                                                                                    store16(l1, (u16)0u);
+                                                                                                                                                                                                                    store32(l1 + 4ull, 0u);
+                                                                                                                                                                                                                    l1 = l1 + 8ull;
+                                                                                                                                                                                                                    l2 = l2 - 1ull;
+                                                                                                                                                                                                                    if (l2 != 0ull) goto L208;
+                                                                                                                                                                                                                }
+                                                                                                                                                                                                                goto L202;
+                                                                                                                                                                                                            }
+                                                                                                                                                                                                            if (l2 == 0) goto L202;
+                                                                                                                                                                                                            memset(at(l1), (int)0u, (size_t)l2);
+                                                                                                                                                                                                        }
+                                                                                                                                                                                                        L202:;
+                                                                                                                                                                                                        if (l4 < l9) goto L201;
+                                                                                                                                                                                                    }
+                                                                                                                                                                                                }
+                                                                                                                                                                                                L195:;
+                                                                                                                                                                                                store32(l8 + 48ull, 0u);
+                                                                                                                                                                                                store64(l8 + 40ull, 0ull);
+                                                                                                                                                                                                store32(l6 + 108u, 0u);
+                                                                                                                                                                                                store16(l6 + 104u, (u16)1u);
                                                                                                                                                                                                 goto L99;
                                                                                                                                                                                             }
                                                                                                                                                                                             L190:;
-                                                                                                                                                                                            functions_form_calls_list_names(stack, l4 + 104ull, l8, l4 + 112ull);
+                                                                                                                                                                                            functions_form_calls_list_names(stack, l6 + 104ull, l8, l6 + 112ull);
                                                                                                                                                                                             goto L99;
                                                                                                                                                                                         }
                                                                                                                                                                                         L189:;
-                                                                                                                                                                                        const u64 t195 = load64(l4 + 120u);
-                                                                                                                                                                                        store64(l4 + 136u, t195);
-                                                                                                                                                                                        const u64 t196 = load64(l4 + 112u);
-                                                                                                                                                                                        store64(l4 + 128u, t196);
-                                                                                                                                                                                        const u32 t197 = load8(l4 + 140u);
-                                                                                                                                                                                        l35 = t197;
-                                                                                                                                                                                        functions_arguments_Arguments_next(stack, l4 + 72ull, l4 + 128ull, l8);
-                                                                                                                                                                                        const u32 t198 = load32(l4 + 76u);
-                                                                                                                                                                                        l32 = t198;
-                                                                                                                                                                                        const u32 t199 = load32(l4 + 72u);
-                                                                                                                                                                                        l34 = t199;
-                                                                                                                                                                                        u32 v200;
+                                                                                                                                                                                        const u64 t209 = load64(l6 + 120u);
+                                                                                                                                                                                        store64(l6 + 136u, t209);
+                                                                                                                                                                                        const u64 t210 = load64(l6 + 112u);
+                                                                                                                                                                                        store64(l6 + 128u, t210);
+                                                                                                                                                                                        const u32 t211 = load8(l6 + 140u);
+                                                                                                                                                                                        l35 = t211;
+                                                                                                                                                                                        functions_arguments_Arguments_next(stack, l6 + 72ull, l6 + 128ull, l8);
+                                                                                                                                                                                        const u32 t212 = load32(l6 + 76u);
+                                                                                                                                                                                        l32 = t212;
+                                                                                                                                                                                        const u32 t213 = load32(l6 + 72u);
+                                                                                                                                                                                        l34 = t213;
+                                                                                                                                                                                        u32 v214;
                                                                                                                                                                                         {
-                                                                                                                                                                                            const u32 t201 = load32(l8 + 40ull);
-                                                                                                                                                                                            l36 = t201;
+                                                                                                                                                                                            const u32 t215 = load32(l8 + 40ull);
+                                                                                                                                                                                            l36 = t215;
                                                                                                                                                                                             if (l36 >= 8u) {
-                                                                                                                                                                                                forms_work_Work_find_among_more(stack, l4 + 56ull, l8, l34, l32);
-                                                                                                                                                                                                const u32 t203 = load8(l4 + 56u);
-                                                                                                                                                                                                l32 = t203;
-                                                                                                                                                                                                const u32 t204 = load32(l4 + 60u);
-                                                                                                                                                                                                v200 = t204; goto L200;
+                                                                                                                                                                                                forms_work_Work_find_among_more(stack, l6 + 56ull, l8, l34, l32);
+                                                                                                                                                                                                const u32 t217 = load32(l6 + 60u);
+                                                                                                                                                                                                l40 = t217;
+                                                                                                                                                                                                const u32 t218 = load8(l6 + 56u);
+                                                                                                                                                                                                v214 = t218; goto L214;
                                                                                                                                                                                             }
                                                                                                                                                                                             {
-                                                                                                                                                                                                if (l36 == 0) goto L205;
-                                                                                                                                                                                                const u64 t206 = load32(l2 + 4ull);
-                                                                                                                                                                                                l6 = (u64)(l32 + l33);
-                                                                                                                                                                                                l1 = (u64)(l33 + l34);
-                                                                                                                                                                                                if (t206 != (l6 - l1)) goto L205;
-                                                                                                                                                                                                l7 = 17ull - (l1 << 3);
-                                                                                                                                                                                                l1 = (l6 ^ 18446744073709551615ull) + l1;
-                                                                                                                                                                                                l2 = l2 + (l6 << 3);
-                                                                                                                                                                                                L207:;
+                                                                                                                                                                                                if (l36 == 0) goto L219;
+                                                                                                                                                                                                const u64 t220 = load32(l1 + 4ull);
+                                                                                                                                                                                                l7 = (u64)(l32 + l33);
+                                                                                                                                                                                                l2 = (u64)(l33 + l34);
+                                                                                                                                                                                                if (t220 != (l7 - l2)) goto L219;
+                                                                                                                                                                                                l4 = 17ull - (l2 << 3);
+                                                                                                                                                                                                l2 = (l7 ^ 18446744073709551615ull) + l2;
+                                                                                                                                                                                                l1 = l1 + (l7 << 3);
+                                                                                                                                                                                                L221:;
                                                                                                                                                                                                 {
-                                                                                                                                                                                                    l1 = l1 + 1ull;
-                                                                                                                                                                                                    if (l1 == 0) goto L102;
-                                                                                                                                                                                                    l6 = l2 - 7ull;
-                                                                                                                                                                                                    l3 = l2 + l7;
-                                                                                                                                                                                                    l2 = l2 - 8ull;
-                                                                                                                                                                                                    const u32 t208 = load8(l3);
-                                                                                                                                                                                                    const u32 t209 = load8(l6);
-                                                                                                                                                                                                    if (t208 == t209) goto L207;
+                                                                                                                                                                                                    l2 = l2 + 1ull;
+                                                                                                                                                                                                    if (l2 == 0) goto L102;
+                                                                                                                                                                                                    l7 = l1 - 7ull;
+                                                                                                                                                                                                    l3 = l1 + l4;
+                                                                                                                                                                                                    l1 = l1 - 8ull;
+                                                                                                                                                                                                    const u32 t222 = load8(l3);
+                                                                                                                                                                                                    const u32 t223 = load8(l7);
+                                                                                                                                                                                                    if (t222 == t223) goto L221;
                                                                                                                                                                                                 }
                                                                                                                                                                                             }
-                                                                                                                                                                                            L205:;
-                                                                                                                                                                                            forms_work_Work_find_among_few(stack, l4 + 64ull, l8, l34, l32);
-                                                                                                                                                                                            const u32 t210 = load8(l4 + 64u);
-                                                                                                                                                                                            l32 = t210;
-                                                                                                                                                                                            const u32 t211 = load32(l4 + 68u);
-                                                                                                                                                                                            v200 = t211;
+                                                                                                                                                                                            L219:;
+                                                                                                                                                                                            forms_work_Work_find_among_few(stack, l6 + 64ull, l8, l34, l32);
+                                                                                                                                                                                            const u32 t224 = load32(l6 + 68u);
+                                                                                                                                                                                            l40 = t224;
+                                                                                                                                                                                            const u32 t225 = load8(l6 + 64u);
+                                                                                                                                                                                            v214 = t225;
                                                                                                                                                                                         }
-                                                                                                                                                                                        L200:;
-                                                                                                                                                                                        l40 = v200;
-                                                                                                                                                                                        if ((l32 & 255u) != 1u) goto L101;
+                                                                                                                                                                                        L214:;
+                                                                                                                                                                                        if ((v214 & 255u) != 1u) goto L101;
                                                                                                                                                                                         goto L100;
                                                                                                                                                                                     }
                                                                                                                                                                                     L188:;
-                                                                                                                                                                                    functions_form_parts_call_segment(stack, l4 + 104ull, l8, l4 + 112ull);
+                                                                                                                                                                                    functions_form_parts_call_segment(stack, l6 + 104ull, l8, l6 + 112ull);
                                                                                                                                                                                     goto L99;
                                                                                                                                                                                 }
                                                                                                                                                                                 L187:;
-                                                                                                                                                                                functions_form_parts_call_character(stack, l4 + 104ull, l8, l4 + 112ull);
+                                                                                                                                                                                functions_form_parts_call_character(stack, l6 + 104ull, l8, l6 + 112ull);
                                                                                                                                                                                 goto L99;
                                                                                                                                                                             }
                                                                                                                                                                             L186:;
-                                                                                                                                                                            functions_form_parts_call_number(stack, l4 + 104ull, l8, l4 + 112ull);
+                                                                                                                                                                            functions_form_parts_call_number(stack, l6 + 104ull, l8, l6 + 112ull);
                                                                                                                                                                             goto L99;
                                                                                                                                                                         }
                                                                                                                                                                         L185:;
-                                                                                                                                                                        functions_form_parts_initial_part(stack, l4 + 104ull, l8, l4 + 112ull);
+                                                                                                                                                                        functions_form_parts_initial_part(stack, l6 + 104ull, l8, l6 + 112ull);
                                                                                                                                                                         goto L99;
                                                                                                                                                                     }
                                                                                                                                                                     L184:;
-                                                                                                                                                                    functions_form_parts_call_restore(stack, l4 + 104ull, l8, l4 + 112ull);
+                                                                                                                                                                    functions_form_parts_call_restore(stack, l6 + 104ull, l8, l6 + 112ull);
                                                                                                                                                                     goto L99;
                                                                                                                                                                 }
                                                                                                                                                                 L183:;
-                                                                                                                                                                functions_comparing_equal(stack, l4 + 104ull, l8, l4 + 112ull);
+                                                                                                                                                                functions_comparing_equal(stack, l6 + 104ull, l8, l6 + 112ull);
                                                                                                                                                                 goto L99;
                                                                                                                                                             }
                                                                                                                                                             L182:;
-                                                                                                                                                            functions_comparing_greater(stack, l4 + 104ull, l8, l4 + 112ull);
+                                                                                                                                                            functions_comparing_greater(stack, l6 + 104ull, l8, l6 + 112ull);
                                                                                                                                                             goto L99;
                                                                                                                                                         }
                                                                                                                                                         L181:;
-                                                                                                                                                        functions_arithmetic_arithmetic(stack, l4 + 104ull, l8, l40, l4 + 112ull);
+                                                                                                                                                        functions_arithmetic_arithmetic(stack, l6 + 104ull, l8, l40, l6 + 112ull);
                                                                                                                                                         goto L99;
                                                                                                                                                     }
                                                                                                                                                     L180:;
-                                                                                                                                                    functions_bit_strings_union(stack, l4 + 104ull, l8, l4 + 112ull);
+                                                                                                                                                    functions_bit_strings_union(stack, l6 + 104ull, l8, l6 + 112ull);
                                                                                                                                                     goto L99;
                                                                                                                                                 }
                                                                                                                                                 L179:;
-                                                                                                                                                functions_bit_strings_intersection(stack, l4 + 104ull, l8, l4 + 112ull);
+                                                                                                                                                functions_bit_strings_intersection(stack, l6 + 104ull, l8, l6 + 112ull);
                                                                                                                                                 goto L99;
                                                                                                                                             }
                                                                                                                                             L178:;
-                                                                                                                                            store64(l4 + 184u, 0ull);
-                                                                                                                                            const u64 t212 = load64(l4 + 112u);
-                                                                                                                                            store64(l4 + 168u, t212);
-                                                                                                                                            const u64 t213 = load64(l4 + 120u);
-                                                                                                                                            store64(l4 + 176u, t213);
-                                                                                                                                            store64(l4 + 140u, 0ull);
-                                                                                                                                            functions_arguments_Arguments_next(stack, l4 + 80ull, l4 + 168ull, l8);
-                                                                                                                                            const u32 t214 = load32(l4 + 80u);
-                                                                                                                                            l36 = t214;
-                                                                                                                                            const u32 t215 = load32(l4 + 84u);
-                                                                                                                                            l35 = t215;
-                                                                                                                                            l6 = (u64)(l35 + l33);
-                                                                                                                                            l1 = (u64)(l36 + l33) - l6;
-                                                                                                                                            l2 = (l2 + (l6 << 3)) - 8ull;
+                                                                                                                                            store64(l6 + 184u, 0ull);
+                                                                                                                                            const u64 t226 = load64(l6 + 112u);
+                                                                                                                                            store64(l6 + 168u, t226);
+                                                                                                                                            const u64 t227 = load64(l6 + 120u);
+                                                                                                                                            store64(l6 + 176u, t227);
+                                                                                                                                            store64(l6 + 140u, 0ull);
+                                                                                                                                            functions_arguments_Arguments_next(stack, l6 + 80ull, l6 + 168ull, l8);
+                                                                                                                                            const u32 t228 = load32(l6 + 80u);
+                                                                                                                                            l36 = t228;
+                                                                                                                                            const u32 t229 = load32(l6 + 84u);
+                                                                                                                                            l35 = t229;
+                                                                                                                                            l7 = (u64)(l35 + l33);
+                                                                                                                                            l2 = (u64)(l36 + l33) - l7;
+                                                                                                                                            l1 = (l1 + (l7 << 3)) - 8ull;
                                                                                                                                             l34 = l35;
-                                                                                                                                            L216:;
+                                                                                                                                            L230:;
                                                                                                                                             {
                                                                                                                                                 {
                                                                                                                                                     l32 = l34;
-                                                                                                                                                    if (l1 == 0) goto L217;
-                                                                                                                                                    const u32 t218 = load8(l2);
-                                                                                                                                                    if (t218) goto L217;
-                                                                                                                                                    l1 = l1 + 1ull;
+                                                                                                                                                    if (l2 == 0) goto L231;
+                                                                                                                                                    const u32 t232 = load8(l1);
+                                                                                                                                                    if (t232) goto L231;
+                                                                                                                                                    l2 = l2 + 1ull;
                                                                                                                                                     l34 = l32 - 1u;
-                                                                                                                                                    l6 = l2 + 1ull;
-                                                                                                                                                    l2 = l2 - 8ull;
-                                                                                                                                                    const u32 t219 = load8(l6);
-                                                                                                                                                    if ((t219 & 248u) == 48u) goto L216;
+                                                                                                                                                    l7 = l1 + 1ull;
+                                                                                                                                                    l1 = l1 - 8ull;
+                                                                                                                                                    const u32 t233 = load8(l7);
+                                                                                                                                                    if ((t233 & 248u) == 48u) goto L230;
                                                                                                                                                 }
-                                                                                                                                                L217:;
+                                                                                                                                                L231:;
                                                                                                                                             }
-                                                                                                                                            store32(l4 + 136u, l35);
-                                                                                                                                            store32(l4 + 132u, l32);
-                                                                                                                                            store32(l4 + 128u, 2u);
-                                                                                                                                            functions_bit_strings_give_bits(stack, l4 + 184ull, l8, l36, l32, l4 + 128ull);
-                                                                                                                                            const u32 t220 = load16(l4 + 184u);
-                                                                                                                                            store16(l4 + 104u, (u16)t220);
-                                                                                                                                            const u32 t221 = load32(l4 + 188u);
-                                                                                                                                            store32(l4 + 108u, t221);
+                                                                                                                                            store32(l6 + 136u, l35);
+                                                                                                                                            store32(l6 + 132u, l32);
+                                                                                                                                            store32(l6 + 128u, 2u);
+                                                                                                                                            functions_bit_strings_give_bits(stack, l6 + 184ull, l8, l36, l32, l6 + 128ull);
+                                                                                                                                            const u32 t234 = load16(l6 + 184u);
+                                                                                                                                            store16(l6 + 104u, (u16)t234);
+                                                                                                                                            const u32 t235 = load32(l6 + 188u);
+                                                                                                                                            store32(l6 + 108u, t235);
                                                                                                                                             goto L99;
                                                                                                                                         }
                                                                                                                                         L177:;
-                                                                                                                                        functions_bit_strings_shift(stack, l4 + 104ull, l8, l4 + 112ull);
+                                                                                                                                        functions_bit_strings_shift(stack, l6 + 104ull, l8, l6 + 112ull);
                                                                                                                                         goto L99;
                                                                                                                                     }
                                                                                                                                     L176:;
-                                                                                                                                    functions_bit_strings_rotate(stack, l4 + 104ull, l8, l4 + 112ull);
+                                                                                                                                    functions_bit_strings_rotate(stack, l6 + 104ull, l8, l6 + 112ull);
                                                                                                                                     goto L99;
                                                                                                                                 }
                                                                                                                                 L175:;
-                                                                                                                                store8(l4 + 104u, (u8)1u);
+                                                                                                                                store8(l6 + 104u, (u8)1u);
                                                                                                                                 goto L99;
                                                                                                                             }
                                                                                                                             L107:;
-                                                                                                                            const u32 t222 = load8(l18);
-                                                                                                                            core_input_output_read_string(stack, l4 + 96ull, l8, t222, l13);
-                                                                                                                            const u32 t223 = load32(l4 + 100u);
-                                                                                                                            l32 = t223;
-                                                                                                                            const u32 t224 = load8(l4 + 97u);
-                                                                                                                            l36 = t224;
-                                                                                                                            const u32 t225 = load8(l4 + 96u);
-                                                                                                                            l35 = t225;
+                                                                                                                            const u32 t236 = load8(l19);
+                                                                                                                            core_input_output_read_string(stack, l6 + 96ull, l8, t236, l13);
+                                                                                                                            const u32 t237 = load32(l6 + 100u);
+                                                                                                                            l32 = t237;
+                                                                                                                            const u32 t238 = load8(l6 + 97u);
+                                                                                                                            l36 = t238;
+                                                                                                                            const u32 t239 = load8(l6 + 96u);
+                                                                                                                            l35 = t239;
                                                                                                                             goto L94;
                                                                                                                         }
                                                                                                                         L103:;
@@ -20891,356 +20944,356 @@ static void engine_run(u64 stack, u64 l0, u64 l1, u64 l2, u64 l3, u64 l4, u64 l5
                                                                                                                     goto L100;
                                                                                                                 }
                                                                                                                 L101:;
-                                                                                                                store32(l4 + 108u, 0u);
-                                                                                                                store16(l4 + 104u, (u16)1u);
+                                                                                                                store32(l6 + 108u, 0u);
+                                                                                                                store16(l6 + 104u, (u16)1u);
                                                                                                                 goto L99;
                                                                                                             }
                                                                                                             L100:;
-                                                                                                            const u32 t226 = load32(l4 + 132u);
-                                                                                                            l45 = t226;
-                                                                                                            const u32 t227 = load32(l4 + 128u);
-                                                                                                            l46 = t227;
+                                                                                                            const u32 t240 = load32(l6 + 132u);
+                                                                                                            l45 = t240;
+                                                                                                            const u32 t241 = load32(l6 + 128u);
+                                                                                                            l46 = t241;
                                                                                                             {
                                                                                                                 {
                                                                                                                     {
                                                                                                                         {
                                                                                                                             {
-                                                                                                                                if ((l35 & 1u) == 0) goto L232;
-                                                                                                                                if (l45 >= l46) goto L232;
-                                                                                                                                const u32 t233 = load32(l8 + 48ull);
-                                                                                                                                l32 = t233;
+                                                                                                                                if ((l35 & 1u) == 0) goto L246;
+                                                                                                                                if (l45 >= l46) goto L246;
+                                                                                                                                const u32 t247 = load32(l8 + 48ull);
+                                                                                                                                l32 = t247;
                                                                                                                                 {
-                                                                                                                                    const u32 t235 = load32(l8 + 44ull);
-                                                                                                                                    l34 = t235;
-                                                                                                                                    if (l40 == l34) goto L234;
+                                                                                                                                    const u32 t249 = load32(l8 + 44ull);
+                                                                                                                                    l34 = t249;
+                                                                                                                                    if (l40 == l34) goto L248;
                                                                                                                                     if (l34 < l40) {
                                                                                                                                         l36 = l40 - l34;
-                                                                                                                                        const u32 t237 = load32(l8 + 16ull);
-                                                                                                                                        l39 = t237;
-                                                                                                                                        L238:;
+                                                                                                                                        const u32 t251 = load32(l8 + 16ull);
+                                                                                                                                        l39 = t251;
+                                                                                                                                        L252:;
                                                                                                                                         {
-                                                                                                                                            u32 v239;
+                                                                                                                                            u32 v253;
                                                                                                                                             if (l32 < l39) {
-                                                                                                                                                const u64 t240 = load64(l8);
-                                                                                                                                                l2 = t240 + ((u64)l32 << 3);
-                                                                                                                                                const u32 t241 = load32(l2 + 4ull);
-                                                                                                                                                const u32 t242 = load8(l2);
-                                                                                                                                                v239 = (t242 == 4u) ? t241 : 0u;
+                                                                                                                                                const u64 t254 = load64(l8);
+                                                                                                                                                l1 = t254 + ((u64)l32 << 3);
+                                                                                                                                                const u32 t255 = load32(l1 + 4ull);
+                                                                                                                                                const u32 t256 = load8(l1);
+                                                                                                                                                v253 = (t256 == 4u) ? t255 : 0u;
                                                                                                                                             } else {
-                                                                                                                                                v239 = 0u;
+                                                                                                                                                v253 = 0u;
                                                                                                                                             }
-                                                                                                                                            l35 = v239 + (l32 + 3u);
+                                                                                                                                            l35 = v253 + (l32 + 3u);
                                                                                                                                             l32 = l32 + 1u;
-                                                                                                                                            u32 v243;
+                                                                                                                                            u32 v257;
                                                                                                                                             if (l39 > l32) {
-                                                                                                                                                const u64 t244 = load64(l8);
-                                                                                                                                                l2 = t244 + ((u64)l32 << 3);
-                                                                                                                                                const u32 t245 = load32(l2 + 4ull);
-                                                                                                                                                const u32 t246 = load8(l2);
-                                                                                                                                                v243 = (t246 == 4u) ? t245 : 0u;
+                                                                                                                                                const u64 t258 = load64(l8);
+                                                                                                                                                l1 = t258 + ((u64)l32 << 3);
+                                                                                                                                                const u32 t259 = load32(l1 + 4ull);
+                                                                                                                                                const u32 t260 = load8(l1);
+                                                                                                                                                v257 = (t260 == 4u) ? t259 : 0u;
                                                                                                                                             } else {
-                                                                                                                                                v243 = 0u;
+                                                                                                                                                v257 = 0u;
                                                                                                                                             }
-                                                                                                                                            l32 = v243 + l35;
+                                                                                                                                            l32 = v257 + l35;
                                                                                                                                             l36 = l36 - 1u;
-                                                                                                                                            if (l36) goto L238;
+                                                                                                                                            if (l36) goto L252;
                                                                                                                                         }
-                                                                                                                                        goto L234;
+                                                                                                                                        goto L248;
                                                                                                                                     }
                                                                                                                                     if (l40 == 0) {
                                                                                                                                         l32 = 0u;
-                                                                                                                                        goto L234;
+                                                                                                                                        goto L248;
                                                                                                                                     }
-                                                                                                                                    const u32 t248 = load32(l8 + 16ull);
-                                                                                                                                    l35 = t248;
+                                                                                                                                    const u32 t262 = load32(l8 + 16ull);
+                                                                                                                                    l35 = t262;
                                                                                                                                     l32 = 0u;
                                                                                                                                     l36 = l40;
-                                                                                                                                    L249:;
+                                                                                                                                    L263:;
                                                                                                                                     {
                                                                                                                                         l39 = l32 + 3u;
-                                                                                                                                        u32 v250;
+                                                                                                                                        u32 v264;
                                                                                                                                         if (l32 < l35) {
-                                                                                                                                            const u64 t251 = load64(l8);
-                                                                                                                                            l2 = t251 + ((u64)l32 << 3);
-                                                                                                                                            const u32 t252 = load32(l2 + 4ull);
-                                                                                                                                            const u32 t253 = load8(l2);
-                                                                                                                                            v250 = (t253 == 4u) ? t252 : 0u;
+                                                                                                                                            const u64 t265 = load64(l8);
+                                                                                                                                            l1 = t265 + ((u64)l32 << 3);
+                                                                                                                                            const u32 t266 = load32(l1 + 4ull);
+                                                                                                                                            const u32 t267 = load8(l1);
+                                                                                                                                            v264 = (t267 == 4u) ? t266 : 0u;
                                                                                                                                         } else {
-                                                                                                                                            v250 = 0u;
+                                                                                                                                            v264 = 0u;
                                                                                                                                         }
-                                                                                                                                        l39 = v250 + l39;
+                                                                                                                                        l39 = v264 + l39;
                                                                                                                                         l32 = l32 + 1u;
-                                                                                                                                        u32 v254;
+                                                                                                                                        u32 v268;
                                                                                                                                         if (l35 > l32) {
-                                                                                                                                            const u64 t255 = load64(l8);
-                                                                                                                                            l2 = t255 + ((u64)l32 << 3);
-                                                                                                                                            const u32 t256 = load32(l2 + 4ull);
-                                                                                                                                            const u32 t257 = load8(l2);
-                                                                                                                                            v254 = (t257 == 4u) ? t256 : 0u;
+                                                                                                                                            const u64 t269 = load64(l8);
+                                                                                                                                            l1 = t269 + ((u64)l32 << 3);
+                                                                                                                                            const u32 t270 = load32(l1 + 4ull);
+                                                                                                                                            const u32 t271 = load8(l1);
+                                                                                                                                            v268 = (t271 == 4u) ? t270 : 0u;
                                                                                                                                         } else {
-                                                                                                                                            v254 = 0u;
+                                                                                                                                            v268 = 0u;
                                                                                                                                         }
-                                                                                                                                        l32 = v254 + l39;
+                                                                                                                                        l32 = v268 + l39;
                                                                                                                                         l36 = l36 - 1u;
-                                                                                                                                        if (l36) goto L249;
+                                                                                                                                        if (l36) goto L263;
                                                                                                                                     }
                                                                                                                                 }
-                                                                                                                                L234:;
-                                                                                                                                const u64 t258 = load64(l8);
-                                                                                                                                l9 = t258;
-                                                                                                                                l2 = l9 + ((u64)l32 << 3);
-                                                                                                                                const u32 t259 = load32(l2 + 12ull);
-                                                                                                                                l36 = t259;
-                                                                                                                                const u32 t260 = load32(l2 + 20ull);
-                                                                                                                                l35 = t260;
+                                                                                                                                L248:;
+                                                                                                                                const u64 t272 = load64(l8);
+                                                                                                                                l9 = t272;
+                                                                                                                                l1 = l9 + ((u64)l32 << 3);
+                                                                                                                                const u32 t273 = load32(l1 + 12ull);
+                                                                                                                                l36 = t273;
+                                                                                                                                const u32 t274 = load32(l1 + 20ull);
+                                                                                                                                l35 = t274;
                                                                                                                                 l34 = l36 - l35;
                                                                                                                                 if (l34 == 0) {
                                                                                                                                     l34 = 0u;
-                                                                                                                                    goto L228;
+                                                                                                                                    goto L242;
                                                                                                                                 }
-                                                                                                                                const u32 t262 = load32(l2 + 4ull);
-                                                                                                                                l39 = (l32 + t262) + 3u;
+                                                                                                                                const u32 t276 = load32(l1 + 4ull);
+                                                                                                                                l39 = (l32 + t276) + 3u;
                                                                                                                                 l32 = l35 + l39;
                                                                                                                                 {
-                                                                                                                                    const u32 t264 = load32(l8 + 28ull);
-                                                                                                                                    l35 = t264;
-                                                                                                                                    const u32 t265 = load32(l8 + 20ull);
-                                                                                                                                    const u32 t266 = load32(l8 + 24ull);
-                                                                                                                                    l42 = t266;
-                                                                                                                                    const u32 t267 = load32(l8 + 16ull);
-                                                                                                                                    if (l34 <= (l35 - (t265 + (l42 + t267)))) {
-                                                                                                                                        l7 = (u64)l34;
-                                                                                                                                        l6 = (u64)l32;
+                                                                                                                                    const u32 t278 = load32(l8 + 28ull);
+                                                                                                                                    l35 = t278;
+                                                                                                                                    const u32 t279 = load32(l8 + 20ull);
+                                                                                                                                    const u32 t280 = load32(l8 + 24ull);
+                                                                                                                                    l42 = t280;
+                                                                                                                                    const u32 t281 = load32(l8 + 16ull);
+                                                                                                                                    if (l34 <= (l35 - (t279 + (l42 + t281)))) {
+                                                                                                                                        l4 = (u64)l34;
+                                                                                                                                        l7 = (u64)l32;
                                                                                                                                         {
                                                                                                                                             {
                                                                                                                                                 if (l34 >= 8u) {
-                                                                                                                                                    if (l34 == 8u) goto L269;
-                                                                                                                                                    l2 = l9 + (l6 << 3);
-                                                                                                                                                    l1 = l7;
-                                                                                                                                                    goto L270;
+                                                                                                                                                    if (l34 == 8u) goto L283;
+                                                                                                                                                    l1 = l9 + (l7 << 3);
+                                                                                                                                                    l2 = l4;
+                                                                                                                                                    goto L284;
                                                                                                                                                 }
                                                                                                                                                 if (l34 >= 4u) {
-                                                                                                                                                    l2 = l9 + (l6 << 3);
-                                                                                                                                                    const u32 t273 = load8(l2 + 24ull);
-                                                                                                                                                    const u32 t274 = load8(l2 + 16ull);
-                                                                                                                                                    const u32 t275 = load8(l2 + 8ull);
-                                                                                                                                                    const u32 t276 = load8(l2);
-                                                                                                                                                    if (((t273 + t274) | (t275 + t276)) & 255u) goto L232;
-                                                                                                                                                    l1 = l6 + l7;
-                                                                                                                                                    l2 = l9 + (l1 << 3);
-                                                                                                                                                    const u32 t277 = load8(l2 - 8ull);
-                                                                                                                                                    const u32 t278 = load8(l2 - 16ull);
-                                                                                                                                                    const u32 t279 = load8(l2 - 24ull);
-                                                                                                                                                    const u32 t280 = load8(l2 - 32ull);
-                                                                                                                                                    if (((t277 + t278) | (t279 + t280)) & 255u) goto L232;
+                                                                                                                                                    l1 = l9 + (l7 << 3);
+                                                                                                                                                    const u32 t287 = load8(l1 + 24ull);
+                                                                                                                                                    const u32 t288 = load8(l1 + 16ull);
+                                                                                                                                                    const u32 t289 = load8(l1 + 8ull);
+                                                                                                                                                    const u32 t290 = load8(l1);
+                                                                                                                                                    if (((t287 + t288) | (t289 + t290)) & 255u) goto L246;
+                                                                                                                                                    l2 = l4 + l7;
+                                                                                                                                                    l1 = l9 + (l2 << 3);
+                                                                                                                                                    const u32 t291 = load8(l1 - 8ull);
+                                                                                                                                                    const u32 t292 = load8(l1 - 16ull);
+                                                                                                                                                    const u32 t293 = load8(l1 - 24ull);
+                                                                                                                                                    const u32 t294 = load8(l1 - 32ull);
+                                                                                                                                                    if (((t291 + t292) | (t293 + t294)) & 255u) goto L246;
                                                                                                                                                     l36 = l34 + l42;
-                                                                                                                                                    l2 = (u64)(l35 - l36);
-                                                                                                                                                    core_slice_edits_slice_T_copy_from_slice(stack, l9 + (l2 << 3), l9 + (l6 << 3), 4ull);
-                                                                                                                                                    const u64 t281 = l2 - l6;
-                                                                                                                                                    l2 = l1 - 4ull;
-                                                                                                                                                    core_slice_edits_slice_T_copy_from_slice(stack, l9 + ((t281 + l2) << 3), l9 + (l2 << 3), 4ull);
-                                                                                                                                                    goto L229;
+                                                                                                                                                    l1 = (u64)(l35 - l36);
+                                                                                                                                                    core_slice_edits_slice_T_copy_from_slice(stack, l9 + (l1 << 3), l9 + (l7 << 3), 4ull);
+                                                                                                                                                    const u64 t295 = l1 - l7;
+                                                                                                                                                    l1 = l2 - 4ull;
+                                                                                                                                                    core_slice_edits_slice_T_copy_from_slice(stack, l9 + ((t295 + l1) << 3), l9 + (l1 << 3), 4ull);
+                                                                                                                                                    goto L243;
                                                                                                                                                 }
-                                                                                                                                                l2 = l9 + (l6 << 3);
-                                                                                                                                                const u32 t282 = load8(l2);
-                                                                                                                                                l32 = t282;
-                                                                                                                                                if (l34 == 1u) goto L263;
-                                                                                                                                                const u32 t283 = load8(l2 + 8ull);
-                                                                                                                                                if (t283 | (l32 & 255u)) goto L232;
-                                                                                                                                                l1 = l6 + l7;
-                                                                                                                                                l2 = l9 + (l1 << 3);
-                                                                                                                                                const u32 t284 = load8(l2 - 8ull);
-                                                                                                                                                const u32 t285 = load8(l2 - 16ull);
-                                                                                                                                                if (t284 | t285) goto L232;
+                                                                                                                                                l1 = l9 + (l7 << 3);
+                                                                                                                                                const u32 t296 = load8(l1);
+                                                                                                                                                l32 = t296;
+                                                                                                                                                if (l34 == 1u) goto L277;
+                                                                                                                                                const u32 t297 = load8(l1 + 8ull);
+                                                                                                                                                if (t297 | (l32 & 255u)) goto L246;
+                                                                                                                                                l2 = l4 + l7;
+                                                                                                                                                l1 = l9 + (l2 << 3);
+                                                                                                                                                const u32 t298 = load8(l1 - 8ull);
+                                                                                                                                                const u32 t299 = load8(l1 - 16ull);
+                                                                                                                                                if (t298 | t299) goto L246;
                                                                                                                                                 l36 = l34 + l42;
-                                                                                                                                                l2 = (u64)(l35 - l36);
-                                                                                                                                                core_slice_edits_slice_T_copy_from_slice(stack, l9 + (l2 << 3), l9 + (l6 << 3), 2ull);
-                                                                                                                                                const u64 t286 = l2 - l6;
-                                                                                                                                                l2 = l1 - 2ull;
-                                                                                                                                                core_slice_edits_slice_T_copy_from_slice(stack, l9 + ((t286 + l2) << 3), l9 + (l2 << 3), 2ull);
-                                                                                                                                                goto L229;
+                                                                                                                                                l1 = (u64)(l35 - l36);
+                                                                                                                                                core_slice_edits_slice_T_copy_from_slice(stack, l9 + (l1 << 3), l9 + (l7 << 3), 2ull);
+                                                                                                                                                const u64 t300 = l1 - l7;
+                                                                                                                                                l1 = l2 - 2ull;
+                                                                                                                                                core_slice_edits_slice_T_copy_from_slice(stack, l9 + ((t300 + l1) << 3), l9 + (l1 << 3), 2ull);
+                                                                                                                                                goto L243;
                                                                                                                                             }
-                                                                                                                                            L270:;
-                                                                                                                                            L287:;
+                                                                                                                                            L284:;
+                                                                                                                                            L301:;
                                                                                                                                             {
-                                                                                                                                                const u32 t288 = load8(l2 + 56ull);
-                                                                                                                                                const u32 t289 = load8(l2 + 48ull);
-                                                                                                                                                const u32 t290 = load8(l2 + 40ull);
-                                                                                                                                                const u32 t291 = load8(l2 + 32ull);
-                                                                                                                                                const u32 t292 = load8(l2 + 24ull);
-                                                                                                                                                const u32 t293 = load8(l2 + 16ull);
-                                                                                                                                                const u32 t294 = load8(l2 + 8ull);
-                                                                                                                                                const u32 t295 = load8(l2);
-                                                                                                                                                if (t288 | ((t289 + (t290 + (t291 + (t292 + (t293 + (t294 + t295)))))) & 255u)) goto L232;
-                                                                                                                                                l2 = l2 + 64ull;
-                                                                                                                                                l1 = l1 - 8ull;
-                                                                                                                                                if (l1 >= 9ull) goto L287;
+                                                                                                                                                const u32 t302 = load8(l1 + 56ull);
+                                                                                                                                                const u32 t303 = load8(l1 + 48ull);
+                                                                                                                                                const u32 t304 = load8(l1 + 40ull);
+                                                                                                                                                const u32 t305 = load8(l1 + 32ull);
+                                                                                                                                                const u32 t306 = load8(l1 + 24ull);
+                                                                                                                                                const u32 t307 = load8(l1 + 16ull);
+                                                                                                                                                const u32 t308 = load8(l1 + 8ull);
+                                                                                                                                                const u32 t309 = load8(l1);
+                                                                                                                                                if (t302 | ((t303 + (t304 + (t305 + (t306 + (t307 + (t308 + t309)))))) & 255u)) goto L246;
+                                                                                                                                                l1 = l1 + 64ull;
+                                                                                                                                                l2 = l2 - 8ull;
+                                                                                                                                                if (l2 >= 9ull) goto L301;
                                                                                                                                             }
                                                                                                                                         }
-                                                                                                                                        L269:;
-                                                                                                                                        l1 = l6 + l7;
-                                                                                                                                        l2 = l9 + (l1 << 3);
-                                                                                                                                        const u32 t296 = load8(l2 - 56ull);
-                                                                                                                                        const u32 t297 = load8(l2 - 64ull);
-                                                                                                                                        const u32 t298 = load8(l2 - 48ull);
-                                                                                                                                        const u32 t299 = load8(l2 - 40ull);
-                                                                                                                                        const u32 t300 = load8(l2 - 32ull);
-                                                                                                                                        const u32 t301 = load8(l2 - 24ull);
-                                                                                                                                        const u32 t302 = load8(l2 - 16ull);
-                                                                                                                                        const u32 t303 = load8(l2 - 8ull);
-                                                                                                                                        if ((((((((t296 + t297) + t298) + t299) + t300) + t301) + t302) & 255u) | t303) goto L232;
+                                                                                                                                        L283:;
+                                                                                                                                        l2 = l4 + l7;
+                                                                                                                                        l1 = l9 + (l2 << 3);
+                                                                                                                                        const u32 t310 = load8(l1 - 56ull);
+                                                                                                                                        const u32 t311 = load8(l1 - 64ull);
+                                                                                                                                        const u32 t312 = load8(l1 - 48ull);
+                                                                                                                                        const u32 t313 = load8(l1 - 40ull);
+                                                                                                                                        const u32 t314 = load8(l1 - 32ull);
+                                                                                                                                        const u32 t315 = load8(l1 - 24ull);
+                                                                                                                                        const u32 t316 = load8(l1 - 16ull);
+                                                                                                                                        const u32 t317 = load8(l1 - 8ull);
+                                                                                                                                        if ((((((((t310 + t311) + t312) + t313) + t314) + t315) + t316) & 255u) | t317) goto L246;
                                                                                                                                         l36 = l34 + l42;
-                                                                                                                                        l2 = (u64)(l35 - l36);
-                                                                                                                                        if (l34 > 24u) goto L231;
-                                                                                                                                        l21 = l6 << 3;
-                                                                                                                                        l22 = l2 << 3;
+                                                                                                                                        l1 = (u64)(l35 - l36);
+                                                                                                                                        if (l34 > 24u) goto L245;
+                                                                                                                                        l22 = l7 << 3;
+                                                                                                                                        l23 = l1 << 3;
                                                                                                                                         if (l34 != 8u) {
-                                                                                                                                            l23 = l22 - l21;
-                                                                                                                                            l24 = l1 << 3;
-                                                                                                                                            l25 = (l2 + l7) << 3;
+                                                                                                                                            l18 = l23 - l22;
+                                                                                                                                            l24 = l2 << 3;
+                                                                                                                                            l25 = (l1 + l4) << 3;
                                                                                                                                             l12 = l9;
-                                                                                                                                            L305:;
+                                                                                                                                            L319:;
                                                                                                                                             {
-                                                                                                                                                l7 = l7 - 8ull;
-                                                                                                                                                l2 = l12 + l24;
-                                                                                                                                                l6 = l2 - 64ull;
-                                                                                                                                                l1 = l12 + l25;
-                                                                                                                                                l3 = l1 - 64ull;
+                                                                                                                                                l4 = l4 - 8ull;
+                                                                                                                                                l1 = l12 + l24;
+                                                                                                                                                l7 = l1 - 64ull;
+                                                                                                                                                l2 = l12 + l25;
+                                                                                                                                                l3 = l2 - 64ull;
                                                                                                                                                 {
-                                                                                                                                                    if (l23 <= 63ull) {
-                                                                                                                                                        const u32 t308 = load8(l6);
-                                                                                                                                                        store8(l3, (u8)t308);
-                                                                                                                                                        const u32 t309 = load8(l2 - 63ull);
-                                                                                                                                                        store8(l1 - 63ull, (u8)t309);
-                                                                                                                                                        const u32 t310 = load32(l2 - 60ull);
-                                                                                                                                                        store32(l1 - 60ull, t310);
-                                                                                                                                                        const u32 t311 = load16(l2 - 56ull);
-                                                                                                                                                        store16(l1 - 56ull, (u16)t311);
-                                                                                                                                                        const u32 t312 = load32(l2 - 52ull);
-                                                                                                                                                        store32(l1 - 52ull, t312);
-                                                                                                                                                        const u32 t313 = load16(l2 - 48ull);
-                                                                                                                                                        store16(l1 - 48ull, (u16)t313);
-                                                                                                                                                        const u32 t314 = load32(l2 - 44ull);
-                                                                                                                                                        store32(l1 - 44ull, t314);
-                                                                                                                                                        const u32 t315 = load16(l2 - 40ull);
-                                                                                                                                                        store16(l1 - 40ull, (u16)t315);
-                                                                                                                                                        const u32 t316 = load32(l2 - 36ull);
-                                                                                                                                                        store32(l1 - 36ull, t316);
-                                                                                                                                                        const u32 t317 = load16(l2 - 32ull);
-                                                                                                                                                        store16(l1 - 32ull, (u16)t317);
-                                                                                                                                                        const u32 t318 = load32(l2 - 28ull);
-                                                                                                                                                        store32(l1 - 28ull, t318);
-                                                                                                                                                        const u32 t319 = load16(l2 - 24ull);
-                                                                                                                                                        store16(l1 - 24ull, (u16)t319);
-                                                                                                                                                        const u32 t320 = load32(l2 - 20ull);
-                                                                                                                                                        store32(l1 - 20ull, t320);
-                                                                                                                                                        const u32 t321 = load16(l2 - 16ull);
-                                                                                                                                                        store16(l1 - 16ull, (u16)t321);
-                                                                                                                                                        const u32 t322 = load32(l2 - 12ull);
-                                                                                                                                                        store32(l1 - 12ull, t322);
-                                                                                                                                                        const u32 t323 = load16(l2 - 8ull);
-                                                                                                                                                        l32 = t323;
-                                                                                                                                                        const u32 t324 = load32(l2 - 4ull);
-                                                                                                                                                        store32(l1 - 4ull, t324);
-                                                                                                                                                        store16(l1 - 8ull, (u16)l32);
-                                                                                                                                                        goto L306;
+                                                                                                                                                    if (l18 <= 63ull) {
+                                                                                                                                                        const u32 t322 = load8(l7);
+                                                                                                                                                        store8(l3, (u8)t322);
+                                                                                                                                                        const u32 t323 = load8(l1 - 63ull);
+                                                                                                                                                        store8(l2 - 63ull, (u8)t323);
+                                                                                                                                                        const u32 t324 = load32(l1 - 60ull);
+                                                                                                                                                        store32(l2 - 60ull, t324);
+                                                                                                                                                        const u32 t325 = load16(l1 - 56ull);
+                                                                                                                                                        store16(l2 - 56ull, (u16)t325);
+                                                                                                                                                        const u32 t326 = load32(l1 - 52ull);
+                                                                                                                                                        store32(l2 - 52ull, t326);
+                                                                                                                                                        const u32 t327 = load16(l1 - 48ull);
+                                                                                                                                                        store16(l2 - 48ull, (u16)t327);
+                                                                                                                                                        const u32 t328 = load32(l1 - 44ull);
+                                                                                                                                                        store32(l2 - 44ull, t328);
+                                                                                                                                                        const u32 t329 = load16(l1 - 40ull);
+                                                                                                                                                        store16(l2 - 40ull, (u16)t329);
+                                                                                                                                                        const u32 t330 = load32(l1 - 36ull);
+                                                                                                                                                        store32(l2 - 36ull, t330);
+                                                                                                                                                        const u32 t331 = load16(l1 - 32ull);
+                                                                                                                                                        store16(l2 - 32ull, (u16)t331);
+                                                                                                                                                        const u32 t332 = load32(l1 - 28ull);
+                                                                                                                                                        store32(l2 - 28ull, t332);
+                                                                                                                                                        const u32 t333 = load16(l1 - 24ull);
+                                                                                                                                                        store16(l2 - 24ull, (u16)t333);
+                                                                                                                                                        const u32 t334 = load32(l1 - 20ull);
+                                                                                                                                                        store32(l2 - 20ull, t334);
+                                                                                                                                                        const u32 t335 = load16(l1 - 16ull);
+                                                                                                                                                        store16(l2 - 16ull, (u16)t335);
+                                                                                                                                                        const u32 t336 = load32(l1 - 12ull);
+                                                                                                                                                        store32(l2 - 12ull, t336);
+                                                                                                                                                        const u32 t337 = load16(l1 - 8ull);
+                                                                                                                                                        l32 = t337;
+                                                                                                                                                        const u32 t338 = load32(l1 - 4ull);
+                                                                                                                                                        store32(l2 - 4ull, t338);
+                                                                                                                                                        store16(l2 - 8ull, (u16)l32);
+                                                                                                                                                        goto L320;
                                                                                                                                                     }
-                                                                                                                                                    const u64 t325 = load64(l6);
-                                                                                                                                                    l2 = t325;
-                                                                                                                                                    const u64 t326 = load64(l6 + 8u);
-                                                                                                                                                    l1 = t326;
-                                                                                                                                                    const u64 t327 = load64(l6 + 16u);
-                                                                                                                                                    l26 = t327;
-                                                                                                                                                    const u64 t328 = load64(l6 + 24u);
-                                                                                                                                                    l27 = t328;
-                                                                                                                                                    const u64 t329 = load64(l6 + 32u);
-                                                                                                                                                    l28 = t329;
-                                                                                                                                                    const u64 t330 = load64(l6 + 40u);
-                                                                                                                                                    l29 = t330;
-                                                                                                                                                    const u64 t331 = load64(l6 + 48u);
-                                                                                                                                                    l30 = t331;
-                                                                                                                                                    const u64 t332 = load64(l6 + 56u);
-                                                                                                                                                    store64(l3 + 56u, t332);
+                                                                                                                                                    const u64 t339 = load64(l7);
+                                                                                                                                                    l1 = t339;
+                                                                                                                                                    const u64 t340 = load64(l7 + 8u);
+                                                                                                                                                    l2 = t340;
+                                                                                                                                                    const u64 t341 = load64(l7 + 16u);
+                                                                                                                                                    l26 = t341;
+                                                                                                                                                    const u64 t342 = load64(l7 + 24u);
+                                                                                                                                                    l27 = t342;
+                                                                                                                                                    const u64 t343 = load64(l7 + 32u);
+                                                                                                                                                    l28 = t343;
+                                                                                                                                                    const u64 t344 = load64(l7 + 40u);
+                                                                                                                                                    l29 = t344;
+                                                                                                                                                    const u64 t345 = load64(l7 + 48u);
+                                                                                                                                                    l30 = t345;
+                                                                                                                                                    const u64 t346 = load64(l7 + 56u);
+                                                                                                                                                    store64(l3 + 56u, t346);
                                                                                                                                                     store64(l3 + 48u, l30);
                                                                                                                                                     store64(l3 + 40u, l29);
                                                                                                                                                     store64(l3 + 32u, l28);
                                                                                                                                                     store64(l3 + 24u, l27);
                                                                                                                                                     store64(l3 + 16u, l26);
-                                                                                                                                                    store64(l3 + 8u, l1);
-                                                                                                                                                    store64(l3, l2);
+                                                                                                                                                    store64(l3 + 8u, l2);
+                                                                                                                                                    store64(l3, l1);
                                                                                                                                                 }
-                                                                                                                                                L306:;
+                                                                                                                                                L320:;
                                                                                                                                                 l12 = l12 - 64ull;
-                                                                                                                                                if (l7 > 8ull) goto L305;
+                                                                                                                                                if (l4 > 8ull) goto L319;
                                                                                                                                             }
                                                                                                                                         }
-                                                                                                                                        core_slice_edits_slice_T_copy_from_slice(stack, l9 + l22, l9 + l21, 8ull);
+                                                                                                                                        core_slice_edits_slice_T_copy_from_slice(stack, l9 + l23, l9 + l22, 8ull);
                                                                                                                                         store32(l8 + 24ull, l36);
-                                                                                                                                        goto L228;
+                                                                                                                                        goto L242;
                                                                                                                                     }
-                                                                                                                                    store_item_copies_load_items_over_spare(stack, l4 + 48ull, l8, l32, l36 + l39);
-                                                                                                                                    const u32 t333 = load8(l4 + 48u);
-                                                                                                                                    if (t333 != 1u) goto L232;
-                                                                                                                                    const u32 t334 = load32(l4 + 52u);
-                                                                                                                                    l34 = t334;
-                                                                                                                                    goto L228;
+                                                                                                                                    store_item_copies_load_items_over_spare(stack, l6 + 48ull, l8, l32, l36 + l39);
+                                                                                                                                    const u32 t347 = load8(l6 + 48u);
+                                                                                                                                    if (t347 != 1u) goto L246;
+                                                                                                                                    const u32 t348 = load32(l6 + 52u);
+                                                                                                                                    l34 = t348;
+                                                                                                                                    goto L242;
                                                                                                                                 }
-                                                                                                                                L263:;
-                                                                                                                                if ((l32 & 255u) == 0) goto L230;
+                                                                                                                                L277:;
+                                                                                                                                if ((l32 & 255u) == 0) goto L244;
                                                                                                                             }
-                                                                                                                            L232:;
-                                                                                                                            u32 v335;
+                                                                                                                            L246:;
+                                                                                                                            u32 v349;
                                                                                                                             {
-                                                                                                                                const u32 t336 = load32(l8 + 44ull);
-                                                                                                                                if (l40 != t336) {
-                                                                                                                                    const u32 t338 = forms_work_Work_fill_other(stack, l8, l40, l46, l45);
-                                                                                                                                    v335 = t338; goto L335;
+                                                                                                                                const u32 t350 = load32(l8 + 44ull);
+                                                                                                                                if (l40 != t350) {
+                                                                                                                                    const u32 t352 = forms_work_Work_fill_other(stack, l8, l40, l46, l45);
+                                                                                                                                    v349 = t352; goto L349;
                                                                                                                                 }
-                                                                                                                                const u64 t339 = load64(l8);
-                                                                                                                                const u32 t340 = load32(l8 + 48ull);
-                                                                                                                                l32 = t340;
-                                                                                                                                l2 = t339 + ((u64)l32 << 3);
-                                                                                                                                const u32 t341 = load32(l2 + 20ull);
-                                                                                                                                const u32 t342 = load32(l2 + 4ull);
-                                                                                                                                l32 = (l32 + t342) + 3u;
-                                                                                                                                const u32 t343 = load32(l2 + 12ull);
-                                                                                                                                const u32 t344 = store_item_copies_fill_items(stack, l8, t341 + l32, l32 + t343, l46, l45);
-                                                                                                                                v335 = t344;
+                                                                                                                                const u64 t353 = load64(l8);
+                                                                                                                                const u32 t354 = load32(l8 + 48ull);
+                                                                                                                                l32 = t354;
+                                                                                                                                l1 = t353 + ((u64)l32 << 3);
+                                                                                                                                const u32 t355 = load32(l1 + 20ull);
+                                                                                                                                const u32 t356 = load32(l1 + 4ull);
+                                                                                                                                l32 = (l32 + t356) + 3u;
+                                                                                                                                const u32 t357 = load32(l1 + 12ull);
+                                                                                                                                const u32 t358 = store_item_copies_fill_items(stack, l8, t355 + l32, l32 + t357, l46, l45);
+                                                                                                                                v349 = t358;
                                                                                                                             }
-                                                                                                                            L335:;
-                                                                                                                            l32 = v335;
-                                                                                                                            store32(l4 + 108u, 0u);
-                                                                                                                            store8(l4 + 105u, (u8)0u);
-                                                                                                                            store8(l4 + 104u, (u8)l32);
+                                                                                                                            L349:;
+                                                                                                                            l32 = v349;
+                                                                                                                            store32(l6 + 108u, 0u);
+                                                                                                                            store8(l6 + 105u, (u8)0u);
+                                                                                                                            store8(l6 + 104u, (u8)l32);
                                                                                                                             goto L99;
                                                                                                                         }
-                                                                                                                        L231:;
-                                                                                                                        space_copies_copy_long(stack, l9, l6, l1, l2);
-                                                                                                                        goto L229;
+                                                                                                                        L245:;
+                                                                                                                        space_copies_copy_long(stack, l9, l7, l2, l1);
+                                                                                                                        goto L243;
                                                                                                                     }
-                                                                                                                    L230:;
+                                                                                                                    L244:;
                                                                                                                     l36 = l34 + l42;
-                                                                                                                    l2 = l9 + ((u64)(l35 - l36) << 3);
-                                                                                                                    l1 = l9 + (l6 << 3);
-                                                                                                                    const u32 t345 = load16(l1);
-                                                                                                                    store16(l2, (u16)t345);
-                                                                                                                    const u32 t346 = load32(l1 + 4ull);
-                                                                                                                    store32(l2 + 4ull, t346);
+                                                                                                                    l1 = l9 + ((u64)(l35 - l36) << 3);
+                                                                                                                    l2 = l9 + (l7 << 3);
+                                                                                                                    const u32 t359 = load16(l2);
+                                                                                                                    store16(l1, (u16)t359);
+                                                                                                                    const u32 t360 = load32(l2 + 4ull);
+                                                                                                                    store32(l1 + 4ull, t360);
                                                                                                                 }
-                                                                                                                L229:;
+                                                                                                                L243:;
                                                                                                                 store32(l8 + 24ull, l36);
                                                                                                             }
-                                                                                                            L228:;
-                                                                                                            store32(l4 + 108u, l34);
-                                                                                                            store16(l4 + 104u, (u16)2u);
+                                                                                                            L242:;
+                                                                                                            store32(l6 + 108u, l34);
+                                                                                                            store16(l6 + 104u, (u16)2u);
                                                                                                         }
                                                                                                         L99:;
-                                                                                                        const u32 t347 = load32(l4 + 108u);
-                                                                                                        l32 = t347;
-                                                                                                        const u32 t348 = load8(l4 + 105u);
-                                                                                                        l36 = t348;
-                                                                                                        const u32 t349 = load8(l4 + 104u);
-                                                                                                        l35 = t349;
+                                                                                                        const u32 t361 = load32(l6 + 108u);
+                                                                                                        l32 = t361;
+                                                                                                        const u32 t362 = load8(l6 + 105u);
+                                                                                                        l36 = t362;
+                                                                                                        const u32 t363 = load8(l6 + 104u);
+                                                                                                        l35 = t363;
                                                                                                         goto L97;
                                                                                                     }
                                                                                                     L98:;
@@ -21248,8 +21301,8 @@ static void engine_run(u64 stack, u64 l0, u64 l1, u64 l2, u64 l3, u64 l4, u64 l5
                                                                                                     l36 = 0u;
                                                                                                 }
                                                                                                 L97:;
-                                                                                                store8(l4 + 97u, (u8)l36);
-                                                                                                store8(l4 + 96u, (u8)l35);
+                                                                                                store8(l6 + 97u, (u8)l36);
+                                                                                                store8(l6 + 96u, (u8)l35);
                                                                                                 goto L94;
                                                                                             }
                                                                                             L96:;
@@ -21257,7 +21310,7 @@ static void engine_run(u64 stack, u64 l0, u64 l1, u64 l2, u64 l3, u64 l4, u64 l5
                                                                                             l35 = 1u;
                                                                                         }
                                                                                         L95:;
-                                                                                        store8(l4 + 96u, (u8)l35);
+                                                                                        store8(l6 + 96u, (u8)l35);
                                                                                         l32 = 0u;
                                                                                     }
                                                                                     L94:;
@@ -21271,49 +21324,49 @@ static void engine_run(u64 stack, u64 l0, u64 l1, u64 l2, u64 l3, u64 l4, u64 l5
                                                                                 }
                                                                                 L93:;
                                                                                 l44 = l41 + l44;
-                                                                                const u64 t350 = load64(l8);
-                                                                                const u32 t351 = load32(l8 + 16ull);
-                                                                                l41 = t351;
-                                                                                l2 = t350 + ((u64)l41 << 3);
+                                                                                const u64 t364 = load64(l8);
+                                                                                const u32 t365 = load32(l8 + 16ull);
+                                                                                l41 = t365;
+                                                                                l1 = t364 + ((u64)l41 << 3);
                                                                                 {
-                                                                                    const u32 t353 = load32(l8 + 32ull);
-                                                                                    l33 = t353;
+                                                                                    const u32 t367 = load32(l8 + 32ull);
+                                                                                    l33 = t367;
                                                                                     if (l43 == l33) {
-                                                                                        const u32 t355 = load32((l2 + ((u64)l31 << 3)) + 4ull);
-                                                                                        l33 = t355;
+                                                                                        const u32 t369 = load32((l1 + ((u64)l31 << 3)) + 4ull);
+                                                                                        l33 = t369;
                                                                                         l37 = l33 ? (l43 - l33) : 0u;
-                                                                                        goto L352;
+                                                                                        goto L366;
                                                                                     }
                                                                                     if (l31 >= l33) {
                                                                                         l37 = l33;
-                                                                                        goto L352;
+                                                                                        goto L366;
                                                                                     }
-                                                                                    L357:;
+                                                                                    L371:;
                                                                                     {
-                                                                                        const u32 t358 = load32((l2 + ((u64)(l33 - 1u) << 3)) + 4ull);
-                                                                                        l37 = t358;
+                                                                                        const u32 t372 = load32((l1 + ((u64)(l33 - 1u) << 3)) + 4ull);
+                                                                                        l37 = t372;
                                                                                         l33 = l33 - l37;
                                                                                         l37 = l37 ? l33 : 0u;
-                                                                                        if (l37 > l31) goto L357;
+                                                                                        if (l37 > l31) goto L371;
                                                                                     }
                                                                                 }
-                                                                                L352:;
+                                                                                L366:;
                                                                                 store32(l8 + 20ull, l31);
                                                                                 store32(l8 + 32ull, l37);
                                                                                 l33 = l32 + l44;
                                                                                 goto L29;
                                                                             }
                                                                             L32:;
-                                                                            l2 = l16 - l11;
+                                                                            l1 = l16 - l11;
                                                                             l36 = 2u;
                                                                             goto L27;
                                                                         }
                                                                         L31:;
-                                                                        const u32 t359 = load32(l8 + 24ull);
-                                                                        const u32 t360 = load32(l8 + 20ull);
-                                                                        const u32 t361 = load32(l8 + 16ull);
-                                                                        l31 = t359 + (t360 + t361);
-                                                                        l2 = l16 - l11;
+                                                                        const u32 t373 = load32(l8 + 24ull);
+                                                                        const u32 t374 = load32(l8 + 20ull);
+                                                                        const u32 t375 = load32(l8 + 16ull);
+                                                                        l31 = t373 + (t374 + t375);
+                                                                        l1 = l16 - l11;
                                                                         l33 = 1u << (l36 & 31);
                                                                         if (l33 & 3u) goto L28;
                                                                         if (l33 & 12u) goto L27;
@@ -21321,166 +21374,166 @@ static void engine_run(u64 stack, u64 l0, u64 l1, u64 l2, u64 l3, u64 l4, u64 l5
                                                                         goto L27;
                                                                     }
                                                                     L30:;
-                                                                    l2 = l8 + 20ull;
-                                                                    const u32 t362 = load32(l2);
-                                                                    l43 = t362;
+                                                                    l1 = l8 + 20ull;
+                                                                    const u32 t376 = load32(l1);
+                                                                    l43 = t376;
                                                                     core_delivery_deliver(stack, l8, l31, l37);
                                                                     l33 = l43 + (l33 + l41);
-                                                                    const u32 t363 = load32(l2);
-                                                                    l31 = t363;
-                                                                    const u32 t364 = load32(l8 + 16ull);
-                                                                    l41 = t364;
+                                                                    const u32 t377 = load32(l1);
+                                                                    l31 = t377;
+                                                                    const u32 t378 = load32(l8 + 16ull);
+                                                                    l41 = t378;
                                                                 }
                                                                 L29:;
-                                                                store32(l4 + 88u, 0u);
-                                                                store32(l4 + 92u, l31);
-                                                                const u32 t365 = load32(l8 + 24ull);
-                                                                l37 = t365 + (l31 + l41);
-                                                                l38 = (l33 > l38) ? l33 : l38;
-                                                                v21 = l11 - 1ull; goto L21;
+                                                                store32(l6 + 88u, 0u);
+                                                                store32(l6 + 92u, l31);
+                                                                const u32 t379 = load32(l8 + 24ull);
+                                                                l37 = t379 + (l31 + l41);
+                                                                l11 = l11 - 1ull;
+                                                                v21 = (l33 > l38) ? l33 : l38; goto L21;
                                                             }
                                                             L28:;
                                                             l38 = (l31 > l38) ? l31 : l38;
-                                                            l2 = l2 + 1ull;
+                                                            l1 = l1 + 1ull;
                                                         }
                                                         L27:;
                                                         store32(l15 + 20u, 0u);
                                                         store32(l15 + 16u, l38);
-                                                        store64(l15 + 8u, l2);
+                                                        store64(l15 + 8u, l1);
                                                         store64(l15, (u64)l36 & 255ull);
                                                         goto L9;
                                                     }
                                                     L26:;
-                                                    l7 = l8 + 24ull;
-                                                    store32(l7, l33 - 2u);
-                                                    l6 = l8 + 32ull;
-                                                    const u32 t366 = load32(l6);
-                                                    l31 = t366;
+                                                    l4 = l8 + 24ull;
+                                                    store32(l4, l33 - 2u);
+                                                    l7 = l8 + 32ull;
+                                                    const u32 t380 = load32(l7);
+                                                    l31 = t380;
                                                     l3 = l8 + 20ull;
-                                                    const u32 t367 = load32(l3);
-                                                    l33 = t367;
+                                                    const u32 t381 = load32(l3);
+                                                    l33 = t381;
                                                     l9 = l8 + 16ull;
-                                                    const u32 t368 = load32(l9);
-                                                    l2 = l2 + ((u64)(l33 + t368) << 3);
-                                                    store16(l2, (u16)1u);
+                                                    const u32 t382 = load32(l9);
+                                                    l1 = l1 + ((u64)(l33 + t382) << 3);
+                                                    store16(l1, (u16)1u);
                                                     l33 = l33 + 1u;
-                                                    store32(l2 + 4ull, l31 ? (l33 - l31) : 0u);
+                                                    store32(l1 + 4ull, l31 ? (l33 - l31) : 0u);
                                                     store32(l3, l33);
-                                                    store32(l6, l33);
-                                                    const u32 t369 = load32(l4 + 88u);
-                                                    if (t369 > 1u) goto L22;
-                                                    const u32 t370 = load32(l8 + 28ull);
-                                                    const u32 t371 = load32(l7);
-                                                    l31 = t371;
-                                                    l12 = (u64)(t370 - l31);
-                                                    const u32 t372 = load32(l9);
-                                                    l7 = (u64)(t372 + l33);
-                                                    const u64 t373 = load64(l8);
-                                                    l2 = t373;
+                                                    store32(l7, l33);
+                                                    const u32 t383 = load32(l6 + 88u);
+                                                    if (t383 > 1u) goto L22;
+                                                    const u32 t384 = load32(l8 + 28ull);
+                                                    const u32 t385 = load32(l4);
+                                                    l31 = t385;
+                                                    l12 = (u64)(t384 - l31);
+                                                    const u32 t386 = load32(l9);
+                                                    l4 = (u64)(t386 + l33);
+                                                    const u64 t387 = load64(l8);
+                                                    l1 = t387;
                                                     {
-                                                        l1 = (u64)l31;
-                                                        l6 = l11 - 1ull;
-                                                        l3 = (l1 < l6) ? l1 : l6;
+                                                        l2 = (u64)l31;
+                                                        l7 = l11 - 1ull;
+                                                        l3 = (l2 < l7) ? l2 : l7;
                                                         if (l3 >= 12ull) {
-                                                            l7 = l2 + (l7 << 3);
-                                                            l3 = (l2 + (l12 << 3)) + 1ull;
-                                                            l2 = 0ull;
+                                                            l4 = l1 + (l4 << 3);
+                                                            l3 = (l1 + (l12 << 3)) + 1ull;
                                                             l1 = 0ull;
+                                                            l2 = 0ull;
                                                             l9 = 0ull;
                                                             {
-                                                                L377:;
+                                                                L391:;
                                                                 {
                                                                     {
-                                                                        const u32 t379 = load8(l1 + l3);
-                                                                        l31 = t379;
-                                                                        const u32 t380 = load8(((u64)l31 & 255ull) + TABLES + 513u);
-                                                                        if (t380 == 0) {
-                                                                            l6 = l1 + l7;
-                                                                            store8(l6, (u8)0u);
-                                                                            store32(l6 + 4ull, 0u);
-                                                                            store8(l6 + 1ull, (u8)l31);
-                                                                            goto L378;
+                                                                        const u32 t393 = load8(l2 + l3);
+                                                                        l31 = t393;
+                                                                        const u32 t394 = load8(((u64)l31 & 255ull) + TABLES + 513u);
+                                                                        if (t394 == 0) {
+                                                                            l7 = l2 + l4;
+                                                                            store8(l7, (u8)0u);
+                                                                            store32(l7 + 4ull, 0u);
+                                                                            store8(l7 + 1ull, (u8)l31);
+                                                                            goto L392;
                                                                         }
-                                                                        if ((l31 & 255u) != 44u) goto L376;
-                                                                        l6 = l1 + l7;
-                                                                        store16(l6, (u16)2u);
-                                                                        store32(l6 + 4ull, 0u);
-                                                                        l9 = l2 + 1ull;
+                                                                        if ((l31 & 255u) != 44u) goto L390;
+                                                                        l7 = l2 + l4;
+                                                                        store16(l7, (u16)2u);
+                                                                        store32(l7 + 4ull, 0u);
+                                                                        l9 = l1 + 1ull;
                                                                     }
-                                                                    L378:;
-                                                                    l2 = l2 + 1ull;
-                                                                    l1 = l1 + 8ull;
-                                                                    if (l1 != 96ull) goto L377;
+                                                                    L392:;
+                                                                    l1 = l1 + 1ull;
+                                                                    l2 = l2 + 8ull;
+                                                                    if (l2 != 96ull) goto L391;
                                                                 }
-                                                                l2 = 12ull;
+                                                                l1 = 12ull;
                                                             }
-                                                            L376:;
-                                                            l1 = l8 + 24ull;
-                                                            const u32 t382 = load32(l1);
-                                                            l31 = (u32)l2;
-                                                            store32(l1, t382 - l31);
-                                                            l1 = l8 + 20ull;
-                                                            const u32 t383 = load32(l1);
-                                                            store32(l1, t383 + l31);
+                                                            L390:;
+                                                            l2 = l8 + 24ull;
+                                                            const u32 t396 = load32(l2);
+                                                            l31 = (u32)l1;
+                                                            store32(l2, t396 - l31);
+                                                            l2 = l8 + 20ull;
+                                                            const u32 t397 = load32(l2);
+                                                            store32(l2, t397 + l31);
                                                             l31 = (u32)l9;
-                                                            if (l31 == 0) goto L374;
-                                                            store32(l4 + 92u, l31 + l33);
-                                                            goto L374;
+                                                            if (l31 == 0) goto L388;
+                                                            store32(l6 + 92u, l31 + l33);
+                                                            goto L388;
                                                         }
                                                         if (l3 == 0) {
-                                                            l2 = 0ull;
-                                                            goto L374;
+                                                            l1 = 0ull;
+                                                            goto L388;
                                                         }
-                                                        l1 = l2 + (l7 << 3);
-                                                        l6 = (l2 + (l12 << 3)) + 1ull;
-                                                        l2 = 0ull;
-                                                        l7 = 0ull;
+                                                        l2 = l1 + (l4 << 3);
+                                                        l7 = (l1 + (l12 << 3)) + 1ull;
+                                                        l1 = 0ull;
+                                                        l4 = 0ull;
                                                         {
-                                                            L386:;
+                                                            L400:;
                                                             {
                                                                 {
-                                                                    const u32 t388 = load8(l6);
-                                                                    l31 = t388;
-                                                                    const u32 t389 = load8(((u64)l31 & 255ull) + TABLES + 513u);
-                                                                    if (t389 == 0) {
-                                                                        store8(l1, (u8)0u);
-                                                                        store32(l1 + 4ull, 0u);
-                                                                        store8(l1 + 1ull, (u8)l31);
-                                                                        goto L387;
+                                                                    const u32 t402 = load8(l7);
+                                                                    l31 = t402;
+                                                                    const u32 t403 = load8(((u64)l31 & 255ull) + TABLES + 513u);
+                                                                    if (t403 == 0) {
+                                                                        store8(l2, (u8)0u);
+                                                                        store32(l2 + 4ull, 0u);
+                                                                        store8(l2 + 1ull, (u8)l31);
+                                                                        goto L401;
                                                                     }
-                                                                    if ((l31 & 255u) != 44u) goto L385;
-                                                                    store16(l1, (u16)2u);
-                                                                    store32(l1 + 4ull, 0u);
-                                                                    l7 = l2 + 1ull;
+                                                                    if ((l31 & 255u) != 44u) goto L399;
+                                                                    store16(l2, (u16)2u);
+                                                                    store32(l2 + 4ull, 0u);
+                                                                    l4 = l1 + 1ull;
                                                                 }
-                                                                L387:;
-                                                                l6 = l6 + 8ull;
-                                                                l1 = l1 + 8ull;
-                                                                l2 = l2 + 1ull;
-                                                                if (l3 != l2) goto L386;
+                                                                L401:;
+                                                                l7 = l7 + 8ull;
+                                                                l2 = l2 + 8ull;
+                                                                l1 = l1 + 1ull;
+                                                                if (l3 != l1) goto L400;
                                                             }
-                                                            l2 = l3;
+                                                            l1 = l3;
                                                         }
-                                                        L385:;
-                                                        l1 = l8 + 24ull;
-                                                        const u32 t391 = load32(l1);
-                                                        l31 = (u32)l2;
-                                                        store32(l1, t391 - l31);
-                                                        l1 = l8 + 20ull;
-                                                        const u32 t392 = load32(l1);
-                                                        store32(l1, t392 + l31);
-                                                        l31 = (u32)l7;
-                                                        if (l31 == 0) goto L374;
-                                                        store32(l4 + 92u, l31 + l33);
+                                                        L399:;
+                                                        l2 = l8 + 24ull;
+                                                        const u32 t405 = load32(l2);
+                                                        l31 = (u32)l1;
+                                                        store32(l2, t405 - l31);
+                                                        l2 = l8 + 20ull;
+                                                        const u32 t406 = load32(l2);
+                                                        store32(l2, t406 + l31);
+                                                        l31 = (u32)l4;
+                                                        if (l31 == 0) goto L388;
+                                                        store32(l6 + 92u, l31 + l33);
                                                     }
-                                                    L374:;
-                                                    l1 = (l2 & 4294967295ull) + 1ull;
+                                                    L388:;
+                                                    l2 = (l1 & 4294967295ull) + 1ull;
                                                     goto L22;
                                                 }
                                                 L25:;
-                                                const u32 t393 = load32(l4 + 88u);
-                                                const u64 t394 = core_scan_begin_argument(stack, l8, l11, l4 + 92ull, t393 > 1u);
-                                                l1 = t394;
+                                                const u32 t407 = load32(l6 + 88u);
+                                                const u64 t408 = core_scan_begin_argument(stack, l8, l11, l6 + 92ull, t407 > 1u);
+                                                l2 = t408;
                                                 goto L22;
                                             }
                                             L24:;
@@ -21489,38 +21542,38 @@ static void engine_run(u64 stack, u64 l0, u64 l1, u64 l2, u64 l3, u64 l4, u64 l5
                                         }
                                         L23:;
                                         l31 = 1u;
-                                        l1 = (u64)l33;
-                                        const u64 t395 = (u64)((l41 + (u32)(((l1 < l11) ? l1 : l11))));
-                                        l1 = (u64)(l41 + 1u);
-                                        l6 = t395 - l1;
-                                        if ((l6 == 0) == 0) {
-                                            l2 = (l2 + (l1 << 3)) + 1ull;
-                                            l1 = 0ull;
+                                        l2 = (u64)l33;
+                                        const u64 t409 = (u64)((l41 + (u32)(((l2 < l11) ? l2 : l11))));
+                                        l2 = (u64)(l41 + 1u);
+                                        l7 = t409 - l2;
+                                        if ((l7 == 0) == 0) {
+                                            l1 = (l1 + (l2 << 3)) + 1ull;
+                                            l2 = 0ull;
                                             {
-                                                L398:;
+                                                L412:;
                                                 {
-                                                    const u32 t399 = load8(l2);
-                                                    l31 = t399;
-                                                    if (l31 > 13u) goto L397;
-                                                    if (((1u << (l31 & 31)) & 9728u) == 0) goto L397;
-                                                    l2 = l2 + 8ull;
-                                                    l1 = l1 + 1ull;
-                                                    if (l6 != l1) goto L398;
+                                                    const u32 t413 = load8(l1);
+                                                    l31 = t413;
+                                                    if (l31 > 13u) goto L411;
+                                                    if (((1u << (l31 & 31)) & 9728u) == 0) goto L411;
+                                                    l1 = l1 + 8ull;
+                                                    l2 = l2 + 1ull;
+                                                    if (l7 != l2) goto L412;
                                                 }
-                                                l1 = l6;
+                                                l2 = l7;
                                             }
-                                            L397:;
-                                            l31 = (u32)l1 + 1u;
+                                            L411:;
+                                            l31 = (u32)l2 + 1u;
                                         }
                                         store32(l8 + 24ull, l33 - l31);
-                                        l1 = (u64)l31;
+                                        l2 = (u64)l31;
                                     }
                                     L22:;
-                                    l38 = (l37 > l38) ? l37 : l38;
-                                    v21 = l11 - l1;
+                                    l11 = l11 - l2;
+                                    v21 = (l37 > l38) ? l37 : l38;
                                 }
                                 L21:;
-                                l11 = v21;
+                                l38 = v21;
                                 if (l11 != 0ull) goto L18;
                             }
                         }
@@ -21533,17 +21586,17 @@ static void engine_run(u64 stack, u64 l0, u64 l1, u64 l2, u64 l3, u64 l4, u64 l5
                     trap();
                 }
                 L9:;
-                stack = l4 + 192ull;
-                const u32 t400 = load8(l10 + 160u);
-                l34 = t400;
-                const u32 t401 = load32(l10 + 176u);
-                l32 = t401;
-                const u64 t402 = load64(l10 + 168u);
-                l9 = t402;
-                const u64 t403 = load64(l10 + 24u);
-                l6 = t403;
-                const u64 t404 = load64(l10 + 48u);
-                l4 = t404;
+                stack = l6 + 192ull;
+                const u32 t414 = load8(l10 + 160u);
+                l34 = t414;
+                const u32 t415 = load32(l10 + 176u);
+                l32 = t415;
+                const u64 t416 = load64(l10 + 168u);
+                l9 = t416;
+                const u64 t417 = load64(l10 + 24u);
+                l6 = t417;
+                const u64 t418 = load64(l10 + 48u);
+                l4 = t418;
                 store64(l0 + 32u, 0ull);
                 l4 = l5 - l4;
                 store64(l0 + 24u, (l4 > l5) ? 0ull : l4);
@@ -22036,7 +22089,7 @@ static void engine_turn(u64 stack, u64 l0, u64 l1, u64 l2, u64 l3, u64 l4, u64 l
     u64 l27 = 0;
     u64 l28 = 0;
     u64 l29 = 0;
-    u32 l30 = 0;
+    u64 l30 = 0;
     u32 l31 = 0;
     u32 l32 = 0;
     u32 l33 = 0;
@@ -22053,6 +22106,7 @@ static void engine_turn(u64 stack, u64 l0, u64 l1, u64 l2, u64 l3, u64 l4, u64 l
     u32 l44 = 0;
     u32 l45 = 0;
     u32 l46 = 0;
+    u32 l47 = 0;
     l8 = l1;
     l12 = l2;
     l9 = stack - 304ull;
@@ -22071,11 +22125,11 @@ static void engine_turn(u64 stack, u64 l0, u64 l1, u64 l2, u64 l3, u64 l4, u64 l
             {
                 {
                     if (l7 == 0) goto L4;
-                    l26 = l8 + 56ull;
-                    l27 = l9 + 157ull;
-                    l28 = l9 + 277ull;
-                    l29 = l9 + 181ull;
-                    l24 = l9 + 145ull;
+                    l25 = l8 + 56ull;
+                    l26 = l9 + 157ull;
+                    l27 = l9 + 277ull;
+                    l28 = l9 + 181ull;
+                    l22 = l9 + 145ull;
                     l4 = 0ull;
                     L5:;
                     {
@@ -22085,10 +22139,10 @@ static void engine_turn(u64 stack, u64 l0, u64 l1, u64 l2, u64 l3, u64 l4, u64 l
                         store64(l9 + 224u, 0ull);
                         store64(l9 + 232u, 0ull);
                         store64(l9 + 240u, 0ull);
-                        l30 = 1u;
+                        l32 = 1u;
                         l12 = 0ull;
-                        l32 = 0u;
-                        l34 = 0u;
+                        l31 = 0u;
+                        l33 = 0u;
                         l5 = l8 + 84ull;
                         const u32 t6 = load8(l5);
                         if (t6 != 1u) {
@@ -22100,44 +22154,44 @@ static void engine_turn(u64 stack, u64 l0, u64 l1, u64 l2, u64 l3, u64 l4, u64 l
                             store64(l9 + 176u, t9);
                             const u64 t10 = load64(l8 + 64ull);
                             store64(l9 + 168u, t10);
-                            l19 = l9 + 208ull;
-                            l17 = l8 + 60ull;
-                            const u32 t11 = load32(l17);
+                            l17 = l9 + 208ull;
+                            l16 = l8 + 60ull;
+                            const u32 t11 = load32(l16);
                             l31 = t11;
-                            l10 = l9 + 168ull;
-                            l13 = l7 - l4;
-                            l14 = stack - 144ull;
-                            stack = l14;
+                            l1 = l9 + 168ull;
+                            l10 = l7 - l4;
+                            l13 = stack - 144ull;
+                            stack = l13;
                             {
                                 {
-                                    l11 = l14;
-                                    const u64 t14 = load64(l10 + 8u);
-                                    l18 = t14;
+                                    l11 = l13;
+                                    const u64 t14 = load64(l1 + 8u);
+                                    l23 = t14;
                                     store32(l11 + 64u, 0u);
                                     store8(l11 + 68u, (u8)0u);
                                     store32(l11 + 60u, l31);
                                     store32(l11 + 56u, 0u);
-                                    const u32 t15 = load32(l10 + 16u);
-                                    l42 = t15;
-                                    const u64 t16 = load64(l10);
-                                    l10 = t16 - l18;
-                                    l20 = (l10 < l13) ? l10 : l13;
-                                    if ((l20 == 0) == 0) {
-                                        const u32 t18 = load32(l8 + 24ull);
-                                        const u32 t19 = load32(l8 + 20ull);
-                                        const u32 t20 = load32(l8 + 16ull);
-                                        l38 = t18 + (t19 + t20);
-                                        l21 = l11 + 109ull;
-                                        l22 = l11 + 93ull;
-                                        l15 = l20;
-                                        L21:;
-                                        {
-                                            const u32 t22 = load32(l8 + 28ull);
-                                            l31 = t22;
-                                            const u64 t23 = load64(l8);
-                                            l10 = t23;
-                                            u64 v24;
+                                    const u32 t15 = load32(l1 + 16u);
+                                    l35 = t15;
+                                    {
+                                        const u64 t17 = load64(l1);
+                                        l1 = t17 - l23;
+                                        l21 = (l1 < l10) ? l1 : l10;
+                                        if ((l21 == 0) == 0) {
+                                            const u32 t19 = load32(l8 + 24ull);
+                                            const u32 t20 = load32(l8 + 20ull);
+                                            const u32 t21 = load32(l8 + 16ull);
+                                            l40 = t19 + (t20 + t21);
+                                            l24 = l11 + 109ull;
+                                            l29 = l11 + 93ull;
+                                            l18 = l21;
+                                            L22:;
                                             {
+                                                const u32 t23 = load32(l8 + 28ull);
+                                                l31 = t23;
+                                                const u64 t24 = load64(l8);
+                                                l1 = t24;
+                                                u64 v25;
                                                 {
                                                     {
                                                         {
@@ -22145,311 +22199,311 @@ static void engine_turn(u64 stack, u64 l0, u64 l1, u64 l2, u64 l3, u64 l4, u64 l
                                                                 {
                                                                     {
                                                                         {
-                                                                            u32 v32;
                                                                             {
+                                                                                u32 v33;
                                                                                 {
-                                                                                    const u32 t34 = load32(l8 + 24ull);
-                                                                                    l33 = t34;
-                                                                                    if (l33) {
-                                                                                        l13 = 1ull;
-                                                                                        {
+                                                                                    {
+                                                                                        const u32 t35 = load32(l8 + 24ull);
+                                                                                        l33 = t35;
+                                                                                        if (l33) {
+                                                                                            l10 = 1ull;
                                                                                             {
                                                                                                 {
-                                                                                                    l34 = l31 - l33;
-                                                                                                    l14 = (u64)l34;
-                                                                                                    l1 = l10 + (l14 << 3);
-                                                                                                    const u32 t39 = load8(l1 + 1ull);
-                                                                                                    switch (t39 - 9u) {
-                                                                                                    case 0: goto L26;
-                                                                                                    case 1: goto L26;
-                                                                                                    case 4: goto L26;
-                                                                                                    case 26: goto L38;
-                                                                                                    case 31: goto L27;
-                                                                                                    case 32: goto L37;
-                                                                                                    case 35: goto L28;
-                                                                                                    default: goto L36;
+                                                                                                    {
+                                                                                                        l37 = l31 - l33;
+                                                                                                        l13 = (u64)l37;
+                                                                                                        l14 = l1 + (l13 << 3);
+                                                                                                        const u32 t40 = load8(l14 + 1ull);
+                                                                                                        switch (t40 - 9u) {
+                                                                                                        case 0: goto L27;
+                                                                                                        case 1: goto L27;
+                                                                                                        case 4: goto L27;
+                                                                                                        case 26: goto L39;
+                                                                                                        case 31: goto L28;
+                                                                                                        case 32: goto L38;
+                                                                                                        case 35: goto L29;
+                                                                                                        default: goto L37;
+                                                                                                        }
                                                                                                     }
+                                                                                                    L39:;
+                                                                                                    {
+                                                                                                        l13 = (u64)l31 - l13;
+                                                                                                        if (l13 < 2ull) goto L41;
+                                                                                                        const u32 t42 = load8(l14 + 9ull);
+                                                                                                        l31 = t42;
+                                                                                                        if (l31 == 40u) goto L30;
+                                                                                                        if (l31 != 35u) goto L41;
+                                                                                                        if (l13 == 2ull) goto L41;
+                                                                                                        const u32 t43 = load8(l14 + 17ull);
+                                                                                                        if (t43 != 40u) goto L41;
+                                                                                                        l15 = l8 + 24ull;
+                                                                                                        store32(l15, l33 - 3u);
+                                                                                                        l13 = l8 + 32ull;
+                                                                                                        const u32 t44 = load32(l13);
+                                                                                                        l31 = t44;
+                                                                                                        l14 = l8 + 20ull;
+                                                                                                        const u32 t45 = load32(l14);
+                                                                                                        l33 = t45;
+                                                                                                        l19 = l8 + 16ull;
+                                                                                                        const u32 t46 = load32(l19);
+                                                                                                        l1 = l1 + ((u64)(l33 + t46) << 3);
+                                                                                                        store16(l1, (u16)257u);
+                                                                                                        l33 = l33 + 1u;
+                                                                                                        store32(l1 + 4ull, l31 ? (l33 - l31) : 0u);
+                                                                                                        store32(l14, l33);
+                                                                                                        store32(l13, l33);
+                                                                                                        const u32 t47 = load32(l11 + 56u);
+                                                                                                        if (t47 > 1u) goto L26;
+                                                                                                        const u32 t48 = load32(l8 + 28ull);
+                                                                                                        const u32 t49 = load32(l15);
+                                                                                                        l31 = t49;
+                                                                                                        l20 = (u64)(t48 - l31);
+                                                                                                        const u32 t50 = load32(l19);
+                                                                                                        l15 = (u64)(t50 + l33);
+                                                                                                        const u64 t51 = load64(l8);
+                                                                                                        l1 = t51;
+                                                                                                        {
+                                                                                                            l10 = (u64)l31;
+                                                                                                            l13 = l18 - 1ull;
+                                                                                                            l14 = (l10 < l13) ? l10 : l13;
+                                                                                                            if (l14 >= 12ull) {
+                                                                                                                l15 = l1 + (l15 << 3);
+                                                                                                                l14 = (l1 + (l20 << 3)) + 1ull;
+                                                                                                                l1 = 0ull;
+                                                                                                                l10 = 0ull;
+                                                                                                                l19 = 0ull;
+                                                                                                                {
+                                                                                                                    L55:;
+                                                                                                                    {
+                                                                                                                        {
+                                                                                                                            const u32 t57 = load8(l10 + l14);
+                                                                                                                            l31 = t57;
+                                                                                                                            const u32 t58 = load8(((u64)l31 & 255ull) + TABLES + 513u);
+                                                                                                                            if (t58 == 0) {
+                                                                                                                                l13 = l10 + l15;
+                                                                                                                                store8(l13, (u8)0u);
+                                                                                                                                store32(l13 + 4ull, 0u);
+                                                                                                                                store8(l13 + 1ull, (u8)l31);
+                                                                                                                                goto L56;
+                                                                                                                            }
+                                                                                                                            if ((l31 & 255u) != 44u) goto L54;
+                                                                                                                            l13 = l10 + l15;
+                                                                                                                            store16(l13, (u16)2u);
+                                                                                                                            store32(l13 + 4ull, 0u);
+                                                                                                                            l19 = l1 + 1ull;
+                                                                                                                        }
+                                                                                                                        L56:;
+                                                                                                                        l1 = l1 + 1ull;
+                                                                                                                        l10 = l10 + 8ull;
+                                                                                                                        if (l10 != 96ull) goto L55;
+                                                                                                                    }
+                                                                                                                    l1 = 12ull;
+                                                                                                                }
+                                                                                                                L54:;
+                                                                                                                l10 = l8 + 24ull;
+                                                                                                                const u32 t60 = load32(l10);
+                                                                                                                l31 = (u32)l1;
+                                                                                                                store32(l10, t60 - l31);
+                                                                                                                l10 = l8 + 20ull;
+                                                                                                                const u32 t61 = load32(l10);
+                                                                                                                store32(l10, t61 + l31);
+                                                                                                                l31 = (u32)l19;
+                                                                                                                if (l31 == 0) goto L52;
+                                                                                                                store32(l11 + 60u, l31 + l33);
+                                                                                                                goto L52;
+                                                                                                            }
+                                                                                                            if (l14 == 0) {
+                                                                                                                l1 = 0ull;
+                                                                                                                goto L52;
+                                                                                                            }
+                                                                                                            l10 = l1 + (l15 << 3);
+                                                                                                            l13 = (l1 + (l20 << 3)) + 1ull;
+                                                                                                            l1 = 0ull;
+                                                                                                            l15 = 0ull;
+                                                                                                            {
+                                                                                                                L64:;
+                                                                                                                {
+                                                                                                                    {
+                                                                                                                        const u32 t66 = load8(l13);
+                                                                                                                        l31 = t66;
+                                                                                                                        const u32 t67 = load8(((u64)l31 & 255ull) + TABLES + 513u);
+                                                                                                                        if (t67 == 0) {
+                                                                                                                            store8(l10, (u8)0u);
+                                                                                                                            store32(l10 + 4ull, 0u);
+                                                                                                                            store8(l10 + 1ull, (u8)l31);
+                                                                                                                            goto L65;
+                                                                                                                        }
+                                                                                                                        if ((l31 & 255u) != 44u) goto L63;
+                                                                                                                        store16(l10, (u16)2u);
+                                                                                                                        store32(l10 + 4ull, 0u);
+                                                                                                                        l15 = l1 + 1ull;
+                                                                                                                    }
+                                                                                                                    L65:;
+                                                                                                                    l13 = l13 + 8ull;
+                                                                                                                    l10 = l10 + 8ull;
+                                                                                                                    l1 = l1 + 1ull;
+                                                                                                                    if (l14 != l1) goto L64;
+                                                                                                                }
+                                                                                                                l1 = l14;
+                                                                                                            }
+                                                                                                            L63:;
+                                                                                                            l10 = l8 + 24ull;
+                                                                                                            const u32 t69 = load32(l10);
+                                                                                                            l31 = (u32)l1;
+                                                                                                            store32(l10, t69 - l31);
+                                                                                                            l10 = l8 + 20ull;
+                                                                                                            const u32 t70 = load32(l10);
+                                                                                                            store32(l10, t70 + l31);
+                                                                                                            l31 = (u32)l15;
+                                                                                                            if (l31 == 0) goto L52;
+                                                                                                            store32(l11 + 60u, l31 + l33);
+                                                                                                        }
+                                                                                                        L52:;
+                                                                                                        l10 = (l1 & 4294967295ull) + 1ull;
+                                                                                                        goto L26;
+                                                                                                    }
+                                                                                                    L41:;
+                                                                                                    store32(l8 + 24ull, l33 - 1u);
+                                                                                                    l13 = l8 + 32ull;
+                                                                                                    const u32 t71 = load32(l13);
+                                                                                                    l31 = t71;
+                                                                                                    l14 = l8 + 20ull;
+                                                                                                    const u32 t72 = load32(l14);
+                                                                                                    l33 = t72;
+                                                                                                    const u32 t73 = load32(l8 + 16ull);
+                                                                                                    l1 = l1 + ((u64)(l33 + t73) << 3);
+                                                                                                    store16(l1, (u16)8960u);
+                                                                                                    store32(l1 + 4ull, 0u);
+                                                                                                    store32(l14, l33 + 1u);
+                                                                                                    store32(l13, l31);
+                                                                                                    goto L26;
                                                                                                 }
                                                                                                 L38:;
-                                                                                                {
-                                                                                                    l14 = (u64)l31 - l14;
-                                                                                                    if (l14 < 2ull) goto L40;
-                                                                                                    const u32 t41 = load8(l1 + 9ull);
-                                                                                                    l31 = t41;
-                                                                                                    if (l31 == 40u) goto L29;
-                                                                                                    if (l31 != 35u) goto L40;
-                                                                                                    if (l14 == 2ull) goto L40;
-                                                                                                    const u32 t42 = load8(l1 + 17ull);
-                                                                                                    if (t42 != 40u) goto L40;
-                                                                                                    l16 = l8 + 24ull;
-                                                                                                    store32(l16, l33 - 3u);
-                                                                                                    l14 = l8 + 32ull;
-                                                                                                    const u32 t43 = load32(l14);
-                                                                                                    l31 = t43;
-                                                                                                    l1 = l8 + 20ull;
-                                                                                                    const u32 t44 = load32(l1);
-                                                                                                    l33 = t44;
-                                                                                                    l23 = l8 + 16ull;
-                                                                                                    const u32 t45 = load32(l23);
-                                                                                                    l10 = l10 + ((u64)(l33 + t45) << 3);
-                                                                                                    store16(l10, (u16)257u);
-                                                                                                    l33 = l33 + 1u;
-                                                                                                    store32(l10 + 4ull, l31 ? (l33 - l31) : 0u);
-                                                                                                    store32(l1, l33);
-                                                                                                    store32(l14, l33);
-                                                                                                    const u32 t46 = load32(l11 + 56u);
-                                                                                                    if (t46 > 1u) goto L25;
-                                                                                                    const u32 t47 = load32(l8 + 28ull);
-                                                                                                    const u32 t48 = load32(l16);
-                                                                                                    l31 = t48;
-                                                                                                    l25 = (u64)(t47 - l31);
-                                                                                                    const u32 t49 = load32(l23);
-                                                                                                    l16 = (u64)(t49 + l33);
-                                                                                                    const u64 t50 = load64(l8);
-                                                                                                    l10 = t50;
-                                                                                                    {
-                                                                                                        l13 = (u64)l31;
-                                                                                                        l14 = l15 - 1ull;
-                                                                                                        l1 = (l13 < l14) ? l13 : l14;
-                                                                                                        if (l1 >= 12ull) {
-                                                                                                            l16 = l10 + (l16 << 3);
-                                                                                                            l1 = (l10 + (l25 << 3)) + 1ull;
-                                                                                                            l10 = 0ull;
-                                                                                                            l13 = 0ull;
-                                                                                                            l23 = 0ull;
-                                                                                                            {
-                                                                                                                L54:;
-                                                                                                                {
-                                                                                                                    {
-                                                                                                                        const u32 t56 = load8(l1 + l13);
-                                                                                                                        l31 = t56;
-                                                                                                                        const u32 t57 = load8(((u64)l31 & 255ull) + TABLES + 513u);
-                                                                                                                        if (t57 == 0) {
-                                                                                                                            l14 = l13 + l16;
-                                                                                                                            store8(l14, (u8)0u);
-                                                                                                                            store32(l14 + 4ull, 0u);
-                                                                                                                            store8(l14 + 1ull, (u8)l31);
-                                                                                                                            goto L55;
-                                                                                                                        }
-                                                                                                                        if ((l31 & 255u) != 44u) goto L53;
-                                                                                                                        l14 = l13 + l16;
-                                                                                                                        store16(l14, (u16)2u);
-                                                                                                                        store32(l14 + 4ull, 0u);
-                                                                                                                        l23 = l10 + 1ull;
-                                                                                                                    }
-                                                                                                                    L55:;
-                                                                                                                    l10 = l10 + 1ull;
-                                                                                                                    l13 = l13 + 8ull;
-                                                                                                                    if (l13 != 96ull) goto L54;
-                                                                                                                }
-                                                                                                                l10 = 12ull;
-                                                                                                            }
-                                                                                                            L53:;
-                                                                                                            l13 = l8 + 24ull;
-                                                                                                            const u32 t59 = load32(l13);
-                                                                                                            l31 = (u32)l10;
-                                                                                                            store32(l13, t59 - l31);
-                                                                                                            l13 = l8 + 20ull;
-                                                                                                            const u32 t60 = load32(l13);
-                                                                                                            store32(l13, t60 + l31);
-                                                                                                            l31 = (u32)l23;
-                                                                                                            if (l31 == 0) goto L51;
-                                                                                                            store32(l11 + 60u, l31 + l33);
-                                                                                                            goto L51;
-                                                                                                        }
-                                                                                                        if (l1 == 0) {
-                                                                                                            l10 = 0ull;
-                                                                                                            goto L51;
-                                                                                                        }
-                                                                                                        l13 = l10 + (l16 << 3);
-                                                                                                        l14 = (l10 + (l25 << 3)) + 1ull;
-                                                                                                        l10 = 0ull;
-                                                                                                        l16 = 0ull;
-                                                                                                        {
-                                                                                                            L63:;
-                                                                                                            {
-                                                                                                                {
-                                                                                                                    const u32 t65 = load8(l14);
-                                                                                                                    l31 = t65;
-                                                                                                                    const u32 t66 = load8(((u64)l31 & 255ull) + TABLES + 513u);
-                                                                                                                    if (t66 == 0) {
-                                                                                                                        store8(l13, (u8)0u);
-                                                                                                                        store32(l13 + 4ull, 0u);
-                                                                                                                        store8(l13 + 1ull, (u8)l31);
-                                                                                                                        goto L64;
-                                                                                                                    }
-                                                                                                                    if ((l31 & 255u) != 44u) goto L62;
-                                                                                                                    store16(l13, (u16)2u);
-                                                                                                                    store32(l13 + 4ull, 0u);
-                                                                                                                    l16 = l10 + 1ull;
-                                                                                                                }
-                                                                                                                L64:;
-                                                                                                                l14 = l14 + 8ull;
-                                                                                                                l13 = l13 + 8ull;
-                                                                                                                l10 = l10 + 1ull;
-                                                                                                                if (l1 != l10) goto L63;
-                                                                                                            }
-                                                                                                            l10 = l1;
-                                                                                                        }
-                                                                                                        L62:;
-                                                                                                        l13 = l8 + 24ull;
-                                                                                                        const u32 t68 = load32(l13);
-                                                                                                        l31 = (u32)l10;
-                                                                                                        store32(l13, t68 - l31);
-                                                                                                        l13 = l8 + 20ull;
-                                                                                                        const u32 t69 = load32(l13);
-                                                                                                        store32(l13, t69 + l31);
-                                                                                                        l31 = (u32)l16;
-                                                                                                        if (l31 == 0) goto L51;
-                                                                                                        store32(l11 + 60u, l31 + l33);
-                                                                                                    }
-                                                                                                    L51:;
-                                                                                                    l13 = (l10 & 4294967295ull) + 1ull;
-                                                                                                    goto L25;
-                                                                                                }
-                                                                                                L40:;
+                                                                                                const u32 t74 = load32(l8 + 32ull);
+                                                                                                l37 = t74;
+                                                                                                if (l37) goto L34;
                                                                                                 store32(l8 + 24ull, l33 - 1u);
-                                                                                                l14 = l8 + 32ull;
-                                                                                                const u32 t70 = load32(l14);
-                                                                                                l31 = t70;
-                                                                                                l1 = l8 + 20ull;
-                                                                                                const u32 t71 = load32(l1);
-                                                                                                l33 = t71;
-                                                                                                const u32 t72 = load32(l8 + 16ull);
-                                                                                                l10 = l10 + ((u64)(l33 + t72) << 3);
-                                                                                                store16(l10, (u16)8960u);
-                                                                                                store32(l10 + 4ull, 0u);
-                                                                                                store32(l1, l33 + 1u);
-                                                                                                store32(l14, l31);
-                                                                                                goto L25;
+                                                                                                goto L26;
                                                                                             }
                                                                                             L37:;
-                                                                                            const u32 t73 = load32(l8 + 32ull);
-                                                                                            l34 = t73;
-                                                                                            if (l34) goto L33;
-                                                                                            store32(l8 + 24ull, l33 - 1u);
-                                                                                            goto L25;
+                                                                                            const u64 t75 = core_scan_add_characters(stack, l8, l18, l11 + 60ull, l11 + 56ull);
+                                                                                            l10 = t75;
+                                                                                            goto L26;
                                                                                         }
-                                                                                        L36:;
-                                                                                        const u64 t74 = core_scan_add_characters(stack, l8, l15, l11 + 60ull, l11 + 56ull);
-                                                                                        l13 = t74;
-                                                                                        goto L25;
-                                                                                    }
-                                                                                    {
-                                                                                        if (l15 < 8ull) goto L75;
-                                                                                        const u32 t76 = load32(l8 + 8ull);
+                                                                                        {
+                                                                                            if (l18 < 8ull) goto L76;
+                                                                                            const u32 t77 = load32(l8 + 8ull);
+                                                                                            l10 = l8 + 16ull;
+                                                                                            const u32 t78 = load32(l10);
+                                                                                            if ((t77 - t78) < 11u) goto L76;
+                                                                                            const u32 t79 = core_scan_begin_idling(stack, l8);
+                                                                                            l31 = t79;
+                                                                                            store32(l11 + 56u, 0u);
+                                                                                            const u32 t80 = load32(l8 + 20ull);
+                                                                                            l33 = t80;
+                                                                                            store32(l11 + 60u, l33);
+                                                                                            const u32 t81 = load32(l8 + 24ull);
+                                                                                            const u32 t82 = load32(l10);
+                                                                                            l40 = t81 + (l33 + t82);
+                                                                                            l35 = (l31 > l35) ? l31 : l35;
+                                                                                            v25 = l18 - 8ull; goto L25;
+                                                                                        }
+                                                                                        L76:;
+                                                                                        store32(l8 + 32ull, 0u);
+                                                                                        l10 = l8 + 20ull;
+                                                                                        store32(l10, 0u);
+                                                                                        l33 = 11u;
                                                                                         l13 = l8 + 16ull;
-                                                                                        const u32 t77 = load32(l13);
-                                                                                        if ((t76 - t77) < 11u) goto L75;
-                                                                                        const u32 t78 = core_scan_begin_idling(stack, l8);
-                                                                                        l31 = t78;
-                                                                                        store32(l11 + 56u, 0u);
-                                                                                        const u32 t79 = load32(l8 + 20ull);
-                                                                                        l33 = t79;
-                                                                                        store32(l11 + 60u, l33);
-                                                                                        const u32 t80 = load32(l8 + 24ull);
-                                                                                        const u32 t81 = load32(l13);
-                                                                                        l38 = t80 + (l33 + t81);
-                                                                                        l42 = (l31 > l42) ? l31 : l42;
-                                                                                        v24 = l15 - 8ull; goto L24;
-                                                                                    }
-                                                                                    L75:;
-                                                                                    store32(l8 + 32ull, 0u);
-                                                                                    l13 = l8 + 20ull;
-                                                                                    store32(l13, 0u);
-                                                                                    l33 = 11u;
-                                                                                    l14 = l8 + 16ull;
-                                                                                    const u32 t82 = load32(l14);
-                                                                                    u32 v83;
-                                                                                    if ((l31 - t82) <= 10u) {
-                                                                                        const u32 t84 = space_space_Space_try_claim_spare(stack, l8, 11ull);
-                                                                                        if (t84 == 0) goto L31;
-                                                                                        const u32 t85 = load32(l8 + 24ull);
-                                                                                        l33 = t85 + 11u;
-                                                                                        const u64 t86 = load64(l8);
-                                                                                        l10 = t86;
-                                                                                        const u32 t87 = load32(l8 + 28ull);
-                                                                                        v83 = t87;
-                                                                                    } else {
-                                                                                        v83 = l31;
-                                                                                    }
-                                                                                    l10 = ((u64)(v83 - l33) << 3) + l10;
-                                                                                    store64(l10 + 56u, 0ull);
-                                                                                    store64(l10 + 48u, 0ull);
-                                                                                    store64(l10 + 40u, 0ull);
-                                                                                    store64(l10 + 32u, 0ull);
-                                                                                    store64(l10 + 24u, 0ull);
-                                                                                    store64(l10 + 16u, 0ull);
-                                                                                    store64(l10 + 8u, 0ull);
-                                                                                    store64(l10, 0ull);
-                                                                                    store16(l10 + 80u, (u16)10496u);
-                                                                                    store16(l10 + 72u, (u16)10496u);
-                                                                                    store16(l10 + 64u, (u16)29440u);
-                                                                                    store32(l10 + 84ull, 0u);
-                                                                                    store32(l10 + 76ull, 0u);
-                                                                                    store32(l10 + 68ull, 0u);
-                                                                                    store8(l10 + 57ull, (u8)114u);
-                                                                                    store8(l10 + 49ull, (u8)40u);
-                                                                                    store8(l10 + 41ull, (u8)35u);
-                                                                                    store8(l10 + 33ull, (u8)44u);
-                                                                                    store8(l10 + 25ull, (u8)115u);
-                                                                                    store8(l10 + 17ull, (u8)112u);
-                                                                                    store8(l10 + 9ull, (u8)40u);
-                                                                                    store8(l10 + 1ull, (u8)35u);
-                                                                                    store32(l8 + 24ull, l33);
-                                                                                    const u32 t88 = load32(l13);
-                                                                                    const u32 t89 = load32(l14);
-                                                                                    v32 = t88 + (t89 + l33); goto L32;
-                                                                                }
-                                                                                L33:;
-                                                                                const u32 t90 = load32(l8 + 16ull);
-                                                                                l31 = t90;
-                                                                                l38 = l34 - 1u;
-                                                                                const u32 t91 = load8((l10 + ((u64)(l31 + l38) << 3)) + 1ull);
-                                                                                l40 = t91;
-                                                                                const u32 t92 = load32(l8 + 20ull);
-                                                                                l44 = t92;
-                                                                                const u32 t93 = load32(l11 + 60u);
-                                                                                l39 = t93;
-                                                                                l32 = 0u;
-                                                                                store8(l11 + 98u, (u8)0u);
-                                                                                store16(l11 + 96u, (u16)0u);
-                                                                                u32 v94;
-                                                                                {
-                                                                                    {
-                                                                                        l37 = l31 + l44;
-                                                                                        l13 = (u64)(l31 + l34);
-                                                                                        l14 = (u64)l37 - l13;
-                                                                                        if (l14 >= 2ull) {
-                                                                                            l13 = l10 + (l13 << 3);
-                                                                                            if (l14 == 2ull) goto L95;
-                                                                                            const u32 t97 = load8(l13 + 16ull);
-                                                                                            if (t97 == 2u) goto L95;
+                                                                                        const u32 t83 = load32(l13);
+                                                                                        u32 v84;
+                                                                                        if ((l31 - t83) <= 10u) {
+                                                                                            const u32 t85 = space_space_Space_try_claim_spare(stack, l8, 11ull);
+                                                                                            if (t85 == 0) goto L32;
+                                                                                            const u32 t86 = load32(l8 + 24ull);
+                                                                                            l33 = t86 + 11u;
+                                                                                            const u64 t87 = load64(l8);
+                                                                                            l1 = t87;
+                                                                                            const u32 t88 = load32(l8 + 28ull);
+                                                                                            v84 = t88;
+                                                                                        } else {
+                                                                                            v84 = l31;
                                                                                         }
-                                                                                        l30 = 1u;
-                                                                                        l35 = 0u;
+                                                                                        l1 = ((u64)(v84 - l33) << 3) + l1;
+                                                                                        store64(l1 + 56u, 0ull);
+                                                                                        store64(l1 + 48u, 0ull);
+                                                                                        store64(l1 + 40u, 0ull);
+                                                                                        store64(l1 + 32u, 0ull);
+                                                                                        store64(l1 + 24u, 0ull);
+                                                                                        store64(l1 + 16u, 0ull);
+                                                                                        store64(l1 + 8u, 0ull);
+                                                                                        store64(l1, 0ull);
+                                                                                        store16(l1 + 80u, (u16)10496u);
+                                                                                        store16(l1 + 72u, (u16)10496u);
+                                                                                        store16(l1 + 64u, (u16)29440u);
+                                                                                        store32(l1 + 84ull, 0u);
+                                                                                        store32(l1 + 76ull, 0u);
+                                                                                        store32(l1 + 68ull, 0u);
+                                                                                        store8(l1 + 57ull, (u8)114u);
+                                                                                        store8(l1 + 49ull, (u8)40u);
+                                                                                        store8(l1 + 41ull, (u8)35u);
+                                                                                        store8(l1 + 33ull, (u8)44u);
+                                                                                        store8(l1 + 25ull, (u8)115u);
+                                                                                        store8(l1 + 17ull, (u8)112u);
+                                                                                        store8(l1 + 9ull, (u8)40u);
+                                                                                        store8(l1 + 1ull, (u8)35u);
+                                                                                        store32(l8 + 24ull, l33);
+                                                                                        const u32 t89 = load32(l10);
+                                                                                        const u32 t90 = load32(l13);
+                                                                                        v33 = t89 + (t90 + l33); goto L33;
+                                                                                    }
+                                                                                    L34:;
+                                                                                    const u32 t91 = load32(l8 + 16ull);
+                                                                                    l31 = t91;
+                                                                                    l40 = l37 - 1u;
+                                                                                    const u32 t92 = load8((l1 + ((u64)(l31 + l40) << 3)) + 1ull);
+                                                                                    l42 = t92;
+                                                                                    const u32 t93 = load32(l8 + 20ull);
+                                                                                    l44 = t93;
+                                                                                    const u32 t94 = load32(l11 + 60u);
+                                                                                    l41 = t94;
+                                                                                    l32 = 0u;
+                                                                                    store8(l11 + 98u, (u8)0u);
+                                                                                    store16(l11 + 96u, (u16)0u);
+                                                                                    u32 v95;
+                                                                                    {
+                                                                                        {
+                                                                                            l39 = l31 + l44;
+                                                                                            l10 = (u64)(l31 + l37);
+                                                                                            l13 = (u64)l39 - l10;
+                                                                                            if (l13 >= 2ull) {
+                                                                                                l10 = l1 + (l10 << 3);
+                                                                                                if (l13 == 2ull) goto L96;
+                                                                                                const u32 t98 = load8(l10 + 16ull);
+                                                                                                if (t98 == 2u) goto L96;
+                                                                                            }
+                                                                                            l36 = 1u;
+                                                                                            l34 = 0u;
+                                                                                            l43 = 0u;
+                                                                                            v95 = l37; goto L95;
+                                                                                        }
+                                                                                        L96:;
+                                                                                        functions_function_function_of(stack, l11 + 96ull, l10, l10 + 8ull);
+                                                                                        l36 = 1u;
+                                                                                        l34 = 0u;
                                                                                         l43 = 0u;
-                                                                                        v94 = l34; goto L94;
+                                                                                        const u32 t99 = load8(l11 + 96u);
+                                                                                        if (t99 != 1u) { v95 = l37; goto L95; }
+                                                                                        const u32 t100 = load8(l11 + 98u);
+                                                                                        l43 = t100;
+                                                                                        const u32 t101 = load8(l11 + 97u);
+                                                                                        l34 = t101;
+                                                                                        l36 = 0u;
+                                                                                        l32 = 1u;
+                                                                                        v95 = l37 + 3u;
                                                                                     }
                                                                                     L95:;
-                                                                                    functions_function_function_of(stack, l11 + 96ull, l13, l13 + 8ull);
-                                                                                    l30 = 1u;
-                                                                                    l35 = 0u;
-                                                                                    l43 = 0u;
-                                                                                    const u32 t98 = load8(l11 + 96u);
-                                                                                    if (t98 != 1u) { v94 = l34; goto L94; }
-                                                                                    const u32 t99 = load8(l11 + 98u);
-                                                                                    l43 = t99;
-                                                                                    const u32 t100 = load8(l11 + 97u);
-                                                                                    l35 = t100;
-                                                                                    l30 = 0u;
-                                                                                    l32 = 1u;
-                                                                                    v94 = l34 + 3u;
-                                                                                }
-                                                                                L94:;
-                                                                                l36 = v94;
-                                                                                l41 = l40 == 0;
-                                                                                {
+                                                                                    l38 = v95;
+                                                                                    l45 = l42 == 0;
                                                                                     {
                                                                                         {
                                                                                             {
@@ -22459,73 +22513,73 @@ static void engine_turn(u64 stack, u64 l0, u64 l1, u64 l2, u64 l3, u64 l4, u64 l
                                                                                                             {
                                                                                                                 {
                                                                                                                     {
-                                                                                                                        if (l32 == 0) goto L110;
-                                                                                                                        l32 = l35 & 255u;
-                                                                                                                        if ((1u << (l32 & 31)) & 33553396u) goto L110;
-                                                                                                                        if (l32 != 3u) goto L109;
-                                                                                                                        store16(l21, (u16)0u);
-                                                                                                                        store8(l21 + 2u, (u8)0u);
-                                                                                                                        store8(l11 + 108u, (u8)l41);
-                                                                                                                        store32(l11 + 104u, l39);
-                                                                                                                        store32(l11 + 100u, l44);
-                                                                                                                        store32(l11 + 96u, l36);
-                                                                                                                        functions_arguments_Arguments_next(stack, l11 + 48ull, l11 + 96ull, l8);
-                                                                                                                        const u32 t111 = load32(l11 + 48u);
-                                                                                                                        const u32 t112 = load32(l11 + 52u);
-                                                                                                                        if (t111 < t112) goto L109;
-                                                                                                                    }
-                                                                                                                    L110:;
-                                                                                                                    l33 = l33 - 1u;
-                                                                                                                    store32(l8 + 24ull, l33);
-                                                                                                                    l40 = l33 + l37;
-                                                                                                                    l32 = 0u;
-                                                                                                                    l37 = l35 & 255u;
-                                                                                                                    if (l30 | (l37 == 3u)) goto L101;
-                                                                                                                    {
-                                                                                                                        if ((l37 - 5u) < 20u) goto L113;
                                                                                                                         {
-                                                                                                                            switch (l37 - 2u) {
-                                                                                                                            case 0: goto L114;
-                                                                                                                            case 1: goto L13;
-                                                                                                                            case 2: goto L108;
-                                                                                                                            default: goto L113;
+                                                                                                                            if (l32 == 0) goto L111;
+                                                                                                                            l32 = l34 & 255u;
+                                                                                                                            if ((1u << (l32 & 31)) & 33553396u) goto L111;
+                                                                                                                            if (l32 != 3u) goto L110;
+                                                                                                                            store16(l24, (u16)0u);
+                                                                                                                            store8(l24 + 2u, (u8)0u);
+                                                                                                                            store8(l11 + 108u, (u8)l45);
+                                                                                                                            store32(l11 + 104u, l41);
+                                                                                                                            store32(l11 + 100u, l44);
+                                                                                                                            store32(l11 + 96u, l38);
+                                                                                                                            functions_arguments_Arguments_next(stack, l11 + 48ull, l11 + 96ull, l8);
+                                                                                                                            const u32 t112 = load32(l11 + 48u);
+                                                                                                                            const u32 t113 = load32(l11 + 52u);
+                                                                                                                            if (t112 < t113) goto L110;
+                                                                                                                        }
+                                                                                                                        L111:;
+                                                                                                                        l33 = l33 - 1u;
+                                                                                                                        store32(l8 + 24ull, l33);
+                                                                                                                        l42 = l33 + l39;
+                                                                                                                        l32 = 0u;
+                                                                                                                        l39 = l34 & 255u;
+                                                                                                                        if (l36 | (l39 == 3u)) goto L102;
+                                                                                                                        {
+                                                                                                                            if ((l39 - 5u) < 20u) goto L114;
+                                                                                                                            {
+                                                                                                                                switch (l39 - 2u) {
+                                                                                                                                case 0: goto L115;
+                                                                                                                                case 1: goto L13;
+                                                                                                                                case 2: goto L109;
+                                                                                                                                default: goto L114;
+                                                                                                                                }
                                                                                                                             }
+                                                                                                                            L115:;
+                                                                                                                            store16(l24, (u16)0u);
+                                                                                                                            store8(l24 + 2u, (u8)0u);
+                                                                                                                            store8(l11 + 108u, (u8)l45);
+                                                                                                                            store32(l11 + 104u, l41);
+                                                                                                                            store32(l11 + 100u, l44);
+                                                                                                                            store32(l11 + 96u, l38);
+                                                                                                                            functions_arguments_Arguments_next(stack, l11, l11 + 96ull, l8);
+                                                                                                                            const u32 t116 = load32(l11);
+                                                                                                                            l34 = t116;
+                                                                                                                            const u32 t117 = load32(l11 + 4u);
+                                                                                                                            if (l34 != t117) {
+                                                                                                                                l1 = l1 + ((u64)(l31 + l34) << 3);
+                                                                                                                                const u32 t119 = load8(l1);
+                                                                                                                                const u64 t120 = l25;
+                                                                                                                                u32 v121;
+                                                                                                                                if (t119) {
+                                                                                                                                    v121 = 0u;
+                                                                                                                                } else {
+                                                                                                                                    const u32 t122 = load8(l1 + 1ull);
+                                                                                                                                    v121 = t122;
+                                                                                                                                }
+                                                                                                                                store8(t120, (u8)v121);
+                                                                                                                            }
+                                                                                                                            goto L102;
                                                                                                                         }
                                                                                                                         L114:;
-                                                                                                                        store16(l21, (u16)0u);
-                                                                                                                        store8(l21 + 2u, (u8)0u);
-                                                                                                                        store8(l11 + 108u, (u8)l41);
-                                                                                                                        store32(l11 + 104u, l39);
-                                                                                                                        store32(l11 + 100u, l44);
-                                                                                                                        store32(l11 + 96u, l36);
-                                                                                                                        functions_arguments_Arguments_next(stack, l11, l11 + 96ull, l8);
-                                                                                                                        const u32 t115 = load32(l11);
-                                                                                                                        l35 = t115;
-                                                                                                                        const u32 t116 = load32(l11 + 4u);
-                                                                                                                        if (l35 != t116) {
-                                                                                                                            l10 = l10 + ((u64)(l31 + l35) << 3);
-                                                                                                                            const u32 t118 = load8(l10);
-                                                                                                                            const u64 t119 = l26;
-                                                                                                                            u32 v120;
-                                                                                                                            if (t118) {
-                                                                                                                                v120 = 0u;
-                                                                                                                            } else {
-                                                                                                                                const u32 t121 = load8(l10 + 1ull);
-                                                                                                                                v120 = t121;
-                                                                                                                            }
-                                                                                                                            store8(t119, (u8)v120);
-                                                                                                                        }
-                                                                                                                        goto L101;
-                                                                                                                    }
-                                                                                                                    L113:;
-                                                                                                                    store16(l22, (u16)0u);
-                                                                                                                    store8(l22 + 2u, (u8)0u);
-                                                                                                                    store8(l11 + 92u, (u8)l41);
-                                                                                                                    store32(l11 + 88u, l39);
-                                                                                                                    store32(l11 + 84u, l44);
-                                                                                                                    store32(l11 + 80u, l36);
-                                                                                                                    store64(l11 + 72u, 0ull);
-                                                                                                                    {
+                                                                                                                        store16(l29, (u16)0u);
+                                                                                                                        store8(l29 + 2u, (u8)0u);
+                                                                                                                        store8(l11 + 92u, (u8)l45);
+                                                                                                                        store32(l11 + 88u, l41);
+                                                                                                                        store32(l11 + 84u, l44);
+                                                                                                                        store32(l11 + 80u, l38);
+                                                                                                                        store64(l11 + 72u, 0ull);
                                                                                                                         {
                                                                                                                             {
                                                                                                                                 {
@@ -22544,831 +22598,908 @@ static void engine_turn(u64 stack, u64 l0, u64 l1, u64 l2, u64 l3, u64 l4, u64 l
                                                                                                                                                                                     {
                                                                                                                                                                                         {
                                                                                                                                                                                             {
-                                                                                                                                                                                                switch ((u32)(((u64)l35 & 255ull)) - 5u) {
-                                                                                                                                                                                                case 0: goto L122;
-                                                                                                                                                                                                case 1: goto L140;
-                                                                                                                                                                                                case 2: goto L139;
-                                                                                                                                                                                                case 3: goto L138;
-                                                                                                                                                                                                case 4: goto L137;
-                                                                                                                                                                                                case 6: goto L136;
-                                                                                                                                                                                                case 7: goto L135;
-                                                                                                                                                                                                case 8: goto L134;
-                                                                                                                                                                                                case 9: goto L133;
-                                                                                                                                                                                                case 10: goto L132;
-                                                                                                                                                                                                case 11: goto L131;
-                                                                                                                                                                                                case 12: goto L130;
-                                                                                                                                                                                                case 13: goto L129;
-                                                                                                                                                                                                case 14: goto L128;
-                                                                                                                                                                                                case 15: goto L127;
-                                                                                                                                                                                                case 16: goto L126;
-                                                                                                                                                                                                case 17: goto L125;
-                                                                                                                                                                                                case 18: goto L124;
-                                                                                                                                                                                                case 19: goto L123;
-                                                                                                                                                                                                default: goto L102;
+                                                                                                                                                                                                {
+                                                                                                                                                                                                    switch ((u32)(((u64)l34 & 255ull)) - 5u) {
+                                                                                                                                                                                                    case 0: goto L123;
+                                                                                                                                                                                                    case 1: goto L141;
+                                                                                                                                                                                                    case 2: goto L140;
+                                                                                                                                                                                                    case 3: goto L139;
+                                                                                                                                                                                                    case 4: goto L138;
+                                                                                                                                                                                                    case 6: goto L137;
+                                                                                                                                                                                                    case 7: goto L136;
+                                                                                                                                                                                                    case 8: goto L135;
+                                                                                                                                                                                                    case 9: goto L134;
+                                                                                                                                                                                                    case 10: goto L133;
+                                                                                                                                                                                                    case 11: goto L132;
+                                                                                                                                                                                                    case 12: goto L131;
+                                                                                                                                                                                                    case 13: goto L130;
+                                                                                                                                                                                                    case 14: goto L129;
+                                                                                                                                                                                                    case 15: goto L128;
+                                                                                                                                                                                                    case 16: goto L127;
+                                                                                                                                                                                                    case 17: goto L126;
+                                                                                                                                                                                                    case 18: goto L125;
+                                                                                                                                                                                                    case 19: goto L124;
+                                                                                                                                                                                                    default: goto L103;
+                                                                                                                                                                                                    }
                                                                                                                                                                                                 }
+                                                                                                                                                                                                L141:;
+                                                                                                                                                                                                functions_form_calls_segment_string(stack, l11 + 72ull, l8, l11 + 80ull);
+                                                                                                                                                                                                goto L105;
                                                                                                                                                                                             }
                                                                                                                                                                                             L140:;
-                                                                                                                                                                                            functions_form_calls_segment_string(stack, l11 + 72ull, l8, l11 + 80ull);
-                                                                                                                                                                                            goto L104;
+                                                                                                                                                                                            functions_form_calls_delete_definition(stack, l11 + 72ull, l8, l11 + 80ull);
+                                                                                                                                                                                            goto L105;
                                                                                                                                                                                         }
                                                                                                                                                                                         L139:;
-                                                                                                                                                                                        functions_form_calls_delete_definition(stack, l11 + 72ull, l8, l11 + 80ull);
-                                                                                                                                                                                        goto L104;
+                                                                                                                                                                                        space_space_Space_remove_store(stack, l8, 0u, l31);
+                                                                                                                                                                                        {
+                                                                                                                                                                                            const u32 t143 = load32(l8 + 40ull);
+                                                                                                                                                                                            const u64 t144 = load64(l8 + 8ull);
+                                                                                                                                                                                            l1 = t144;
+                                                                                                                                                                                            const u32 t145 = load32(l8 + 28ull);
+                                                                                                                                                                                            l37 = t145;
+                                                                                                                                                                                            if (t143 < (((u32)l1 - l37) >> 5)) {
+                                                                                                                                                                                                space_space_Space_drop_spare(stack, l8);
+                                                                                                                                                                                                goto L142;
+                                                                                                                                                                                            }
+                                                                                                                                                                                            l10 = (u64)l37;
+                                                                                                                                                                                            if (l1 == l10) goto L142;
+                                                                                                                                                                                            l19 = l1 - l10;
+                                                                                                                                                                                            const u64 t147 = load64(l8);
+                                                                                                                                                                                            l20 = t147 + (l10 << 3);
+                                                                                                                                                                                            l15 = 0ull;
+                                                                                                                                                                                            L148:;
+                                                                                                                                                                                            {
+                                                                                                                                                                                                l1 = l15;
+                                                                                                                                                                                                l10 = l19 - l1;
+                                                                                                                                                                                                l14 = (l10 < 254ull) ? l10 : 254ull;
+                                                                                                                                                                                                l15 = l14 + l1;
+                                                                                                                                                                                                {
+                                                                                                                                                                                                    l10 = l14 << 3;
+                                                                                                                                                                                                    l30 = l1 << 3;
+                                                                                                                                                                                                    l1 = l20 + l30;
+                                                                                                                                                                                                    if (l10 > (l1 - (TABLES + 772u))) {
+                                                                                                                                                                                                        l10 = l14 & 3ull;
+                                                                                                                                                                                                        l13 = 0ull;
+                                                                                                                                                                                                        const u64 t151 = l20;
+                                                                                                                                                                                                        const u64 t152 = l30;
+                                                                                                                                                                                                        u64 v153;
+                                                                                                                                                                                                        if ((l14 - 1ull) >= 3ull) {
+                                                                                                                                                                                                            l14 = 0ull - (l14 & 18446744073709551612ull);
+                                                                                                                                                                                                            L154:;
+                                                                                                                                                                                                            {
+                                                                                                                                                                                                                store16(l1, (u16)0u);
+                                                                                                                                                                                                                store32(l1 + 28ull, 0u);
+                                                                                                                                                                                                                store16(l1 + 24ull, (u16)0u);
+                                                                                                                                                                                                                store32(l1 + 20ull, 0u);
+                                                                                                                                                                                                                store16(l1 + 16ull, (u16)0u);
+                                                                                                                                                                                                                store32(l1 + 12ull, 0u);
+                                                                                                                                                                                                                store16(l1 + 8ull, (u16)0u);
+                                                                                                                                                                                                                store32(l1 + 4ull, 0u);
+                                                                                                                                                                                                                l1 = l1 + 32ull;
+                                                                                                                                                                                                                l13 = l13 - 4ull;
+                                                                                                                                                                                                                if (l14 != l13) goto L154;
+                                                                                                                                                                                                            }
+                                                                                                                                                                                                            if (l10 == 0) goto L149;
+                                                                                                                                                                                                            v153 = 0ull - l13;
+                                                                                                                                                                                                        } else {
+                                                                                                                                                                                                            v153 = 0ull;
+                                                                                                                                                                                                        }
+                                                                                                                                                                                                        l1 = t151 + (t152 + (v153 << 3));
+                                                                                                                                                                                                        L155:;
+                                                                                                                                                                                                        {
+                                                                                                                                                                                                            store16(l1, (u16)0u);
+                                                                                                                                                                                                            store32(l1 + 4ull, 0u);
+                                                                                                                                                                                                            l1 = l1 + 8ull;
+                                                                                                                                                                                                            l10 = l10 - 1ull;
+                                                                                                                                                                                                            if (l10 != 0ull) goto L155;
+                                                                                                                                                                                                        }
+                                                                                                                                                                                                        goto L149;
+                                                                                                                                                                                                    }
+                                                                                                                                                                                                    if (l10 == 0) goto L149;
+                                                                                                                                                                                                    memset(at(l1), (int)0u, (size_t)l10);
+                                                                                                                                                                                                }
+                                                                                                                                                                                                L149:;
+                                                                                                                                                                                                if (l15 < l19) goto L148;
+                                                                                                                                                                                            }
+                                                                                                                                                                                        }
+                                                                                                                                                                                        L142:;
+                                                                                                                                                                                        store32(l8 + 48ull, 0u);
+                                                                                                                                                                                        store64(l8 + 40ull, 0ull);
+                                                                                                                                                                                        goto L103;
                                                                                                                                                                                     }
                                                                                                                                                                                     L138:;
-                                                                                                                                                                                    functions_form_calls_delete_all(stack, l11 + 72ull, l8);
-                                                                                                                                                                                    goto L104;
+                                                                                                                                                                                    functions_form_calls_list_names(stack, l11 + 72ull, l8, l11 + 80ull);
+                                                                                                                                                                                    goto L105;
                                                                                                                                                                                 }
                                                                                                                                                                                 L137:;
-                                                                                                                                                                                functions_form_calls_list_names(stack, l11 + 72ull, l8, l11 + 80ull);
-                                                                                                                                                                                goto L104;
+                                                                                                                                                                                const u64 t156 = load64(l11 + 88u);
+                                                                                                                                                                                store64(l11 + 104u, t156);
+                                                                                                                                                                                const u64 t157 = load64(l11 + 80u);
+                                                                                                                                                                                store64(l11 + 96u, t157);
+                                                                                                                                                                                const u32 t158 = load8(l11 + 108u);
+                                                                                                                                                                                l36 = t158;
+                                                                                                                                                                                functions_arguments_Arguments_next(stack, l11 + 32ull, l11 + 96ull, l8);
+                                                                                                                                                                                const u32 t159 = load32(l11 + 36u);
+                                                                                                                                                                                l34 = t159;
+                                                                                                                                                                                const u32 t160 = load32(l11 + 32u);
+                                                                                                                                                                                l32 = t160;
+                                                                                                                                                                                u32 v161;
+                                                                                                                                                                                {
+                                                                                                                                                                                    const u32 t162 = load32(l8 + 40ull);
+                                                                                                                                                                                    l39 = t162;
+                                                                                                                                                                                    if (l39 >= 8u) {
+                                                                                                                                                                                        forms_work_Work_find_among_more(stack, l11 + 16ull, l8, l32, l34);
+                                                                                                                                                                                        const u32 t164 = load8(l11 + 16u);
+                                                                                                                                                                                        l34 = t164;
+                                                                                                                                                                                        const u32 t165 = load32(l11 + 20u);
+                                                                                                                                                                                        v161 = t165; goto L161;
+                                                                                                                                                                                    }
+                                                                                                                                                                                    {
+                                                                                                                                                                                        if (l39 == 0) goto L166;
+                                                                                                                                                                                        const u64 t167 = load32(l1 + 4ull);
+                                                                                                                                                                                        l13 = (u64)(l31 + l34);
+                                                                                                                                                                                        l10 = (u64)(l31 + l32);
+                                                                                                                                                                                        if (t167 != (l13 - l10)) goto L166;
+                                                                                                                                                                                        l15 = 17ull - (l10 << 3);
+                                                                                                                                                                                        l10 = (l13 ^ 18446744073709551615ull) + l10;
+                                                                                                                                                                                        l1 = l1 + (l13 << 3);
+                                                                                                                                                                                        L168:;
+                                                                                                                                                                                        {
+                                                                                                                                                                                            l10 = l10 + 1ull;
+                                                                                                                                                                                            if (l10 == 0) goto L108;
+                                                                                                                                                                                            l13 = l1 - 7ull;
+                                                                                                                                                                                            l14 = l1 + l15;
+                                                                                                                                                                                            l1 = l1 - 8ull;
+                                                                                                                                                                                            const u32 t169 = load8(l14);
+                                                                                                                                                                                            const u32 t170 = load8(l13);
+                                                                                                                                                                                            if (t169 == t170) goto L168;
+                                                                                                                                                                                        }
+                                                                                                                                                                                    }
+                                                                                                                                                                                    L166:;
+                                                                                                                                                                                    forms_work_Work_find_among_few(stack, l11 + 24ull, l8, l32, l34);
+                                                                                                                                                                                    const u32 t171 = load8(l11 + 24u);
+                                                                                                                                                                                    l34 = t171;
+                                                                                                                                                                                    const u32 t172 = load32(l11 + 28u);
+                                                                                                                                                                                    v161 = t172;
+                                                                                                                                                                                }
+                                                                                                                                                                                L161:;
+                                                                                                                                                                                l32 = v161;
+                                                                                                                                                                                if ((l34 & 255u) != 1u) goto L107;
+                                                                                                                                                                                goto L106;
                                                                                                                                                                             }
                                                                                                                                                                             L136:;
-                                                                                                                                                                            const u64 t141 = load64(l11 + 88u);
-                                                                                                                                                                            store64(l11 + 104u, t141);
-                                                                                                                                                                            const u64 t142 = load64(l11 + 80u);
-                                                                                                                                                                            store64(l11 + 96u, t142);
-                                                                                                                                                                            const u32 t143 = load8(l11 + 108u);
-                                                                                                                                                                            l30 = t143;
-                                                                                                                                                                            functions_arguments_Arguments_next(stack, l11 + 32ull, l11 + 96ull, l8);
-                                                                                                                                                                            const u32 t144 = load32(l11 + 36u);
-                                                                                                                                                                            l35 = t144;
-                                                                                                                                                                            const u32 t145 = load32(l11 + 32u);
-                                                                                                                                                                            l32 = t145;
-                                                                                                                                                                            u32 v146;
-                                                                                                                                                                            {
-                                                                                                                                                                                const u32 t147 = load32(l8 + 40ull);
-                                                                                                                                                                                l37 = t147;
-                                                                                                                                                                                if (l37 >= 8u) {
-                                                                                                                                                                                    forms_work_Work_find_among_more(stack, l11 + 16ull, l8, l32, l35);
-                                                                                                                                                                                    const u32 t149 = load8(l11 + 16u);
-                                                                                                                                                                                    l35 = t149;
-                                                                                                                                                                                    const u32 t150 = load32(l11 + 20u);
-                                                                                                                                                                                    v146 = t150; goto L146;
-                                                                                                                                                                                }
-                                                                                                                                                                                {
-                                                                                                                                                                                    if (l37 == 0) goto L151;
-                                                                                                                                                                                    const u64 t152 = load32(l10 + 4ull);
-                                                                                                                                                                                    l14 = (u64)(l31 + l35);
-                                                                                                                                                                                    l13 = (u64)(l31 + l32);
-                                                                                                                                                                                    if (t152 != (l14 - l13)) goto L151;
-                                                                                                                                                                                    l16 = 17ull - (l13 << 3);
-                                                                                                                                                                                    l13 = (l14 ^ 18446744073709551615ull) + l13;
-                                                                                                                                                                                    l10 = l10 + (l14 << 3);
-                                                                                                                                                                                    L153:;
-                                                                                                                                                                                    {
-                                                                                                                                                                                        l13 = l13 + 1ull;
-                                                                                                                                                                                        if (l13 == 0) goto L107;
-                                                                                                                                                                                        l14 = l10 - 7ull;
-                                                                                                                                                                                        l1 = l10 + l16;
-                                                                                                                                                                                        l10 = l10 - 8ull;
-                                                                                                                                                                                        const u32 t154 = load8(l1);
-                                                                                                                                                                                        const u32 t155 = load8(l14);
-                                                                                                                                                                                        if (t154 == t155) goto L153;
-                                                                                                                                                                                    }
-                                                                                                                                                                                }
-                                                                                                                                                                                L151:;
-                                                                                                                                                                                forms_work_Work_find_among_few(stack, l11 + 24ull, l8, l32, l35);
-                                                                                                                                                                                const u32 t156 = load8(l11 + 24u);
-                                                                                                                                                                                l35 = t156;
-                                                                                                                                                                                const u32 t157 = load32(l11 + 28u);
-                                                                                                                                                                                v146 = t157;
-                                                                                                                                                                            }
-                                                                                                                                                                            L146:;
-                                                                                                                                                                            l32 = v146;
-                                                                                                                                                                            if ((l35 & 255u) != 1u) goto L106;
+                                                                                                                                                                            functions_form_parts_call_segment(stack, l11 + 72ull, l8, l11 + 80ull);
                                                                                                                                                                             goto L105;
                                                                                                                                                                         }
                                                                                                                                                                         L135:;
-                                                                                                                                                                        functions_form_parts_call_segment(stack, l11 + 72ull, l8, l11 + 80ull);
-                                                                                                                                                                        goto L104;
+                                                                                                                                                                        functions_form_parts_call_character(stack, l11 + 72ull, l8, l11 + 80ull);
+                                                                                                                                                                        goto L105;
                                                                                                                                                                     }
                                                                                                                                                                     L134:;
-                                                                                                                                                                    functions_form_parts_call_character(stack, l11 + 72ull, l8, l11 + 80ull);
-                                                                                                                                                                    goto L104;
+                                                                                                                                                                    functions_form_parts_call_number(stack, l11 + 72ull, l8, l11 + 80ull);
+                                                                                                                                                                    goto L105;
                                                                                                                                                                 }
                                                                                                                                                                 L133:;
-                                                                                                                                                                functions_form_parts_call_number(stack, l11 + 72ull, l8, l11 + 80ull);
-                                                                                                                                                                goto L104;
+                                                                                                                                                                functions_form_parts_initial_part(stack, l11 + 72ull, l8, l11 + 80ull);
+                                                                                                                                                                goto L105;
                                                                                                                                                             }
                                                                                                                                                             L132:;
-                                                                                                                                                            functions_form_parts_initial_part(stack, l11 + 72ull, l8, l11 + 80ull);
-                                                                                                                                                            goto L104;
+                                                                                                                                                            functions_form_parts_call_restore(stack, l11 + 72ull, l8, l11 + 80ull);
+                                                                                                                                                            goto L105;
                                                                                                                                                         }
                                                                                                                                                         L131:;
-                                                                                                                                                        functions_form_parts_call_restore(stack, l11 + 72ull, l8, l11 + 80ull);
-                                                                                                                                                        goto L104;
+                                                                                                                                                        functions_comparing_equal(stack, l11 + 72ull, l8, l11 + 80ull);
+                                                                                                                                                        goto L105;
                                                                                                                                                     }
                                                                                                                                                     L130:;
-                                                                                                                                                    functions_comparing_equal(stack, l11 + 72ull, l8, l11 + 80ull);
-                                                                                                                                                    goto L104;
+                                                                                                                                                    functions_comparing_greater(stack, l11 + 72ull, l8, l11 + 80ull);
+                                                                                                                                                    goto L105;
                                                                                                                                                 }
                                                                                                                                                 L129:;
-                                                                                                                                                functions_comparing_greater(stack, l11 + 72ull, l8, l11 + 80ull);
-                                                                                                                                                goto L104;
+                                                                                                                                                functions_arithmetic_arithmetic(stack, l11 + 72ull, l8, l43, l11 + 80ull);
+                                                                                                                                                goto L105;
                                                                                                                                             }
                                                                                                                                             L128:;
-                                                                                                                                            functions_arithmetic_arithmetic(stack, l11 + 72ull, l8, l43, l11 + 80ull);
-                                                                                                                                            goto L104;
+                                                                                                                                            functions_bit_strings_union(stack, l11 + 72ull, l8, l11 + 80ull);
+                                                                                                                                            goto L105;
                                                                                                                                         }
                                                                                                                                         L127:;
-                                                                                                                                        functions_bit_strings_union(stack, l11 + 72ull, l8, l11 + 80ull);
-                                                                                                                                        goto L104;
+                                                                                                                                        functions_bit_strings_intersection(stack, l11 + 72ull, l8, l11 + 80ull);
+                                                                                                                                        goto L105;
                                                                                                                                     }
                                                                                                                                     L126:;
-                                                                                                                                    functions_bit_strings_intersection(stack, l11 + 72ull, l8, l11 + 80ull);
-                                                                                                                                    goto L104;
+                                                                                                                                    store64(l11 + 136u, 0ull);
+                                                                                                                                    const u64 t173 = load64(l11 + 80u);
+                                                                                                                                    store64(l11 + 120u, t173);
+                                                                                                                                    const u64 t174 = load64(l11 + 88u);
+                                                                                                                                    store64(l11 + 128u, t174);
+                                                                                                                                    store64(l11 + 108u, 0ull);
+                                                                                                                                    functions_arguments_Arguments_next(stack, l11 + 40ull, l11 + 120ull, l8);
+                                                                                                                                    const u32 t175 = load32(l11 + 40u);
+                                                                                                                                    l39 = t175;
+                                                                                                                                    const u32 t176 = load32(l11 + 44u);
+                                                                                                                                    l36 = t176;
+                                                                                                                                    l13 = (u64)(l36 + l31);
+                                                                                                                                    l10 = (u64)(l39 + l31) - l13;
+                                                                                                                                    l1 = (l1 + (l13 << 3)) - 8ull;
+                                                                                                                                    l32 = l36;
+                                                                                                                                    L177:;
+                                                                                                                                    {
+                                                                                                                                        {
+                                                                                                                                            l34 = l32;
+                                                                                                                                            if (l10 == 0) goto L178;
+                                                                                                                                            const u32 t179 = load8(l1);
+                                                                                                                                            if (t179) goto L178;
+                                                                                                                                            l10 = l10 + 1ull;
+                                                                                                                                            l32 = l34 - 1u;
+                                                                                                                                            l13 = l1 + 1ull;
+                                                                                                                                            l1 = l1 - 8ull;
+                                                                                                                                            const u32 t180 = load8(l13);
+                                                                                                                                            if ((t180 & 248u) == 48u) goto L177;
+                                                                                                                                        }
+                                                                                                                                        L178:;
+                                                                                                                                    }
+                                                                                                                                    store32(l11 + 104u, l36);
+                                                                                                                                    store32(l11 + 100u, l34);
+                                                                                                                                    store32(l11 + 96u, 2u);
+                                                                                                                                    functions_bit_strings_give_bits(stack, l11 + 136ull, l8, l39, l34, l11 + 96ull);
+                                                                                                                                    const u32 t181 = load16(l11 + 136u);
+                                                                                                                                    store16(l11 + 72u, (u16)t181);
+                                                                                                                                    const u32 t182 = load32(l11 + 140u);
+                                                                                                                                    store32(l11 + 76u, t182);
+                                                                                                                                    goto L105;
                                                                                                                                 }
                                                                                                                                 L125:;
-                                                                                                                                store64(l11 + 136u, 0ull);
-                                                                                                                                const u64 t158 = load64(l11 + 80u);
-                                                                                                                                store64(l11 + 120u, t158);
-                                                                                                                                const u64 t159 = load64(l11 + 88u);
-                                                                                                                                store64(l11 + 128u, t159);
-                                                                                                                                store64(l11 + 108u, 0ull);
-                                                                                                                                functions_arguments_Arguments_next(stack, l11 + 40ull, l11 + 120ull, l8);
-                                                                                                                                const u32 t160 = load32(l11 + 40u);
-                                                                                                                                l37 = t160;
-                                                                                                                                const u32 t161 = load32(l11 + 44u);
-                                                                                                                                l30 = t161;
-                                                                                                                                l14 = (u64)(l30 + l31);
-                                                                                                                                l13 = (u64)(l37 + l31) - l14;
-                                                                                                                                l10 = (l10 + (l14 << 3)) - 8ull;
-                                                                                                                                l32 = l30;
-                                                                                                                                L162:;
-                                                                                                                                {
-                                                                                                                                    {
-                                                                                                                                        l35 = l32;
-                                                                                                                                        if (l13 == 0) goto L163;
-                                                                                                                                        const u32 t164 = load8(l10);
-                                                                                                                                        if (t164) goto L163;
-                                                                                                                                        l13 = l13 + 1ull;
-                                                                                                                                        l32 = l35 - 1u;
-                                                                                                                                        l14 = l10 + 1ull;
-                                                                                                                                        l10 = l10 - 8ull;
-                                                                                                                                        const u32 t165 = load8(l14);
-                                                                                                                                        if ((t165 & 248u) == 48u) goto L162;
-                                                                                                                                    }
-                                                                                                                                    L163:;
-                                                                                                                                }
-                                                                                                                                store32(l11 + 104u, l30);
-                                                                                                                                store32(l11 + 100u, l35);
-                                                                                                                                store32(l11 + 96u, 2u);
-                                                                                                                                functions_bit_strings_give_bits(stack, l11 + 136ull, l8, l37, l35, l11 + 96ull);
-                                                                                                                                const u32 t166 = load16(l11 + 136u);
-                                                                                                                                store16(l11 + 72u, (u16)t166);
-                                                                                                                                const u32 t167 = load32(l11 + 140u);
-                                                                                                                                store32(l11 + 76u, t167);
-                                                                                                                                goto L104;
+                                                                                                                                functions_bit_strings_shift(stack, l11 + 72ull, l8, l11 + 80ull);
+                                                                                                                                goto L105;
                                                                                                                             }
                                                                                                                             L124:;
-                                                                                                                            functions_bit_strings_shift(stack, l11 + 72ull, l8, l11 + 80ull);
-                                                                                                                            goto L104;
+                                                                                                                            functions_bit_strings_rotate(stack, l11 + 72ull, l8, l11 + 80ull);
+                                                                                                                            goto L105;
                                                                                                                         }
                                                                                                                         L123:;
-                                                                                                                        functions_bit_strings_rotate(stack, l11 + 72ull, l8, l11 + 80ull);
-                                                                                                                        goto L104;
+                                                                                                                        functions_form_calls_define_string(stack, l11 + 72ull, l8, l11 + 80ull);
+                                                                                                                        goto L105;
                                                                                                                     }
-                                                                                                                    L122:;
-                                                                                                                    functions_form_calls_define_string(stack, l11 + 72ull, l8, l11 + 80ull);
-                                                                                                                    goto L104;
+                                                                                                                    L110:;
+                                                                                                                    store32(l17 + 11u, 0u);
+                                                                                                                    store8(l17 + 10u, (u8)l43);
+                                                                                                                    store8(l17 + 9u, (u8)l34);
+                                                                                                                    store8(l17 + 8u, (u8)1u);
+                                                                                                                    store8(l17 + 15u, (u8)0u);
+                                                                                                                    store32(l17 + 36u, 0u);
+                                                                                                                    store32(l17 + 32u, l35);
+                                                                                                                    store32(l17 + 20u, 0u);
+                                                                                                                    const u32 t183 = load32(l11 + 60u);
+                                                                                                                    store32(l17 + 16u, t183);
+                                                                                                                    l1 = l21 - l18;
+                                                                                                                    store64(l17, l1);
+                                                                                                                    store64(l17 + 24u, l1 + l23);
+                                                                                                                    goto L16;
                                                                                                                 }
                                                                                                                 L109:;
-                                                                                                                store32(l19 + 11u, 0u);
-                                                                                                                store8(l19 + 10u, (u8)l43);
-                                                                                                                store8(l19 + 9u, (u8)l35);
-                                                                                                                store8(l19 + 8u, (u8)1u);
-                                                                                                                store8(l19 + 15u, (u8)0u);
-                                                                                                                store32(l19 + 36u, 0u);
-                                                                                                                store32(l19 + 32u, l42);
-                                                                                                                store32(l19 + 20u, 0u);
-                                                                                                                const u32 t168 = load32(l11 + 60u);
-                                                                                                                store32(l19 + 16u, t168);
-                                                                                                                l10 = l20 - l15;
-                                                                                                                store64(l19, l10);
-                                                                                                                store64(l19 + 24u, l10 + l18);
-                                                                                                                goto L12;
+                                                                                                                l10 = l21 - l18;
+                                                                                                                l1 = l10 + l23;
+                                                                                                                l31 = 0u;
+                                                                                                                goto L104;
                                                                                                             }
                                                                                                             L108:;
-                                                                                                            l13 = l20 - l15;
-                                                                                                            l10 = l13 + l18;
-                                                                                                            l31 = 0u;
-                                                                                                            goto L103;
+                                                                                                            store64(l8 + 44ull, 0ull);
+                                                                                                            l32 = 0u;
+                                                                                                            goto L106;
                                                                                                         }
                                                                                                         L107:;
-                                                                                                        store64(l8 + 44ull, 0ull);
-                                                                                                        l32 = 0u;
+                                                                                                        store32(l11 + 76u, 0u);
+                                                                                                        store16(l11 + 72u, (u16)1u);
                                                                                                         goto L105;
                                                                                                     }
                                                                                                     L106:;
-                                                                                                    store32(l11 + 76u, 0u);
-                                                                                                    store16(l11 + 72u, (u16)1u);
-                                                                                                    goto L104;
-                                                                                                }
-                                                                                                L105:;
-                                                                                                const u32 t169 = load32(l11 + 100u);
-                                                                                                l35 = t169;
-                                                                                                const u32 t170 = load32(l11 + 96u);
-                                                                                                l37 = t170;
-                                                                                                {
+                                                                                                    const u32 t184 = load32(l11 + 100u);
+                                                                                                    l34 = t184;
+                                                                                                    const u32 t185 = load32(l11 + 96u);
+                                                                                                    l39 = t185;
                                                                                                     {
                                                                                                         {
                                                                                                             {
                                                                                                                 {
-                                                                                                                    if ((l30 & 1u) == 0) goto L175;
-                                                                                                                    if (l35 >= l37) goto L175;
-                                                                                                                    const u32 t176 = forms_work_Work_place_of(stack, l8, l32);
-                                                                                                                    l36 = t176;
-                                                                                                                    const u64 t177 = load64(l8);
-                                                                                                                    l14 = t177;
-                                                                                                                    l10 = l14 + ((u64)l36 << 3);
-                                                                                                                    const u32 t178 = load32(l10 + 12ull);
-                                                                                                                    l41 = t178;
-                                                                                                                    const u32 t179 = load32(l10 + 20ull);
-                                                                                                                    l39 = t179;
-                                                                                                                    l30 = l41 - l39;
-                                                                                                                    if (l30 == 0) {
-                                                                                                                        l30 = 0u;
-                                                                                                                        goto L171;
-                                                                                                                    }
-                                                                                                                    const u32 t181 = load32(l10 + 4ull);
-                                                                                                                    l43 = (l36 + t181) + 3u;
-                                                                                                                    l36 = l39 + l43;
                                                                                                                     {
-                                                                                                                        const u32 t183 = load32(l8 + 28ull);
-                                                                                                                        l39 = t183;
-                                                                                                                        const u32 t184 = load32(l8 + 20ull);
-                                                                                                                        const u32 t185 = load32(l8 + 24ull);
-                                                                                                                        l45 = t185;
-                                                                                                                        const u32 t186 = load32(l8 + 16ull);
-                                                                                                                        if (l30 <= (l39 - (t184 + (l45 + t186)))) {
-                                                                                                                            l1 = (u64)l30;
-                                                                                                                            l16 = (u64)l36;
-                                                                                                                            {
-                                                                                                                                {
-                                                                                                                                    if (l30 >= 8u) {
-                                                                                                                                        if (l30 == 8u) goto L188;
-                                                                                                                                        l10 = l14 + (l16 << 3);
-                                                                                                                                        l13 = l1;
-                                                                                                                                        goto L189;
-                                                                                                                                    }
-                                                                                                                                    if (l30 >= 4u) {
-                                                                                                                                        l10 = l14 + (l16 << 3);
-                                                                                                                                        const u32 t192 = load8(l10 + 24ull);
-                                                                                                                                        const u32 t193 = load8(l10 + 16ull);
-                                                                                                                                        const u32 t194 = load8(l10 + 8ull);
-                                                                                                                                        const u32 t195 = load8(l10);
-                                                                                                                                        if (((t192 + t193) | (t194 + t195)) & 255u) goto L175;
-                                                                                                                                        l13 = l1 + l16;
-                                                                                                                                        l10 = l14 + (l13 << 3);
-                                                                                                                                        const u32 t196 = load8(l10 - 8ull);
-                                                                                                                                        const u32 t197 = load8(l10 - 16ull);
-                                                                                                                                        const u32 t198 = load8(l10 - 24ull);
-                                                                                                                                        const u32 t199 = load8(l10 - 32ull);
-                                                                                                                                        if (((t196 + t197) | (t198 + t199)) & 255u) goto L175;
-                                                                                                                                        l35 = l30 + l45;
-                                                                                                                                        l10 = (u64)(l39 - l35);
-                                                                                                                                        core_slice_edits_slice_T_copy_from_slice(stack, l14 + (l10 << 3), l14 + (l16 << 3), 4ull);
-                                                                                                                                        const u64 t200 = l10 - l16;
-                                                                                                                                        l10 = l13 - 4ull;
-                                                                                                                                        core_slice_edits_slice_T_copy_from_slice(stack, l14 + ((t200 + l10) << 3), l14 + (l10 << 3), 4ull);
-                                                                                                                                        goto L172;
-                                                                                                                                    }
-                                                                                                                                    l10 = l14 + (l16 << 3);
-                                                                                                                                    const u32 t201 = load8(l10);
-                                                                                                                                    l36 = t201;
-                                                                                                                                    if (l30 == 1u) goto L182;
-                                                                                                                                    const u32 t202 = load8(l10 + 8ull);
-                                                                                                                                    if (t202 | (l36 & 255u)) goto L175;
-                                                                                                                                    l13 = l1 + l16;
-                                                                                                                                    l10 = l14 + (l13 << 3);
-                                                                                                                                    const u32 t203 = load8(l10 - 8ull);
-                                                                                                                                    const u32 t204 = load8(l10 - 16ull);
-                                                                                                                                    if (t203 | t204) goto L175;
-                                                                                                                                    l35 = l30 + l45;
-                                                                                                                                    l10 = (u64)(l39 - l35);
-                                                                                                                                    core_slice_edits_slice_T_copy_from_slice(stack, l14 + (l10 << 3), l14 + (l16 << 3), 2ull);
-                                                                                                                                    const u64 t205 = l10 - l16;
-                                                                                                                                    l10 = l13 - 2ull;
-                                                                                                                                    core_slice_edits_slice_T_copy_from_slice(stack, l14 + ((t205 + l10) << 3), l14 + (l10 << 3), 2ull);
-                                                                                                                                    goto L172;
-                                                                                                                                }
-                                                                                                                                L189:;
-                                                                                                                                L206:;
-                                                                                                                                {
-                                                                                                                                    const u32 t207 = load8(l10 + 56ull);
-                                                                                                                                    const u32 t208 = load8(l10 + 48ull);
-                                                                                                                                    const u32 t209 = load8(l10 + 40ull);
-                                                                                                                                    const u32 t210 = load8(l10 + 32ull);
-                                                                                                                                    const u32 t211 = load8(l10 + 24ull);
-                                                                                                                                    const u32 t212 = load8(l10 + 16ull);
-                                                                                                                                    const u32 t213 = load8(l10 + 8ull);
-                                                                                                                                    const u32 t214 = load8(l10);
-                                                                                                                                    if (t207 | ((t208 + (t209 + (t210 + (t211 + (t212 + (t213 + t214)))))) & 255u)) goto L175;
-                                                                                                                                    l10 = l10 + 64ull;
-                                                                                                                                    l13 = l13 - 8ull;
-                                                                                                                                    if (l13 >= 9ull) goto L206;
-                                                                                                                                }
-                                                                                                                            }
-                                                                                                                            L188:;
-                                                                                                                            l13 = l1 + l16;
-                                                                                                                            l10 = l14 + (l13 << 3);
-                                                                                                                            const u32 t215 = load8(l10 - 56ull);
-                                                                                                                            const u32 t216 = load8(l10 - 64ull);
-                                                                                                                            const u32 t217 = load8(l10 - 48ull);
-                                                                                                                            const u32 t218 = load8(l10 - 40ull);
-                                                                                                                            const u32 t219 = load8(l10 - 32ull);
-                                                                                                                            const u32 t220 = load8(l10 - 24ull);
-                                                                                                                            const u32 t221 = load8(l10 - 16ull);
-                                                                                                                            const u32 t222 = load8(l10 - 8ull);
-                                                                                                                            if ((((((((t215 + t216) + t217) + t218) + t219) + t220) + t221) & 255u) | t222) goto L175;
-                                                                                                                            l35 = l30 + l45;
-                                                                                                                            l23 = (u64)(l39 - l35);
-                                                                                                                            if (l30 > 24u) goto L174;
-                                                                                                                            if (l30 != 8u) {
-                                                                                                                                l25 = l14 - 64ull;
-                                                                                                                                l10 = l25 + (l13 << 3);
-                                                                                                                                l13 = l25 + ((l1 + l23) << 3);
-                                                                                                                                L224:;
-                                                                                                                                {
-                                                                                                                                    core_slice_edits_slice_T_copy_from_slice(stack, l13, l10, 8ull);
-                                                                                                                                    l10 = l10 - 64ull;
-                                                                                                                                    l13 = l13 - 64ull;
-                                                                                                                                    l1 = l1 - 8ull;
-                                                                                                                                    if (l1 > 8ull) goto L224;
-                                                                                                                                }
-                                                                                                                            }
-                                                                                                                            core_slice_edits_slice_T_copy_from_slice(stack, l14 + (l23 << 3), l14 + (l16 << 3), 8ull);
-                                                                                                                            store32(l8 + 24ull, l35);
-                                                                                                                            goto L171;
+                                                                                                                        if ((l36 & 1u) == 0) goto L190;
+                                                                                                                        if (l34 >= l39) goto L190;
+                                                                                                                        const u32 t191 = forms_work_Work_place_of(stack, l8, l32);
+                                                                                                                        l38 = t191;
+                                                                                                                        const u64 t192 = load64(l8);
+                                                                                                                        l13 = t192;
+                                                                                                                        l1 = l13 + ((u64)l38 << 3);
+                                                                                                                        const u32 t193 = load32(l1 + 12ull);
+                                                                                                                        l45 = t193;
+                                                                                                                        const u32 t194 = load32(l1 + 20ull);
+                                                                                                                        l41 = t194;
+                                                                                                                        l36 = l45 - l41;
+                                                                                                                        if (l36 == 0) {
+                                                                                                                            l36 = 0u;
+                                                                                                                            goto L186;
                                                                                                                         }
-                                                                                                                        store_item_copies_load_items_over_spare(stack, l11 + 8ull, l8, l36, l41 + l43);
-                                                                                                                        const u32 t225 = load8(l11 + 8u);
-                                                                                                                        if (t225 != 1u) goto L175;
-                                                                                                                        const u32 t226 = load32(l11 + 12u);
-                                                                                                                        l30 = t226;
-                                                                                                                        goto L171;
+                                                                                                                        const u32 t196 = load32(l1 + 4ull);
+                                                                                                                        l43 = (l38 + t196) + 3u;
+                                                                                                                        l38 = l41 + l43;
+                                                                                                                        {
+                                                                                                                            const u32 t198 = load32(l8 + 28ull);
+                                                                                                                            l41 = t198;
+                                                                                                                            const u32 t199 = load32(l8 + 20ull);
+                                                                                                                            const u32 t200 = load32(l8 + 24ull);
+                                                                                                                            l46 = t200;
+                                                                                                                            const u32 t201 = load32(l8 + 16ull);
+                                                                                                                            if (l36 <= (l41 - (t199 + (l46 + t201)))) {
+                                                                                                                                l14 = (u64)l36;
+                                                                                                                                l15 = (u64)l38;
+                                                                                                                                {
+                                                                                                                                    {
+                                                                                                                                        if (l36 >= 8u) {
+                                                                                                                                            if (l36 == 8u) goto L203;
+                                                                                                                                            l1 = l13 + (l15 << 3);
+                                                                                                                                            l10 = l14;
+                                                                                                                                            goto L204;
+                                                                                                                                        }
+                                                                                                                                        if (l36 >= 4u) {
+                                                                                                                                            l1 = l13 + (l15 << 3);
+                                                                                                                                            const u32 t207 = load8(l1 + 24ull);
+                                                                                                                                            const u32 t208 = load8(l1 + 16ull);
+                                                                                                                                            const u32 t209 = load8(l1 + 8ull);
+                                                                                                                                            const u32 t210 = load8(l1);
+                                                                                                                                            if (((t207 + t208) | (t209 + t210)) & 255u) goto L190;
+                                                                                                                                            l10 = l14 + l15;
+                                                                                                                                            l1 = l13 + (l10 << 3);
+                                                                                                                                            const u32 t211 = load8(l1 - 8ull);
+                                                                                                                                            const u32 t212 = load8(l1 - 16ull);
+                                                                                                                                            const u32 t213 = load8(l1 - 24ull);
+                                                                                                                                            const u32 t214 = load8(l1 - 32ull);
+                                                                                                                                            if (((t211 + t212) | (t213 + t214)) & 255u) goto L190;
+                                                                                                                                            l34 = l36 + l46;
+                                                                                                                                            l1 = (u64)(l41 - l34);
+                                                                                                                                            core_slice_edits_slice_T_copy_from_slice(stack, l13 + (l1 << 3), l13 + (l15 << 3), 4ull);
+                                                                                                                                            const u64 t215 = l1 - l15;
+                                                                                                                                            l1 = l10 - 4ull;
+                                                                                                                                            core_slice_edits_slice_T_copy_from_slice(stack, l13 + ((t215 + l1) << 3), l13 + (l1 << 3), 4ull);
+                                                                                                                                            goto L187;
+                                                                                                                                        }
+                                                                                                                                        l1 = l13 + (l15 << 3);
+                                                                                                                                        const u32 t216 = load8(l1);
+                                                                                                                                        l38 = t216;
+                                                                                                                                        if (l36 == 1u) goto L197;
+                                                                                                                                        const u32 t217 = load8(l1 + 8ull);
+                                                                                                                                        if (t217 | (l38 & 255u)) goto L190;
+                                                                                                                                        l10 = l14 + l15;
+                                                                                                                                        l1 = l13 + (l10 << 3);
+                                                                                                                                        const u32 t218 = load8(l1 - 8ull);
+                                                                                                                                        const u32 t219 = load8(l1 - 16ull);
+                                                                                                                                        if (t218 | t219) goto L190;
+                                                                                                                                        l34 = l36 + l46;
+                                                                                                                                        l1 = (u64)(l41 - l34);
+                                                                                                                                        core_slice_edits_slice_T_copy_from_slice(stack, l13 + (l1 << 3), l13 + (l15 << 3), 2ull);
+                                                                                                                                        const u64 t220 = l1 - l15;
+                                                                                                                                        l1 = l10 - 2ull;
+                                                                                                                                        core_slice_edits_slice_T_copy_from_slice(stack, l13 + ((t220 + l1) << 3), l13 + (l1 << 3), 2ull);
+                                                                                                                                        goto L187;
+                                                                                                                                    }
+                                                                                                                                    L204:;
+                                                                                                                                    L221:;
+                                                                                                                                    {
+                                                                                                                                        const u32 t222 = load8(l1 + 56ull);
+                                                                                                                                        const u32 t223 = load8(l1 + 48ull);
+                                                                                                                                        const u32 t224 = load8(l1 + 40ull);
+                                                                                                                                        const u32 t225 = load8(l1 + 32ull);
+                                                                                                                                        const u32 t226 = load8(l1 + 24ull);
+                                                                                                                                        const u32 t227 = load8(l1 + 16ull);
+                                                                                                                                        const u32 t228 = load8(l1 + 8ull);
+                                                                                                                                        const u32 t229 = load8(l1);
+                                                                                                                                        if (t222 | ((t223 + (t224 + (t225 + (t226 + (t227 + (t228 + t229)))))) & 255u)) goto L190;
+                                                                                                                                        l1 = l1 + 64ull;
+                                                                                                                                        l10 = l10 - 8ull;
+                                                                                                                                        if (l10 >= 9ull) goto L221;
+                                                                                                                                    }
+                                                                                                                                }
+                                                                                                                                L203:;
+                                                                                                                                l10 = l14 + l15;
+                                                                                                                                l1 = l13 + (l10 << 3);
+                                                                                                                                const u32 t230 = load8(l1 - 56ull);
+                                                                                                                                const u32 t231 = load8(l1 - 64ull);
+                                                                                                                                const u32 t232 = load8(l1 - 48ull);
+                                                                                                                                const u32 t233 = load8(l1 - 40ull);
+                                                                                                                                const u32 t234 = load8(l1 - 32ull);
+                                                                                                                                const u32 t235 = load8(l1 - 24ull);
+                                                                                                                                const u32 t236 = load8(l1 - 16ull);
+                                                                                                                                const u32 t237 = load8(l1 - 8ull);
+                                                                                                                                if ((((((((t230 + t231) + t232) + t233) + t234) + t235) + t236) & 255u) | t237) goto L190;
+                                                                                                                                l34 = l36 + l46;
+                                                                                                                                l19 = (u64)(l41 - l34);
+                                                                                                                                if (l36 > 24u) goto L189;
+                                                                                                                                if (l36 != 8u) {
+                                                                                                                                    l20 = l13 - 64ull;
+                                                                                                                                    l1 = l20 + (l10 << 3);
+                                                                                                                                    l10 = l20 + ((l14 + l19) << 3);
+                                                                                                                                    L239:;
+                                                                                                                                    {
+                                                                                                                                        core_slice_edits_slice_T_copy_from_slice(stack, l10, l1, 8ull);
+                                                                                                                                        l1 = l1 - 64ull;
+                                                                                                                                        l10 = l10 - 64ull;
+                                                                                                                                        l14 = l14 - 8ull;
+                                                                                                                                        if (l14 > 8ull) goto L239;
+                                                                                                                                    }
+                                                                                                                                }
+                                                                                                                                core_slice_edits_slice_T_copy_from_slice(stack, l13 + (l19 << 3), l13 + (l15 << 3), 8ull);
+                                                                                                                                store32(l8 + 24ull, l34);
+                                                                                                                                goto L186;
+                                                                                                                            }
+                                                                                                                            store_item_copies_load_items_over_spare(stack, l11 + 8ull, l8, l38, l43 + l45);
+                                                                                                                            const u32 t240 = load8(l11 + 8u);
+                                                                                                                            if (t240 != 1u) goto L190;
+                                                                                                                            const u32 t241 = load32(l11 + 12u);
+                                                                                                                            l36 = t241;
+                                                                                                                            goto L186;
+                                                                                                                        }
+                                                                                                                        L197:;
+                                                                                                                        if ((l38 & 255u) == 0) goto L188;
                                                                                                                     }
-                                                                                                                    L182:;
-                                                                                                                    if ((l36 & 255u) == 0) goto L173;
+                                                                                                                    L190:;
+                                                                                                                    const u32 t242 = forms_work_Work_fill_body(stack, l8, l32, l39, l34);
+                                                                                                                    l34 = t242;
+                                                                                                                    store32(l11 + 76u, 0u);
+                                                                                                                    store8(l11 + 73u, (u8)0u);
+                                                                                                                    store8(l11 + 72u, (u8)l34);
+                                                                                                                    goto L105;
                                                                                                                 }
-                                                                                                                L175:;
-                                                                                                                const u32 t227 = forms_work_Work_fill_body(stack, l8, l32, l37, l35);
-                                                                                                                l35 = t227;
-                                                                                                                store32(l11 + 76u, 0u);
-                                                                                                                store8(l11 + 73u, (u8)0u);
-                                                                                                                store8(l11 + 72u, (u8)l35);
-                                                                                                                goto L104;
+                                                                                                                L189:;
+                                                                                                                space_copies_copy_long(stack, l13, l15, l10, l19);
+                                                                                                                goto L187;
                                                                                                             }
-                                                                                                            L174:;
-                                                                                                            space_copies_copy_long(stack, l14, l16, l13, l23);
-                                                                                                            goto L172;
+                                                                                                            L188:;
+                                                                                                            l34 = l36 + l46;
+                                                                                                            l1 = l13 + ((u64)(l41 - l34) << 3);
+                                                                                                            l10 = l13 + (l15 << 3);
+                                                                                                            const u32 t243 = load16(l10);
+                                                                                                            store16(l1, (u16)t243);
+                                                                                                            const u32 t244 = load32(l10 + 4ull);
+                                                                                                            store32(l1 + 4ull, t244);
                                                                                                         }
-                                                                                                        L173:;
-                                                                                                        l35 = l30 + l45;
-                                                                                                        l10 = l14 + ((u64)(l39 - l35) << 3);
-                                                                                                        l13 = l14 + (l16 << 3);
-                                                                                                        const u32 t228 = load16(l13);
-                                                                                                        store16(l10, (u16)t228);
-                                                                                                        const u32 t229 = load32(l13 + 4ull);
-                                                                                                        store32(l10 + 4ull, t229);
+                                                                                                        L187:;
+                                                                                                        store32(l8 + 24ull, l34);
                                                                                                     }
-                                                                                                    L172:;
-                                                                                                    store32(l8 + 24ull, l35);
+                                                                                                    L186:;
+                                                                                                    store32(l11 + 76u, l36);
+                                                                                                    store16(l11 + 72u, (u16)2u);
                                                                                                 }
-                                                                                                L171:;
-                                                                                                store32(l11 + 76u, l30);
-                                                                                                store16(l11 + 72u, (u16)2u);
+                                                                                                L105:;
+                                                                                                const u32 t245 = load32(l11 + 76u);
+                                                                                                l32 = t245;
+                                                                                                {
+                                                                                                    const u64 t247 = load8(l11 + 72u);
+                                                                                                    switch ((u32)t247 - 1u) {
+                                                                                                    case 0: goto L103;
+                                                                                                    case 1: goto L102;
+                                                                                                    case 2: goto L102;
+                                                                                                    case 3: goto L246;
+                                                                                                    default: goto L32;
+                                                                                                    }
+                                                                                                }
+                                                                                                L246:;
+                                                                                                const u32 t248 = load32(l8 + 24ull);
+                                                                                                const u32 t249 = load32(l8 + 20ull);
+                                                                                                const u32 t250 = load32(l8 + 16ull);
+                                                                                                l42 = t248 + (t249 + t250);
+                                                                                                l10 = l21 - l18;
+                                                                                                l1 = l10 + l23;
+                                                                                                const u32 t251 = load8(l11 + 73u);
+                                                                                                l31 = t251;
+                                                                                                l33 = 1u << (l31 & 31);
+                                                                                                if (l33 & 3u) goto L104;
+                                                                                                if (l33 & 12u) goto L31;
+                                                                                                l35 = (l35 < l42) ? l42 : l35;
+                                                                                                goto L31;
                                                                                             }
                                                                                             L104:;
-                                                                                            const u32 t230 = load32(l11 + 76u);
-                                                                                            l32 = t230;
-                                                                                            {
-                                                                                                const u64 t232 = load8(l11 + 72u);
-                                                                                                switch ((u32)t232 - 1u) {
-                                                                                                case 0: goto L102;
-                                                                                                case 1: goto L101;
-                                                                                                case 2: goto L101;
-                                                                                                case 3: goto L231;
-                                                                                                default: goto L31;
-                                                                                                }
-                                                                                            }
-                                                                                            L231:;
-                                                                                            const u32 t233 = load32(l8 + 24ull);
-                                                                                            const u32 t234 = load32(l8 + 20ull);
-                                                                                            const u32 t235 = load32(l8 + 16ull);
-                                                                                            l40 = t233 + (t234 + t235);
-                                                                                            l13 = l20 - l15;
-                                                                                            l10 = l13 + l18;
-                                                                                            const u32 t236 = load8(l11 + 73u);
-                                                                                            l31 = t236;
-                                                                                            l33 = 1u << (l31 & 31);
-                                                                                            if (l33 & 3u) goto L103;
-                                                                                            if (l33 & 12u) goto L30;
-                                                                                            l42 = (l40 > l42) ? l40 : l42;
-                                                                                            goto L30;
+                                                                                            l35 = (l35 < l42) ? l42 : l35;
+                                                                                            l1 = l1 + 1ull;
+                                                                                            goto L31;
                                                                                         }
                                                                                         L103:;
-                                                                                        l42 = (l40 > l42) ? l40 : l42;
-                                                                                        l10 = l10 + 1ull;
-                                                                                        goto L30;
+                                                                                        const u32 t252 = load32(l8 + 20ull);
+                                                                                        l37 = t252;
+                                                                                        core_delivery_deliver(stack, l8, l40, l44);
+                                                                                        v33 = l37 + (l31 + l33); goto L33;
                                                                                     }
                                                                                     L102:;
-                                                                                    const u32 t237 = load32(l8 + 20ull);
-                                                                                    l34 = t237;
-                                                                                    core_delivery_deliver(stack, l8, l38, l44);
-                                                                                    v32 = l34 + (l31 + l33); goto L32;
-                                                                                }
-                                                                                L101:;
-                                                                                const u64 t238 = load64(l8);
-                                                                                const u64 t239 = load32(l8 + 16ull);
-                                                                                l10 = t238 + (t239 << 3);
-                                                                                {
-                                                                                    const u32 t241 = load32(l8 + 32ull);
-                                                                                    l31 = t241;
-                                                                                    if (l34 == l31) {
-                                                                                        const u32 t243 = load32((l10 + ((u64)l38 << 3)) + 4ull);
-                                                                                        l31 = t243;
-                                                                                        l33 = l31 ? (l34 - l31) : 0u;
-                                                                                        goto L240;
-                                                                                    }
-                                                                                    if (l31 <= l38) {
-                                                                                        l33 = l31;
-                                                                                        goto L240;
-                                                                                    }
-                                                                                    L245:;
+                                                                                    const u64 t253 = load64(l8);
+                                                                                    const u64 t254 = load32(l8 + 16ull);
+                                                                                    l1 = t253 + (t254 << 3);
                                                                                     {
-                                                                                        const u32 t246 = load32((l10 + ((u64)(l31 - 1u) << 3)) + 4ull);
-                                                                                        l33 = t246;
-                                                                                        l31 = l31 - l33;
-                                                                                        l33 = l33 ? l31 : 0u;
-                                                                                        if (l33 > l38) goto L245;
+                                                                                        const u32 t256 = load32(l8 + 32ull);
+                                                                                        l31 = t256;
+                                                                                        if (l37 == l31) {
+                                                                                            const u32 t258 = load32((l1 + ((u64)l40 << 3)) + 4ull);
+                                                                                            l31 = t258;
+                                                                                            l33 = l31 ? (l37 - l31) : 0u;
+                                                                                            goto L255;
+                                                                                        }
+                                                                                        if (l31 <= l40) {
+                                                                                            l33 = l31;
+                                                                                            goto L255;
+                                                                                        }
+                                                                                        L260:;
+                                                                                        {
+                                                                                            const u32 t261 = load32((l1 + ((u64)(l31 - 1u) << 3)) + 4ull);
+                                                                                            l33 = t261;
+                                                                                            l31 = l31 - l33;
+                                                                                            l33 = l33 ? l31 : 0u;
+                                                                                            if (l33 > l40) goto L260;
+                                                                                        }
                                                                                     }
+                                                                                    L255:;
+                                                                                    store32(l8 + 20ull, l40);
+                                                                                    store32(l8 + 32ull, l33);
+                                                                                    v33 = l32 + l42;
                                                                                 }
-                                                                                L240:;
-                                                                                store32(l8 + 20ull, l38);
-                                                                                store32(l8 + 32ull, l33);
-                                                                                v32 = l32 + l40;
+                                                                                L33:;
+                                                                                l31 = v33;
+                                                                                store32(l11 + 56u, 0u);
+                                                                                const u32 t262 = load32(l8 + 20ull);
+                                                                                l33 = t262;
+                                                                                store32(l11 + 60u, l33);
+                                                                                const u32 t263 = load32(l8 + 24ull);
+                                                                                const u32 t264 = load32(l8 + 16ull);
+                                                                                l40 = t263 + (l33 + t264);
+                                                                                l35 = (l31 > l35) ? l31 : l35;
+                                                                                v25 = l18 - 1ull; goto L25;
                                                                             }
                                                                             L32:;
-                                                                            l31 = v32;
-                                                                            store32(l11 + 56u, 0u);
-                                                                            const u32 t247 = load32(l8 + 20ull);
-                                                                            l33 = t247;
-                                                                            store32(l11 + 60u, l33);
-                                                                            const u32 t248 = load32(l8 + 24ull);
-                                                                            const u32 t249 = load32(l8 + 16ull);
-                                                                            l38 = t248 + (l33 + t249);
-                                                                            l42 = (l31 > l42) ? l31 : l42;
-                                                                            v24 = l15 - 1ull; goto L24;
+                                                                            l10 = l21 - l18;
+                                                                            l1 = l10 + l23;
+                                                                            l31 = 2u;
                                                                         }
                                                                         L31:;
-                                                                        l13 = l20 - l15;
-                                                                        l10 = l13 + l18;
-                                                                        l31 = 2u;
+                                                                        const u32 t265 = load32(l8 + 20ull);
+                                                                        l33 = t265;
+                                                                        store8(l17 + 10u, (u8)0u);
+                                                                        store16(l17 + 8u, (u16)0u);
+                                                                        store64(l17, l10);
+                                                                        const u32 t266 = load32(l11 + 64u);
+                                                                        store32(l17 + 11u, t266);
+                                                                        const u32 t267 = load8(l11 + 68u);
+                                                                        store8(l17 + 15u, (u8)t267);
+                                                                        store16(l17 + 38u, (u16)0u);
+                                                                        store8(l17 + 37u, (u8)l31);
+                                                                        store8(l17 + 36u, (u8)1u);
+                                                                        store32(l17 + 32u, l35);
+                                                                        store64(l17 + 24u, l1);
+                                                                        store32(l17 + 20u, 0u);
+                                                                        store32(l17 + 16u, l33);
+                                                                        goto L16;
                                                                     }
                                                                     L30:;
-                                                                    const u32 t250 = load32(l8 + 20ull);
-                                                                    l33 = t250;
-                                                                    store8(l19 + 10u, (u8)0u);
-                                                                    store16(l19 + 8u, (u16)0u);
-                                                                    store64(l19, l13);
-                                                                    const u32 t251 = load32(l11 + 64u);
-                                                                    store32(l19 + 11u, t251);
-                                                                    const u32 t252 = load8(l11 + 68u);
-                                                                    store8(l19 + 15u, (u8)t252);
-                                                                    store16(l19 + 38u, (u16)0u);
-                                                                    store8(l19 + 37u, (u8)l31);
-                                                                    store8(l19 + 36u, (u8)1u);
-                                                                    store32(l19 + 32u, l42);
-                                                                    store64(l19 + 24u, l10);
-                                                                    store32(l19 + 20u, 0u);
-                                                                    store32(l19 + 16u, l33);
-                                                                    goto L12;
-                                                                }
-                                                                L29:;
-                                                                l16 = l8 + 24ull;
-                                                                store32(l16, l33 - 2u);
-                                                                l14 = l8 + 32ull;
-                                                                const u32 t253 = load32(l14);
-                                                                l31 = t253;
-                                                                l1 = l8 + 20ull;
-                                                                const u32 t254 = load32(l1);
-                                                                l33 = t254;
-                                                                l23 = l8 + 16ull;
-                                                                const u32 t255 = load32(l23);
-                                                                l10 = l10 + ((u64)(l33 + t255) << 3);
-                                                                store16(l10, (u16)1u);
-                                                                l33 = l33 + 1u;
-                                                                store32(l10 + 4ull, l31 ? (l33 - l31) : 0u);
-                                                                store32(l1, l33);
-                                                                store32(l14, l33);
-                                                                const u32 t256 = load32(l11 + 56u);
-                                                                if (t256 > 1u) goto L25;
-                                                                const u32 t257 = load32(l8 + 28ull);
-                                                                const u32 t258 = load32(l16);
-                                                                l31 = t258;
-                                                                l25 = (u64)(t257 - l31);
-                                                                const u32 t259 = load32(l23);
-                                                                l16 = (u64)(t259 + l33);
-                                                                const u64 t260 = load64(l8);
-                                                                l10 = t260;
-                                                                {
-                                                                    l13 = (u64)l31;
-                                                                    l14 = l15 - 1ull;
-                                                                    l1 = (l13 < l14) ? l13 : l14;
-                                                                    if (l1 >= 12ull) {
-                                                                        l16 = l10 + (l16 << 3);
-                                                                        l1 = (l10 + (l25 << 3)) + 1ull;
-                                                                        l10 = 0ull;
-                                                                        l13 = 0ull;
-                                                                        l23 = 0ull;
+                                                                    l15 = l8 + 24ull;
+                                                                    store32(l15, l33 - 2u);
+                                                                    l13 = l8 + 32ull;
+                                                                    const u32 t268 = load32(l13);
+                                                                    l31 = t268;
+                                                                    l14 = l8 + 20ull;
+                                                                    const u32 t269 = load32(l14);
+                                                                    l33 = t269;
+                                                                    l19 = l8 + 16ull;
+                                                                    const u32 t270 = load32(l19);
+                                                                    l1 = l1 + ((u64)(l33 + t270) << 3);
+                                                                    store16(l1, (u16)1u);
+                                                                    l33 = l33 + 1u;
+                                                                    store32(l1 + 4ull, l31 ? (l33 - l31) : 0u);
+                                                                    store32(l14, l33);
+                                                                    store32(l13, l33);
+                                                                    const u32 t271 = load32(l11 + 56u);
+                                                                    if (t271 > 1u) goto L26;
+                                                                    const u32 t272 = load32(l8 + 28ull);
+                                                                    const u32 t273 = load32(l15);
+                                                                    l31 = t273;
+                                                                    l20 = (u64)(t272 - l31);
+                                                                    const u32 t274 = load32(l19);
+                                                                    l15 = (u64)(t274 + l33);
+                                                                    const u64 t275 = load64(l8);
+                                                                    l1 = t275;
+                                                                    {
+                                                                        l10 = (u64)l31;
+                                                                        l13 = l18 - 1ull;
+                                                                        l14 = (l10 < l13) ? l10 : l13;
+                                                                        if (l14 >= 12ull) {
+                                                                            l15 = l1 + (l15 << 3);
+                                                                            l14 = (l1 + (l20 << 3)) + 1ull;
+                                                                            l1 = 0ull;
+                                                                            l10 = 0ull;
+                                                                            l19 = 0ull;
+                                                                            {
+                                                                                L279:;
+                                                                                {
+                                                                                    {
+                                                                                        const u32 t281 = load8(l10 + l14);
+                                                                                        l31 = t281;
+                                                                                        const u32 t282 = load8(((u64)l31 & 255ull) + TABLES + 513u);
+                                                                                        if (t282 == 0) {
+                                                                                            l13 = l10 + l15;
+                                                                                            store8(l13, (u8)0u);
+                                                                                            store32(l13 + 4ull, 0u);
+                                                                                            store8(l13 + 1ull, (u8)l31);
+                                                                                            goto L280;
+                                                                                        }
+                                                                                        if ((l31 & 255u) != 44u) goto L278;
+                                                                                        l13 = l10 + l15;
+                                                                                        store16(l13, (u16)2u);
+                                                                                        store32(l13 + 4ull, 0u);
+                                                                                        l19 = l1 + 1ull;
+                                                                                    }
+                                                                                    L280:;
+                                                                                    l1 = l1 + 1ull;
+                                                                                    l10 = l10 + 8ull;
+                                                                                    if (l10 != 96ull) goto L279;
+                                                                                }
+                                                                                l1 = 12ull;
+                                                                            }
+                                                                            L278:;
+                                                                            l10 = l8 + 24ull;
+                                                                            const u32 t284 = load32(l10);
+                                                                            l31 = (u32)l1;
+                                                                            store32(l10, t284 - l31);
+                                                                            l10 = l8 + 20ull;
+                                                                            const u32 t285 = load32(l10);
+                                                                            store32(l10, t285 + l31);
+                                                                            l31 = (u32)l19;
+                                                                            if (l31 == 0) goto L276;
+                                                                            store32(l11 + 60u, l31 + l33);
+                                                                            goto L276;
+                                                                        }
+                                                                        if (l14 == 0) {
+                                                                            l1 = 0ull;
+                                                                            goto L276;
+                                                                        }
+                                                                        l10 = l1 + (l15 << 3);
+                                                                        l13 = (l1 + (l20 << 3)) + 1ull;
+                                                                        l1 = 0ull;
+                                                                        l15 = 0ull;
                                                                         {
-                                                                            L264:;
+                                                                            L288:;
                                                                             {
                                                                                 {
-                                                                                    const u32 t266 = load8(l1 + l13);
-                                                                                    l31 = t266;
-                                                                                    const u32 t267 = load8(((u64)l31 & 255ull) + TABLES + 513u);
-                                                                                    if (t267 == 0) {
-                                                                                        l14 = l13 + l16;
-                                                                                        store8(l14, (u8)0u);
-                                                                                        store32(l14 + 4ull, 0u);
-                                                                                        store8(l14 + 1ull, (u8)l31);
-                                                                                        goto L265;
+                                                                                    const u32 t290 = load8(l13);
+                                                                                    l31 = t290;
+                                                                                    const u32 t291 = load8(((u64)l31 & 255ull) + TABLES + 513u);
+                                                                                    if (t291 == 0) {
+                                                                                        store8(l10, (u8)0u);
+                                                                                        store32(l10 + 4ull, 0u);
+                                                                                        store8(l10 + 1ull, (u8)l31);
+                                                                                        goto L289;
                                                                                     }
-                                                                                    if ((l31 & 255u) != 44u) goto L263;
-                                                                                    l14 = l13 + l16;
-                                                                                    store16(l14, (u16)2u);
-                                                                                    store32(l14 + 4ull, 0u);
-                                                                                    l23 = l10 + 1ull;
+                                                                                    if ((l31 & 255u) != 44u) goto L287;
+                                                                                    store16(l10, (u16)2u);
+                                                                                    store32(l10 + 4ull, 0u);
+                                                                                    l15 = l1 + 1ull;
                                                                                 }
-                                                                                L265:;
-                                                                                l10 = l10 + 1ull;
+                                                                                L289:;
                                                                                 l13 = l13 + 8ull;
-                                                                                if (l13 != 96ull) goto L264;
+                                                                                l10 = l10 + 8ull;
+                                                                                l1 = l1 + 1ull;
+                                                                                if (l14 != l1) goto L288;
                                                                             }
-                                                                            l10 = 12ull;
+                                                                            l1 = l14;
                                                                         }
-                                                                        L263:;
-                                                                        l13 = l8 + 24ull;
-                                                                        const u32 t269 = load32(l13);
-                                                                        l31 = (u32)l10;
-                                                                        store32(l13, t269 - l31);
-                                                                        l13 = l8 + 20ull;
-                                                                        const u32 t270 = load32(l13);
-                                                                        store32(l13, t270 + l31);
-                                                                        l31 = (u32)l23;
-                                                                        if (l31 == 0) goto L261;
+                                                                        L287:;
+                                                                        l10 = l8 + 24ull;
+                                                                        const u32 t293 = load32(l10);
+                                                                        l31 = (u32)l1;
+                                                                        store32(l10, t293 - l31);
+                                                                        l10 = l8 + 20ull;
+                                                                        const u32 t294 = load32(l10);
+                                                                        store32(l10, t294 + l31);
+                                                                        l31 = (u32)l15;
+                                                                        if (l31 == 0) goto L276;
                                                                         store32(l11 + 60u, l31 + l33);
-                                                                        goto L261;
                                                                     }
-                                                                    if (l1 == 0) {
-                                                                        l10 = 0ull;
-                                                                        goto L261;
-                                                                    }
-                                                                    l13 = l10 + (l16 << 3);
-                                                                    l14 = (l10 + (l25 << 3)) + 1ull;
-                                                                    l10 = 0ull;
-                                                                    l16 = 0ull;
-                                                                    {
-                                                                        L273:;
-                                                                        {
-                                                                            {
-                                                                                const u32 t275 = load8(l14);
-                                                                                l31 = t275;
-                                                                                const u32 t276 = load8(((u64)l31 & 255ull) + TABLES + 513u);
-                                                                                if (t276 == 0) {
-                                                                                    store8(l13, (u8)0u);
-                                                                                    store32(l13 + 4ull, 0u);
-                                                                                    store8(l13 + 1ull, (u8)l31);
-                                                                                    goto L274;
-                                                                                }
-                                                                                if ((l31 & 255u) != 44u) goto L272;
-                                                                                store16(l13, (u16)2u);
-                                                                                store32(l13 + 4ull, 0u);
-                                                                                l16 = l10 + 1ull;
-                                                                            }
-                                                                            L274:;
-                                                                            l14 = l14 + 8ull;
-                                                                            l13 = l13 + 8ull;
-                                                                            l10 = l10 + 1ull;
-                                                                            if (l1 != l10) goto L273;
-                                                                        }
-                                                                        l10 = l1;
-                                                                    }
-                                                                    L272:;
-                                                                    l13 = l8 + 24ull;
-                                                                    const u32 t278 = load32(l13);
-                                                                    l31 = (u32)l10;
-                                                                    store32(l13, t278 - l31);
-                                                                    l13 = l8 + 20ull;
-                                                                    const u32 t279 = load32(l13);
-                                                                    store32(l13, t279 + l31);
-                                                                    l31 = (u32)l16;
-                                                                    if (l31 == 0) goto L261;
-                                                                    store32(l11 + 60u, l31 + l33);
+                                                                    L276:;
+                                                                    l10 = (l1 & 4294967295ull) + 1ull;
+                                                                    goto L26;
                                                                 }
-                                                                L261:;
-                                                                l13 = (l10 & 4294967295ull) + 1ull;
-                                                                goto L25;
+                                                                L29:;
+                                                                const u32 t295 = load32(l11 + 56u);
+                                                                const u64 t296 = core_scan_begin_argument(stack, l8, l18, l11 + 60ull, t295 > 1u);
+                                                                l10 = t296;
+                                                                goto L26;
                                                             }
                                                             L28:;
-                                                            const u32 t280 = load32(l11 + 56u);
-                                                            const u64 t281 = core_scan_begin_argument(stack, l8, l15, l11 + 60ull, t280 > 1u);
-                                                            l13 = t281;
-                                                            goto L25;
+                                                            core_scan_protect(stack, l8);
+                                                            goto L26;
                                                         }
                                                         L27:;
-                                                        core_scan_protect(stack, l8);
-                                                        goto L25;
+                                                        l31 = 1u;
+                                                        l10 = (u64)l33;
+                                                        const u64 t297 = (u64)((l37 + (u32)(((l10 < l18) ? l10 : l18))));
+                                                        l10 = (u64)(l37 + 1u);
+                                                        l13 = t297 - l10;
+                                                        if ((l13 == 0) == 0) {
+                                                            l1 = (l1 + (l10 << 3)) + 1ull;
+                                                            l10 = 0ull;
+                                                            {
+                                                                L300:;
+                                                                {
+                                                                    const u32 t301 = load8(l1);
+                                                                    l31 = t301;
+                                                                    if (l31 > 13u) goto L299;
+                                                                    if (((1u << (l31 & 31)) & 9728u) == 0) goto L299;
+                                                                    l1 = l1 + 8ull;
+                                                                    l10 = l10 + 1ull;
+                                                                    if (l13 != l10) goto L300;
+                                                                }
+                                                                l10 = l13;
+                                                            }
+                                                            L299:;
+                                                            l31 = (u32)l10 + 1u;
+                                                        }
+                                                        store32(l8 + 24ull, l33 - l31);
+                                                        l10 = (u64)l31;
                                                     }
                                                     L26:;
-                                                    l31 = 1u;
-                                                    l13 = (u64)l33;
-                                                    const u64 t282 = (u64)((l34 + (u32)(((l13 < l15) ? l13 : l15))));
-                                                    l13 = (u64)(l34 + 1u);
-                                                    l14 = t282 - l13;
-                                                    if ((l14 == 0) == 0) {
-                                                        l10 = (l10 + (l13 << 3)) + 1ull;
-                                                        l13 = 0ull;
-                                                        {
-                                                            L285:;
-                                                            {
-                                                                const u32 t286 = load8(l10);
-                                                                l31 = t286;
-                                                                if (l31 > 13u) goto L284;
-                                                                if (((1u << (l31 & 31)) & 9728u) == 0) goto L284;
-                                                                l10 = l10 + 8ull;
-                                                                l13 = l13 + 1ull;
-                                                                if (l14 != l13) goto L285;
-                                                            }
-                                                            l13 = l14;
-                                                        }
-                                                        L284:;
-                                                        l31 = (u32)l13 + 1u;
-                                                    }
-                                                    store32(l8 + 24ull, l33 - l31);
-                                                    l13 = (u64)l31;
+                                                    l35 = (l35 < l40) ? l40 : l35;
+                                                    v25 = l18 - l10;
                                                 }
                                                 L25:;
-                                                l42 = (l38 > l42) ? l38 : l42;
-                                                v24 = l15 - l13;
+                                                l18 = v25;
+                                                if (l18 != 0ull) goto L22;
                                             }
-                                            L24:;
-                                            l15 = v24;
-                                            if (l15 != 0ull) goto L21;
+                                            const u32 t302 = load32(l11 + 60u);
+                                            l31 = t302;
                                         }
-                                        const u32 t287 = load32(l11 + 60u);
-                                        l31 = t287;
+                                        store32(l17 + 36u, 0u);
+                                        store32(l17 + 32u, l35);
+                                        store32(l17 + 20u, 0u);
+                                        store32(l17 + 16u, l31);
+                                        store64(l17 + 8u, 0ull);
+                                        store64(l17, l21);
+                                        store64(l17 + 24u, l21 + l23);
                                     }
-                                    store32(l19 + 36u, 0u);
-                                    store32(l19 + 32u, l42);
-                                    store32(l19 + 20u, 0u);
-                                    store32(l19 + 16u, l31);
-                                    store64(l19 + 8u, 0ull);
-                                    store64(l19, l20);
-                                    store64(l19 + 24u, l18 + l20);
+                                    L16:;
+                                    stack = l11 + 144ull;
                                     goto L12;
                                 }
                                 L13:;
                                 trap();
                             }
                             L12:;
-                            stack = l11 + 144ull;
-                            const u64 t288 = load64(l9 + 232u);
-                            store64(l2, t288);
-                            const u32 t289 = load32(l9 + 240u);
-                            store32(l12, t289);
-                            const u32 t290 = load8(l9 + 245u);
-                            store8(l8 + 85ull, (u8)t290);
-                            const u32 t291 = load8(l9 + 244u);
-                            l30 = t291;
-                            store8(l5, (u8)l30);
-                            const u32 t292 = load32(l9 + 224u);
-                            store32(l17, t292);
-                            const u32 t293 = load8(l9 + 217u);
-                            l34 = t293;
-                            const u64 t294 = load64(l9 + 208u);
-                            l12 = t294;
-                            const u32 t295 = load8(l9 + 216u);
-                            l32 = t295 == 1u;
+                            const u64 t303 = load64(l9 + 232u);
+                            store64(l2, t303);
+                            const u32 t304 = load32(l9 + 240u);
+                            store32(l12, t304);
+                            const u32 t305 = load8(l9 + 245u);
+                            store8(l8 + 85ull, (u8)t305);
+                            const u32 t306 = load8(l9 + 244u);
+                            l32 = t306;
+                            store8(l5, (u8)l32);
+                            const u32 t307 = load32(l9 + 224u);
+                            store32(l16, t307);
+                            const u32 t308 = load8(l9 + 217u);
+                            l33 = t308;
+                            const u32 t309 = load8(l9 + 216u);
+                            l31 = t309 == 1u;
+                            const u64 t310 = load64(l9 + 208u);
+                            l12 = t310;
                         }
                         l5 = 0ull;
                         l4 = l4 + l12;
                         if (l4 == l7) goto L3;
                         {
-                            u64 v297;
+                            u64 v312;
                             {
                                 if (l6 == 0) {
-                                    if (l32 == 0) goto L296;
+                                    if (l31 == 0) goto L311;
                                     {
-                                        l32 = l34 & 255u;
-                                        if ((l32 - 2u) < 23u) goto L299;
-                                        const u64 t300 = load64(l9 + 120u);
-                                        l12 = t300;
+                                        l31 = l33 & 255u;
+                                        if ((l31 - 2u) < 23u) goto L314;
+                                        const u64 t315 = load64(l9 + 120u);
+                                        l12 = t315;
                                         {
-                                            if (l32 != 1u) {
-                                                const u64 t303 = load64(l9 + 112u);
-                                                l5 = t303;
-                                                const u32 t304 = load8(l26);
-                                                store8(l9 + 208u, (u8)t304);
+                                            if (l31 != 1u) {
+                                                const u64 t318 = load64(l9 + 112u);
+                                                l5 = t318;
+                                                const u32 t319 = load8(l25);
+                                                store8(l9 + 208u, (u8)t319);
                                                 l2 = l12 - 64ull;
                                                 l2 = (l2 > l12) ? 0ull : l2;
-                                                const u32 t305 = core_slice_reads_slice_T_contains(stack, l5 + l2, l12 - l2, l9 + 208ull);
-                                                if (t305) goto L299;
-                                                const u32 t306 = core_slice_reads_slice_T_contains(stack, l5, l2, l9 + 208ull);
-                                                if (t306) goto L299;
-                                                const u32 t307 = load32(l8 + 24ull);
-                                                const u32 t308 = load32(l8 + 20ull);
-                                                const u32 t309 = load32(l8 + 16ull);
-                                                const u64 t310 = load32(l8 + 8ull);
-                                                if ((l12 + (u64)((t307 + (t308 + t309)))) > (t310 + 1ull)) goto L301;
-                                                l46 = 7u;
+                                                const u32 t320 = core_slice_reads_slice_T_contains(stack, l5 + l2, l12 - l2, l9 + 208ull);
+                                                if (t320) goto L314;
+                                                const u32 t321 = core_slice_reads_slice_T_contains(stack, l5, l2, l9 + 208ull);
+                                                if (t321) goto L314;
+                                                const u32 t322 = load32(l8 + 24ull);
+                                                const u32 t323 = load32(l8 + 20ull);
+                                                const u32 t324 = load32(l8 + 16ull);
+                                                const u64 t325 = load32(l8 + 8ull);
+                                                if ((l12 + (u64)((t322 + (t323 + t324)))) > (t325 + 1ull)) goto L316;
+                                                l47 = 7u;
                                                 goto L4;
                                             }
-                                            if ((l12 == 0) == 0) goto L301;
-                                            l46 = 7u;
+                                            if ((l12 == 0) == 0) goto L316;
+                                            l47 = 7u;
                                             goto L3;
                                         }
-                                        L301:;
-                                        const u64 t311 = load64(l9 + 80u);
-                                        const u64 t312 = load64(l9 + 88u);
-                                        v297 = t311 - t312; goto L297;
+                                        L316:;
+                                        const u64 t326 = load64(l9 + 80u);
+                                        const u64 t327 = load64(l9 + 88u);
+                                        v312 = t326 - t327; goto L312;
                                     }
-                                    L299:;
-                                    const u64 t313 = load64(l9 + 80u);
-                                    const u64 t314 = load64(l9 + 88u);
-                                    v297 = t313 - t314; goto L297;
+                                    L314:;
+                                    const u64 t328 = load64(l9 + 80u);
+                                    const u64 t329 = load64(l9 + 88u);
+                                    v312 = t328 - t329; goto L312;
                                 }
-                                if (l32 == 0) goto L296;
-                                const u64 t315 = load64(l9 + 80u);
-                                const u64 t316 = load64(l9 + 88u);
-                                v297 = t315 - t316;
+                                if (l31 == 0) goto L311;
+                                const u64 t330 = load64(l9 + 80u);
+                                const u64 t331 = load64(l9 + 88u);
+                                v312 = t330 - t331;
                             }
-                            L297:;
-                            l12 = v297;
-                            if ((1u << (l34 & 31)) & 33553399u) goto L296;
-                            const u32 t317 = load32(l8 + 24ull);
-                            l32 = t317;
-                            if (l32 == 0) goto L296;
-                            const u64 t318 = load64(l8);
-                            l5 = t318;
-                            const u32 t319 = load32(l8 + 28ull);
-                            const u32 t320 = load8((l5 + ((u64)(t319 - l32) << 3)) + 1ull);
-                            if (t320 != 41u) goto L296;
-                            const u32 t321 = load32(l8 + 32ull);
-                            l32 = t321;
-                            if (l32 == 0) goto L296;
-                            const u32 t322 = load32(l8 + 60ull);
-                            l39 = t322;
-                            const u32 t323 = load32(l8 + 20ull);
-                            l37 = t323;
-                            if (((l34 & 255u) != 10u) & ((u64)l37 <= l12)) goto L296;
-                            l30 = 0u;
+                            L312:;
+                            l12 = v312;
+                            if ((1u << (l33 & 31)) & 33553399u) goto L311;
+                            const u32 t332 = load32(l8 + 24ull);
+                            l31 = t332;
+                            if (l31 == 0) goto L311;
+                            const u64 t333 = load64(l8);
+                            l5 = t333;
+                            const u32 t334 = load32(l8 + 28ull);
+                            const u32 t335 = load8((l5 + ((u64)(t334 - l31) << 3)) + 1ull);
+                            if (t335 != 41u) goto L311;
+                            const u32 t336 = load32(l8 + 32ull);
+                            l31 = t336;
+                            if (l31 == 0) goto L311;
+                            const u32 t337 = load32(l8 + 60ull);
+                            l37 = t337;
+                            const u32 t338 = load32(l8 + 20ull);
+                            l36 = t338;
+                            if (((l33 & 255u) != 10u) & ((u64)l36 <= l12)) goto L311;
+                            l32 = 0u;
                             store8(l9 + 160u, (u8)0u);
                             store64(l9 + 152u, 0ull);
                             store64(l9 + 144u, 0ull);
-                            store32(l9 + 216u, l39);
-                            store32(l9 + 212u, l37);
-                            store32(l9 + 208u, l32);
+                            store32(l9 + 216u, l37);
+                            store32(l9 + 212u, l36);
+                            store32(l9 + 208u, l31);
                             store32(l9 + 220u, 0u);
                             functions_arguments_Arguments_next(stack, l9 + 64ull, l9 + 208ull, l8);
-                            const u32 t324 = load32(l8 + 16ull);
-                            l32 = t324;
-                            const u32 t325 = load32(l9 + 68u);
-                            l34 = t325;
-                            const u32 t326 = load32(l9 + 64u);
-                            l39 = t326;
+                            const u32 t339 = load32(l8 + 16ull);
+                            l31 = t339;
+                            const u32 t340 = load32(l9 + 68u);
+                            l33 = t340;
+                            const u32 t341 = load32(l9 + 64u);
+                            l37 = t341;
                             store8(l9 + 170u, (u8)0u);
                             store16(l9 + 168u, (u16)0u);
                             {
-                                l2 = (u64)(l32 + l39);
-                                if (((u64)(l32 + l34) - l2) == 2ull) {
+                                l2 = (u64)(l31 + l37);
+                                if (((u64)(l31 + l33) - l2) == 2ull) {
                                     l2 = l5 + (l2 << 3);
                                     functions_function_function_of(stack, l9 + 168ull, l2, l2 + 8ull);
-                                    const u32 t329 = load8(l9 + 169u);
-                                    l39 = t329;
-                                    const u32 t330 = load8(l9 + 168u);
-                                    l34 = t330;
-                                    const u64 t331 = load64(l9 + 216u);
-                                    store64(l24 + 8u, t331);
-                                    const u64 t332 = load64(l9 + 208u);
-                                    store64(l24, t332);
-                                    const u64 t333 = load64(l24);
-                                    store64(l9 + 264u, t333);
-                                    const u64 t334 = load64(l24 + 8u);
-                                    store64(l9 + 272u, t334);
+                                    const u32 t344 = load8(l9 + 169u);
+                                    l37 = t344;
+                                    const u32 t345 = load8(l9 + 168u);
+                                    l33 = t345;
+                                    const u64 t346 = load64(l9 + 216u);
+                                    store64(l22 + 8u, t346);
+                                    const u64 t347 = load64(l9 + 208u);
+                                    store64(l22, t347);
+                                    const u64 t348 = load64(l22);
+                                    store64(l9 + 264u, t348);
+                                    const u64 t349 = load64(l22 + 8u);
+                                    store64(l9 + 272u, t349);
                                     functions_arguments_Arguments_next(stack, l9 + 48ull, l9 + 264ull, l8);
-                                    if (l34 == 0) goto L327;
-                                    const u32 t335 = load32(l9 + 52u);
-                                    l34 = t335;
-                                    const u32 t336 = load32(l9 + 48u);
-                                    l37 = t336;
-                                    if ((1u << (l39 & 31)) & 33553399u) goto L327;
-                                    if (l39 == 3u) {
-                                        l30 = l34 - l37;
-                                        goto L327;
+                                    if (l33 == 0) goto L342;
+                                    const u32 t350 = load32(l9 + 52u);
+                                    l33 = t350;
+                                    const u32 t351 = load32(l9 + 48u);
+                                    l36 = t351;
+                                    if ((1u << (l37 & 31)) & 33553399u) goto L342;
+                                    if (l37 == 3u) {
+                                        l32 = l33 - l36;
+                                        goto L342;
                                     }
                                     store64(l9 + 200u, 0ull);
                                     store64(l9 + 192u, 0ull);
@@ -23377,159 +23508,159 @@ static void engine_turn(u64 stack, u64 l0, u64 l1, u64 l2, u64 l3, u64 l4, u64 l
                                     store64(l9 + 168u, 0ull);
                                     {
                                         {
-                                            u32 v340;
+                                            u32 v355;
                                             {
-                                                const u32 t341 = load32(l8 + 40ull);
-                                                l30 = t341;
-                                                if (l30 >= 8u) {
-                                                    forms_work_Work_find_among_more(stack, l9 + 32ull, l8, l37, l34);
-                                                    const u32 t343 = load8(l9 + 32u);
-                                                    l32 = t343;
-                                                    const u32 t344 = load32(l9 + 36u);
-                                                    v340 = t344; goto L340;
+                                                const u32 t356 = load32(l8 + 40ull);
+                                                l32 = t356;
+                                                if (l32 >= 8u) {
+                                                    forms_work_Work_find_among_more(stack, l9 + 32ull, l8, l36, l33);
+                                                    const u32 t358 = load8(l9 + 32u);
+                                                    l31 = t358;
+                                                    const u32 t359 = load32(l9 + 36u);
+                                                    v355 = t359; goto L355;
                                                 }
                                                 {
-                                                    if (l30 == 0) goto L345;
-                                                    const u64 t346 = load32(l5 + 4ull);
-                                                    l17 = (u64)(l32 + l34);
-                                                    l2 = (u64)(l32 + l37);
-                                                    if (t346 != (l17 - l2)) goto L345;
-                                                    l10 = 17ull - (l2 << 3);
-                                                    l2 = (l17 ^ 18446744073709551615ull) + l2;
-                                                    l5 = l5 + (l17 << 3);
-                                                    L347:;
+                                                    if (l32 == 0) goto L360;
+                                                    const u64 t361 = load32(l5 + 4ull);
+                                                    l16 = (u64)(l31 + l33);
+                                                    l2 = (u64)(l31 + l36);
+                                                    if (t361 != (l16 - l2)) goto L360;
+                                                    l14 = 17ull - (l2 << 3);
+                                                    l2 = (l16 ^ 18446744073709551615ull) + l2;
+                                                    l5 = l5 + (l16 << 3);
+                                                    L362:;
                                                     {
                                                         l2 = l2 + 1ull;
-                                                        if (l2 == 0) goto L339;
-                                                        l17 = l5 - 7ull;
-                                                        l1 = l5 + l10;
+                                                        if (l2 == 0) goto L354;
+                                                        l16 = l5 - 7ull;
+                                                        l1 = l5 + l14;
                                                         l5 = l5 - 8ull;
-                                                        const u32 t348 = load8(l1);
-                                                        const u32 t349 = load8(l17);
-                                                        if (t348 == t349) goto L347;
+                                                        const u32 t363 = load8(l1);
+                                                        const u32 t364 = load8(l16);
+                                                        if (t363 == t364) goto L362;
                                                     }
                                                 }
-                                                L345:;
-                                                forms_work_Work_find_among_few(stack, l9 + 40ull, l8, l37, l34);
-                                                const u32 t350 = load8(l9 + 40u);
-                                                l32 = t350;
-                                                const u32 t351 = load32(l9 + 44u);
-                                                v340 = t351;
+                                                L360:;
+                                                forms_work_Work_find_among_few(stack, l9 + 40ull, l8, l36, l33);
+                                                const u32 t365 = load8(l9 + 40u);
+                                                l31 = t365;
+                                                const u32 t366 = load32(l9 + 44u);
+                                                v355 = t366;
                                             }
-                                            L340:;
-                                            l30 = v340;
-                                            if ((l32 & 255u) == 1u) goto L338;
-                                            l30 = 0u;
-                                            goto L327;
+                                            L355:;
+                                            l32 = v355;
+                                            if ((l31 & 255u) == 1u) goto L353;
+                                            l32 = 0u;
+                                            goto L342;
                                         }
-                                        L339:;
+                                        L354:;
                                         store64(l8 + 44ull, 0ull);
-                                        l30 = 0u;
+                                        l32 = 0u;
                                     }
-                                    L338:;
-                                    forms_work_Work_stored(stack, l9 + 168ull, l8, l30);
-                                    const u64 t352 = load64(l9 + 192u);
-                                    l17 = t352;
-                                    l1 = l17 & 4294967295ull;
+                                    L353:;
+                                    forms_work_Work_stored(stack, l9 + 168ull, l8, l32);
+                                    const u64 t367 = load64(l9 + 192u);
+                                    l16 = t367;
+                                    l1 = l16 & 4294967295ull;
                                     if (l1 == 0) {
-                                        l30 = 3u;
-                                        goto L327;
+                                        l32 = 3u;
+                                        goto L342;
                                     }
-                                    const u64 t354 = load64(l9 + 184u);
-                                    l2 = t354;
-                                    l30 = 3u;
+                                    const u64 t369 = load64(l9 + 184u);
+                                    l2 = t369;
+                                    l32 = 3u;
                                     l5 = 0ull;
-                                    L355:;
+                                    L370:;
                                     {
-                                        u32 v356;
+                                        u32 v371;
                                         {
                                             {
                                                 {
                                                     {
-                                                        if (l5 < l17) {
-                                                            l10 = 0ull;
-                                                            const u64 t361 = load8(l2);
-                                                            switch ((u32)t361 - 1u) {
-                                                            case 0: goto L357;
-                                                            case 1: goto L357;
-                                                            case 2: goto L358;
-                                                            case 3: goto L357;
-                                                            default: goto L359;
+                                                        if (l5 < l16) {
+                                                            l14 = 0ull;
+                                                            const u64 t376 = load8(l2);
+                                                            switch ((u32)t376 - 1u) {
+                                                            case 0: goto L372;
+                                                            case 1: goto L372;
+                                                            case 2: goto L373;
+                                                            case 3: goto L372;
+                                                            default: goto L374;
                                                             }
                                                         }
-                                                        v356 = 0u; goto L356;
+                                                        v371 = 0u; goto L371;
                                                     }
-                                                    L359:;
-                                                    v356 = 1u; goto L356;
+                                                    L374:;
+                                                    v371 = 1u; goto L371;
                                                 }
-                                                L358:;
-                                                const u64 t362 = load32(l2 + 4ull);
-                                                l10 = t362;
+                                                L373:;
+                                                const u64 t377 = load32(l2 + 4ull);
+                                                l14 = t377;
                                             }
-                                            L357:;
-                                            const u64 t363 = itoa_integer_write_unsigned(stack, l10, l9 + 208ull);
-                                            v356 = 42u - (u32)t363;
+                                            L372:;
+                                            const u64 t378 = itoa_integer_write_unsigned(stack, l14, l9 + 208ull);
+                                            v371 = 42u - (u32)t378;
                                         }
-                                        L356:;
-                                        l32 = v356;
+                                        L371:;
+                                        l31 = v371;
                                         l2 = l2 + 8ull;
-                                        l30 = l30 + l32;
+                                        l32 = l31 + l32;
                                         l5 = l5 + 1ull;
-                                        if (l1 != l5) goto L355;
+                                        if (l1 != l5) goto L370;
                                     }
-                                    goto L327;
+                                    goto L342;
                                 }
-                                const u64 t364 = load64(l9 + 216u);
-                                store64(l24 + 8u, t364);
-                                const u64 t365 = load64(l9 + 208u);
-                                store64(l24, t365);
-                                const u64 t366 = load64(l24);
-                                store64(l9 + 264u, t366);
-                                const u64 t367 = load64(l24 + 8u);
-                                store64(l9 + 272u, t367);
+                                const u64 t379 = load64(l9 + 216u);
+                                store64(l22 + 8u, t379);
+                                const u64 t380 = load64(l9 + 208u);
+                                store64(l22, t380);
+                                const u64 t381 = load64(l22);
+                                store64(l9 + 264u, t381);
+                                const u64 t382 = load64(l22 + 8u);
+                                store64(l9 + 272u, t382);
                                 functions_arguments_Arguments_next(stack, l9 + 56ull, l9 + 264ull, l8);
                             }
-                            L327:;
-                            l5 = (u64)l30;
+                            L342:;
+                            l5 = (u64)l32;
                             if (l5 > l12) {
-                                l46 = 8u;
+                                l47 = 8u;
                                 goto L3;
                             }
-                            const u32 t369 = load8(l8 + 84ull);
-                            l30 = t369;
+                            const u32 t384 = load8(l8 + 84ull);
+                            l32 = t384;
                         }
-                        L296:;
+                        L311:;
                         store64(l9 + 256u, 0ull);
                         store64(l9 + 248u, 0ull);
-                        l32 = 1u;
+                        l31 = 1u;
                         {
-                            if ((l30 & 255u) == 1u) {
-                                const u32 t372 = load8(l8 + 85ull);
-                                l30 = t372;
-                                goto L370;
+                            if ((l32 & 255u) == 1u) {
+                                const u32 t387 = load8(l8 + 85ull);
+                                l32 = t387;
+                                goto L385;
                             }
-                            const u64 t373 = load64(l8 + 72ull);
-                            const u64 t374 = load64(l8 + 64ull);
-                            if (t373 == t374) {
+                            const u64 t388 = load64(l8 + 72ull);
+                            const u64 t389 = load64(l8 + 64ull);
+                            if (t388 == t389) {
                                 store16(l8 + 84ull, (u16)769u);
-                                l30 = 3u;
-                                goto L370;
+                                l32 = 3u;
+                                goto L385;
                             }
-                            const u32 t376 = load32(l8 + 24ull);
-                            l32 = t376;
+                            const u32 t391 = load32(l8 + 24ull);
+                            l31 = t391;
                             l12 = l8 + 20ull;
-                            const u32 t377 = load32(l12);
-                            l30 = t377;
-                            const u32 t378 = load32(l8 + 16ull);
-                            l34 = t378;
+                            const u32 t392 = load32(l12);
+                            l32 = t392;
+                            const u32 t393 = load32(l8 + 16ull);
+                            l33 = t393;
                             l5 = l8 + 60ull;
-                            const u32 t379 = load32(l5);
-                            core_scan_scan_once(stack, l9 + 248ull, l8, t379);
+                            const u32 t394 = load32(l5);
+                            core_scan_scan_once(stack, l9 + 248ull, l8, t394);
                             {
                                 {
                                     {
                                         {
-                                            u32 v384;
+                                            u32 v399;
                                             {
                                                 {
                                                     {
@@ -23537,31 +23668,31 @@ static void engine_turn(u64 stack, u64 l0, u64 l1, u64 l2, u64 l3, u64 l4, u64 l
                                                             {
                                                                 {
                                                                     {
-                                                                        const u32 t391 = load8(l9 + 248u);
-                                                                        if (t391 == 1u) {
-                                                                            const u32 t393 = load8(l9 + 252u);
-                                                                            if (t393 == 0) {
+                                                                        const u32 t406 = load8(l9 + 248u);
+                                                                        if (t406 == 1u) {
+                                                                            const u32 t408 = load8(l9 + 252u);
+                                                                            if (t408 == 0) {
                                                                                 store32(l8 + 32ull, 0u);
                                                                                 l5 = l8 + 20ull;
                                                                                 store32(l5, 0u);
-                                                                                const u32 t395 = load32(l8 + 28ull);
-                                                                                l30 = t395;
-                                                                                l17 = l8 + 24ull;
-                                                                                const u32 t396 = load32(l17);
-                                                                                l32 = t396;
+                                                                                const u32 t410 = load32(l8 + 28ull);
+                                                                                l32 = t410;
+                                                                                l16 = l8 + 24ull;
+                                                                                const u32 t411 = load32(l16);
+                                                                                l31 = t411;
                                                                                 l2 = l8 + 16ull;
-                                                                                const u32 t397 = load32(l2);
-                                                                                if ((l30 - (l32 + t397)) <= 10u) {
-                                                                                    const u32 t399 = space_space_Space_try_claim_spare(stack, l8, 11ull);
-                                                                                    if (t399 == 0) goto L383;
-                                                                                    const u32 t400 = load32(l8 + 28ull);
-                                                                                    l30 = t400;
-                                                                                    const u32 t401 = load32(l8 + 24ull);
-                                                                                    l32 = t401;
+                                                                                const u32 t412 = load32(l2);
+                                                                                if ((l32 - (l31 + t412)) <= 10u) {
+                                                                                    const u32 t414 = space_space_Space_try_claim_spare(stack, l8, 11ull);
+                                                                                    if (t414 == 0) goto L398;
+                                                                                    const u32 t415 = load32(l8 + 24ull);
+                                                                                    l31 = t415;
+                                                                                    const u32 t416 = load32(l8 + 28ull);
+                                                                                    l32 = t416;
                                                                                 }
-                                                                                const u64 t402 = load64(l8);
-                                                                                l32 = l32 + 11u;
-                                                                                l12 = t402 + ((u64)(l30 - l32) << 3);
+                                                                                const u64 t417 = load64(l8);
+                                                                                l31 = l31 + 11u;
+                                                                                l12 = t417 + ((u64)(l32 - l31) << 3);
                                                                                 store64(l12 + 56u, 0ull);
                                                                                 store64(l12 + 48u, 0ull);
                                                                                 store64(l12 + 40u, 0ull);
@@ -23584,105 +23715,105 @@ static void engine_turn(u64 stack, u64 l0, u64 l1, u64 l2, u64 l3, u64 l4, u64 l
                                                                                 store8(l12 + 17ull, (u8)112u);
                                                                                 store8(l12 + 9ull, (u8)40u);
                                                                                 store8(l12 + 1ull, (u8)35u);
-                                                                                store32(l17, l32);
-                                                                                const u32 t403 = load32(l5);
-                                                                                l34 = t403;
-                                                                                const u32 t404 = load32(l2);
-                                                                                v384 = l34 + (t404 + l32); goto L384;
+                                                                                store32(l16, l31);
+                                                                                const u32 t418 = load32(l5);
+                                                                                l33 = t418;
+                                                                                const u32 t419 = load32(l2);
+                                                                                v399 = l33 + (t419 + l31); goto L399;
                                                                             }
-                                                                            const u64 t405 = load64(l9 + 256u);
-                                                                            l5 = t405;
+                                                                            const u64 t420 = load64(l9 + 256u);
+                                                                            l5 = t420;
                                                                             l12 = l8 + 24ull;
-                                                                            const u32 t406 = load32(l12);
-                                                                            l45 = t406 - 1u;
-                                                                            store32(l12, l45);
-                                                                            const u32 t407 = load32(l8 + 20ull);
-                                                                            l37 = t407;
-                                                                            const u32 t408 = load32(l8 + 16ull);
-                                                                            l32 = t408;
+                                                                            const u32 t421 = load32(l12);
+                                                                            l42 = t421 - 1u;
+                                                                            store32(l12, l42);
+                                                                            const u32 t422 = load32(l8 + 20ull);
+                                                                            l36 = t422;
+                                                                            const u32 t423 = load32(l8 + 16ull);
+                                                                            l31 = t423;
                                                                             store64(l9 + 280u, 0ull);
                                                                             store64(l9 + 144u, 0ull);
                                                                             store64(l9 + 152u, 0ull);
                                                                             store64(l9 + 264u, 0ull);
                                                                             store64(l9 + 272u, 0ull);
-                                                                            const u64 t409 = load64(l8);
-                                                                            l12 = t409;
-                                                                            l34 = (u32)l5;
-                                                                            const u32 t410 = load8((l12 + ((u64)(l32 + l34) << 3)) + 1ull);
-                                                                            l30 = t410;
+                                                                            const u64 t424 = load64(l8);
+                                                                            l12 = t424;
+                                                                            l33 = (u32)l5;
+                                                                            const u32 t425 = load8((l12 + ((u64)(l31 + l33) << 3)) + 1ull);
+                                                                            l32 = t425;
                                                                             store8(l9 + 210u, (u8)0u);
                                                                             store16(l9 + 208u, (u16)0u);
                                                                             {
-                                                                                l31 = l32 + l37;
-                                                                                l39 = l34 + 1u;
-                                                                                l2 = (u64)(l32 + l39);
-                                                                                l17 = (u64)l31 - l2;
-                                                                                if (l17 < 2ull) goto L411;
+                                                                                l43 = l31 + l36;
+                                                                                l37 = l33 + 1u;
+                                                                                l2 = (u64)(l31 + l37);
+                                                                                l16 = (u64)l43 - l2;
+                                                                                if (l16 < 2ull) goto L426;
                                                                                 l2 = l12 + (l2 << 3);
-                                                                                if (l17 != 2ull) {
-                                                                                    const u32 t413 = load8(l2 + 16ull);
-                                                                                    if (t413 != 2u) goto L411;
+                                                                                if (l16 != 2ull) {
+                                                                                    const u32 t428 = load8(l2 + 16ull);
+                                                                                    if (t428 != 2u) goto L426;
                                                                                 }
                                                                                 functions_function_function_of(stack, l9 + 208ull, l2, l2 + 8ull);
-                                                                                const u32 t414 = load8(l9 + 208u);
-                                                                                if (t414 != 1u) goto L411;
-                                                                                l43 = (u32)(l5 >> 32);
-                                                                                l30 = l30 == 0;
-                                                                                l40 = l34 + 4u;
+                                                                                const u32 t429 = load8(l9 + 208u);
+                                                                                if (t429 != 1u) goto L426;
+                                                                                l39 = (u32)(l5 >> 32);
+                                                                                l32 = l32 == 0;
+                                                                                l38 = l33 + 4u;
                                                                                 {
                                                                                     {
                                                                                         {
                                                                                             {
                                                                                                 {
                                                                                                     {
-                                                                                                        const u32 t421 = load8(l9 + 209u);
-                                                                                                        l36 = t421;
-                                                                                                        switch (l36 - 1u) {
-                                                                                                        case 0: goto L420;
-                                                                                                        case 1: goto L417;
-                                                                                                        case 2: goto L419;
-                                                                                                        case 3: goto L417;
-                                                                                                        case 4: goto L417;
-                                                                                                        case 5: goto L417;
-                                                                                                        case 6: goto L417;
-                                                                                                        case 7: goto L417;
-                                                                                                        case 8: goto L417;
-                                                                                                        case 9: goto L418;
-                                                                                                        case 10: goto L417;
-                                                                                                        case 11: goto L417;
-                                                                                                        case 12: goto L417;
-                                                                                                        case 13: goto L417;
-                                                                                                        case 14: goto L417;
-                                                                                                        case 15: goto L417;
-                                                                                                        case 16: goto L417;
-                                                                                                        case 17: goto L417;
-                                                                                                        case 18: goto L417;
-                                                                                                        case 19: goto L417;
-                                                                                                        case 20: goto L417;
-                                                                                                        case 21: goto L417;
-                                                                                                        case 22: goto L417;
-                                                                                                        case 23: goto L417;
-                                                                                                        default: goto L416;
+                                                                                                        const u32 t436 = load8(l9 + 209u);
+                                                                                                        l34 = t436;
+                                                                                                        switch (l34 - 1u) {
+                                                                                                        case 0: goto L435;
+                                                                                                        case 1: goto L432;
+                                                                                                        case 2: goto L434;
+                                                                                                        case 3: goto L432;
+                                                                                                        case 4: goto L432;
+                                                                                                        case 5: goto L432;
+                                                                                                        case 6: goto L432;
+                                                                                                        case 7: goto L432;
+                                                                                                        case 8: goto L432;
+                                                                                                        case 9: goto L433;
+                                                                                                        case 10: goto L432;
+                                                                                                        case 11: goto L432;
+                                                                                                        case 12: goto L432;
+                                                                                                        case 13: goto L432;
+                                                                                                        case 14: goto L432;
+                                                                                                        case 15: goto L432;
+                                                                                                        case 16: goto L432;
+                                                                                                        case 17: goto L432;
+                                                                                                        case 18: goto L432;
+                                                                                                        case 19: goto L432;
+                                                                                                        case 20: goto L432;
+                                                                                                        case 21: goto L432;
+                                                                                                        case 22: goto L432;
+                                                                                                        case 23: goto L432;
+                                                                                                        default: goto L431;
                                                                                                         }
                                                                                                     }
-                                                                                                    L420:;
+                                                                                                    L435:;
                                                                                                     core_input_output_read_character(stack, l9 + 280ull, l8, l9 + 112ull);
-                                                                                                    goto L415;
+                                                                                                    goto L430;
                                                                                                 }
-                                                                                                L419:;
-                                                                                                store16(l27, (u16)0u);
-                                                                                                store8(l27 + 2u, (u8)0u);
-                                                                                                store8(l9 + 156u, (u8)l30);
-                                                                                                store32(l9 + 152u, l43);
-                                                                                                store32(l9 + 148u, l37);
-                                                                                                store32(l9 + 144u, l40);
-                                                                                                l20 = l9 + 280ull;
+                                                                                                L434:;
+                                                                                                store16(l26, (u16)0u);
+                                                                                                store8(l26 + 2u, (u8)0u);
+                                                                                                store8(l9 + 156u, (u8)l32);
+                                                                                                store32(l9 + 152u, l39);
+                                                                                                store32(l9 + 148u, l36);
+                                                                                                store32(l9 + 144u, l38);
+                                                                                                l15 = l9 + 280ull;
                                                                                                 l1 = l8;
-                                                                                                l22 = l9 + 144ull;
-                                                                                                l18 = l9 + 72ull;
-                                                                                                l11 = stack - 48ull;
-                                                                                                stack = l11;
-                                                                                                u32 v422;
+                                                                                                l10 = l9 + 144ull;
+                                                                                                l2 = l9 + 72ull;
+                                                                                                l13 = stack - 48ull;
+                                                                                                stack = l13;
+                                                                                                u32 v437;
                                                                                                 {
                                                                                                     {
                                                                                                         {
@@ -23690,168 +23821,168 @@ static void engine_turn(u64 stack, u64 l0, u64 l1, u64 l2, u64 l3, u64 l4, u64 l
                                                                                                                 {
                                                                                                                     {
                                                                                                                         {
-                                                                                                                            const u64 t429 = load64(l22 + 8u);
-                                                                                                                            store64(l11 + 40u, t429);
-                                                                                                                            const u64 t430 = load64(l22);
-                                                                                                                            store64(l11 + 32u, t430);
-                                                                                                                            functions_arguments_Arguments_next(stack, l11 + 8ull, l11 + 32ull, l1);
-                                                                                                                            const u32 t431 = load32(l1 + 16ull);
-                                                                                                                            l41 = t431;
-                                                                                                                            const u32 t432 = load32(l11 + 12u);
-                                                                                                                            l35 = t432;
-                                                                                                                            l10 = (u64)(l41 + l35);
-                                                                                                                            const u32 t433 = load32(l11 + 8u);
-                                                                                                                            l30 = t433;
-                                                                                                                            l12 = (u64)(l41 + l30);
-                                                                                                                            l22 = l10 - l12;
-                                                                                                                            store64(l11 + 24u, l22);
-                                                                                                                            const u64 t434 = load64(l1);
-                                                                                                                            l13 = t434;
-                                                                                                                            l14 = l12 << 3;
-                                                                                                                            l1 = l13 + l14;
-                                                                                                                            store64(l11 + 16u, l1);
-                                                                                                                            l33 = 3u;
+                                                                                                                            const u64 t444 = load64(l10 + 8u);
+                                                                                                                            store64(l13 + 40u, t444);
+                                                                                                                            const u64 t445 = load64(l10);
+                                                                                                                            store64(l13 + 32u, t445);
+                                                                                                                            functions_arguments_Arguments_next(stack, l13 + 8ull, l13 + 32ull, l1);
+                                                                                                                            const u32 t446 = load32(l1 + 16ull);
+                                                                                                                            l32 = t446;
+                                                                                                                            const u32 t447 = load32(l13 + 12u);
+                                                                                                                            l35 = t447;
+                                                                                                                            l18 = (u64)(l32 + l35);
+                                                                                                                            const u32 t448 = load32(l13 + 8u);
+                                                                                                                            l38 = t448;
+                                                                                                                            l11 = (u64)(l32 + l38);
+                                                                                                                            l10 = l18 - l11;
+                                                                                                                            store64(l13 + 24u, l10);
+                                                                                                                            const u64 t449 = load64(l1);
+                                                                                                                            l21 = t449;
+                                                                                                                            l16 = l11 << 3;
+                                                                                                                            l1 = l21 + l16;
+                                                                                                                            store64(l13 + 16u, l1);
+                                                                                                                            l34 = 3u;
                                                                                                                             {
-                                                                                                                                if (l30 == l35) goto L435;
-                                                                                                                                if (l22 <= 15ull) {
-                                                                                                                                    const u64 t437 = load64(l18 + 16ull);
-                                                                                                                                    l21 = t437;
-                                                                                                                                    const u64 t438 = load64(l18 + 8ull);
-                                                                                                                                    if (l21 >= t438) goto L425;
+                                                                                                                                if (l35 == l38) goto L450;
+                                                                                                                                if (l10 <= 15ull) {
+                                                                                                                                    const u64 t452 = load64(l2 + 16ull);
+                                                                                                                                    l14 = t452;
+                                                                                                                                    const u64 t453 = load64(l2 + 8ull);
+                                                                                                                                    if (l14 >= t453) goto L440;
                                                                                                                                     l1 = l1 + 1ull;
-                                                                                                                                    L439:;
+                                                                                                                                    L454:;
                                                                                                                                     {
-                                                                                                                                        const u32 t440 = load8(l1);
-                                                                                                                                        l41 = t440;
+                                                                                                                                        const u32 t455 = load8(l1);
+                                                                                                                                        l32 = t455;
                                                                                                                                         {
-                                                                                                                                            const u64 t442 = load64(l18 + 8ull);
-                                                                                                                                            if (t442 > l21) {
-                                                                                                                                                const u64 t444 = load64(l18);
-                                                                                                                                                store8(t444 + l21, (u8)l41);
-                                                                                                                                                l21 = l18 + 16ull;
-                                                                                                                                                const u64 t445 = load64(l21);
-                                                                                                                                                const u64 t446 = l21;
-                                                                                                                                                l21 = t445 + 1ull;
-                                                                                                                                                store64(t446, l21);
-                                                                                                                                                goto L441;
+                                                                                                                                            const u64 t457 = load64(l2 + 8ull);
+                                                                                                                                            if (t457 > l14) {
+                                                                                                                                                const u64 t459 = load64(l2);
+                                                                                                                                                store8(t459 + l14, (u8)l32);
+                                                                                                                                                l14 = l2 + 16ull;
+                                                                                                                                                const u64 t460 = load64(l14);
+                                                                                                                                                const u64 t461 = l14;
+                                                                                                                                                l14 = t460 + 1ull;
+                                                                                                                                                store64(t461, l14);
+                                                                                                                                                goto L456;
                                                                                                                                             }
-                                                                                                                                            l12 = l18 + 24ull;
-                                                                                                                                            const u32 t447 = load8(l12);
-                                                                                                                                            if (t447 == 1u) goto L424;
-                                                                                                                                            store8(l18 + 25ull, (u8)l41);
-                                                                                                                                            store8(l12, (u8)1u);
+                                                                                                                                            l11 = l2 + 24ull;
+                                                                                                                                            const u32 t462 = load8(l11);
+                                                                                                                                            if (t462 == 1u) goto L439;
+                                                                                                                                            store8(l2 + 25ull, (u8)l32);
+                                                                                                                                            store8(l11, (u8)1u);
                                                                                                                                         }
-                                                                                                                                        L441:;
+                                                                                                                                        L456:;
                                                                                                                                         l1 = l1 + 8ull;
-                                                                                                                                        l22 = l22 - 1ull;
-                                                                                                                                        if ((l22 == 0) == 0) goto L439;
+                                                                                                                                        l10 = l10 - 1ull;
+                                                                                                                                        if ((l10 == 0) == 0) goto L454;
                                                                                                                                     }
-                                                                                                                                    goto L435;
+                                                                                                                                    goto L450;
                                                                                                                                 }
-                                                                                                                                l21 = l18 + 16ull;
-                                                                                                                                const u64 t448 = load64(l21);
-                                                                                                                                const u64 t449 = load64(l18);
-                                                                                                                                l2 = l18 + 8ull;
-                                                                                                                                const u64 t450 = load64(l2);
-                                                                                                                                const u64 t451 = c_filling_put_characters(stack, l11 + 16ull, t448, t449, t450);
-                                                                                                                                l15 = t451;
-                                                                                                                                const u64 t452 = load64(l21);
-                                                                                                                                const u64 t453 = l21;
-                                                                                                                                l21 = l15 + t452;
-                                                                                                                                store64(t453, l21);
-                                                                                                                                if (l15 >= l22) goto L435;
-                                                                                                                                const u64 t454 = load64(l2);
-                                                                                                                                if (l21 >= t454) goto L427;
-                                                                                                                                l22 = (l12 + l15) - l10;
-                                                                                                                                l1 = (((l15 << 3) + l14) + l13) + 1ull;
-                                                                                                                                L455:;
+                                                                                                                                l14 = l2 + 16ull;
+                                                                                                                                const u64 t463 = load64(l14);
+                                                                                                                                const u64 t464 = load64(l2);
+                                                                                                                                l17 = l2 + 8ull;
+                                                                                                                                const u64 t465 = load64(l17);
+                                                                                                                                const u64 t466 = c_filling_put_characters(stack, l13 + 16ull, t463, t464, t465);
+                                                                                                                                l12 = t466;
+                                                                                                                                const u64 t467 = load64(l14);
+                                                                                                                                const u64 t468 = l14;
+                                                                                                                                l14 = l12 + t467;
+                                                                                                                                store64(t468, l14);
+                                                                                                                                if (l10 <= l12) goto L450;
+                                                                                                                                const u64 t469 = load64(l17);
+                                                                                                                                if (l14 >= t469) goto L442;
+                                                                                                                                l10 = (l11 + l12) - l18;
+                                                                                                                                l1 = (((l12 << 3) + l16) + l21) + 1ull;
+                                                                                                                                L470:;
                                                                                                                                 {
-                                                                                                                                    const u32 t456 = load8(l1);
-                                                                                                                                    l41 = t456;
+                                                                                                                                    const u32 t471 = load8(l1);
+                                                                                                                                    l32 = t471;
                                                                                                                                     {
-                                                                                                                                        const u64 t458 = load64(l18 + 8ull);
-                                                                                                                                        if (t458 > l21) {
-                                                                                                                                            const u64 t460 = load64(l18);
-                                                                                                                                            store8(t460 + l21, (u8)l41);
-                                                                                                                                            l21 = l18 + 16ull;
-                                                                                                                                            const u64 t461 = load64(l21);
-                                                                                                                                            const u64 t462 = l21;
-                                                                                                                                            l21 = t461 + 1ull;
-                                                                                                                                            store64(t462, l21);
-                                                                                                                                            goto L457;
+                                                                                                                                        const u64 t473 = load64(l2 + 8ull);
+                                                                                                                                        if (t473 > l14) {
+                                                                                                                                            const u64 t475 = load64(l2);
+                                                                                                                                            store8(t475 + l14, (u8)l32);
+                                                                                                                                            l14 = l2 + 16ull;
+                                                                                                                                            const u64 t476 = load64(l14);
+                                                                                                                                            const u64 t477 = l14;
+                                                                                                                                            l14 = t476 + 1ull;
+                                                                                                                                            store64(t477, l14);
+                                                                                                                                            goto L472;
                                                                                                                                         }
-                                                                                                                                        l12 = l18 + 24ull;
-                                                                                                                                        const u32 t463 = load8(l12);
-                                                                                                                                        if (t463 == 1u) goto L426;
-                                                                                                                                        store8(l18 + 25ull, (u8)l41);
-                                                                                                                                        store8(l12, (u8)1u);
+                                                                                                                                        l11 = l2 + 24ull;
+                                                                                                                                        const u32 t478 = load8(l11);
+                                                                                                                                        if (t478 == 1u) goto L441;
+                                                                                                                                        store8(l2 + 25ull, (u8)l32);
+                                                                                                                                        store8(l11, (u8)1u);
                                                                                                                                     }
-                                                                                                                                    L457:;
+                                                                                                                                    L472:;
                                                                                                                                     l1 = l1 + 8ull;
-                                                                                                                                    l22 = l22 + 1ull;
-                                                                                                                                    if ((l22 == 0) == 0) goto L455;
+                                                                                                                                    l10 = l10 + 1ull;
+                                                                                                                                    if ((l10 == 0) == 0) goto L470;
                                                                                                                                 }
                                                                                                                             }
-                                                                                                                            L435:;
-                                                                                                                            v422 = 0u; goto L422;
+                                                                                                                            L450:;
+                                                                                                                            v437 = 0u; goto L437;
                                                                                                                         }
                                                                                                                         trap();
                                                                                                                     }
-                                                                                                                    L427:;
-                                                                                                                    l21 = l18 + 24ull;
-                                                                                                                    const u32 t464 = load8(l21);
-                                                                                                                    if (t464 == 1u) goto L426;
-                                                                                                                    const u32 t465 = load8((l1 + (l15 << 3)) + 1ull);
-                                                                                                                    store8(l18 + 25ull, (u8)t465);
-                                                                                                                    store8(l21, (u8)1u);
-                                                                                                                    if ((l15 + 1ull) == l22) { v422 = 0u; goto L422; }
+                                                                                                                    L442:;
+                                                                                                                    l14 = l2 + 24ull;
+                                                                                                                    const u32 t479 = load8(l14);
+                                                                                                                    if (t479 == 1u) goto L441;
+                                                                                                                    const u32 t480 = load8((l1 + (l12 << 3)) + 1ull);
+                                                                                                                    store8(l2 + 25ull, (u8)t480);
+                                                                                                                    store8(l14, (u8)1u);
+                                                                                                                    if ((l12 + 1ull) == l10) { v437 = 0u; goto L437; }
                                                                                                                 }
-                                                                                                                L426:;
-                                                                                                                l18 = l18 + 32ull;
-                                                                                                                const u64 t466 = load64(l18);
-                                                                                                                store64(l18, t466 + 1ull);
-                                                                                                                goto L423;
+                                                                                                                L441:;
+                                                                                                                l2 = l2 + 32ull;
+                                                                                                                const u64 t481 = load64(l2);
+                                                                                                                store64(l2, t481 + 1ull);
+                                                                                                                goto L438;
                                                                                                             }
-                                                                                                            L425:;
-                                                                                                            l21 = l18 + 24ull;
-                                                                                                            const u32 t467 = load8(l21);
-                                                                                                            if (t467 == 1u) goto L424;
-                                                                                                            const u32 t468 = load8(l1 + 1ull);
-                                                                                                            store8(l18 + 25ull, (u8)t468);
-                                                                                                            store8(l21, (u8)1u);
-                                                                                                            if (l22 == 1ull) { v422 = 0u; goto L422; }
+                                                                                                            L440:;
+                                                                                                            l14 = l2 + 24ull;
+                                                                                                            const u32 t482 = load8(l14);
+                                                                                                            if (t482 == 1u) goto L439;
+                                                                                                            const u32 t483 = load8(l1 + 1ull);
+                                                                                                            store8(l2 + 25ull, (u8)t483);
+                                                                                                            store8(l14, (u8)1u);
+                                                                                                            if (l10 == 1ull) { v437 = 0u; goto L437; }
                                                                                                         }
-                                                                                                        L424:;
-                                                                                                        l18 = l18 + 32ull;
-                                                                                                        const u64 t469 = load64(l18);
-                                                                                                        store64(l18, t469 + 1ull);
+                                                                                                        L439:;
+                                                                                                        l2 = l2 + 32ull;
+                                                                                                        const u64 t484 = load64(l2);
+                                                                                                        store64(l2, t484 + 1ull);
                                                                                                     }
-                                                                                                    L423:;
-                                                                                                    l33 = 4u;
-                                                                                                    v422 = 5u;
+                                                                                                    L438:;
+                                                                                                    l34 = 4u;
+                                                                                                    v437 = 5u;
                                                                                                 }
-                                                                                                L422:;
-                                                                                                l41 = v422;
-                                                                                                store8(l20, (u8)l33);
-                                                                                                store32(l20 + 4ull, 0u);
-                                                                                                store8(l20 + 1ull, (u8)l41);
-                                                                                                stack = l11 + 48ull;
-                                                                                                goto L415;
+                                                                                                L437:;
+                                                                                                l32 = v437;
+                                                                                                store8(l15, (u8)l34);
+                                                                                                store32(l15 + 4ull, 0u);
+                                                                                                store8(l15 + 1ull, (u8)l32);
+                                                                                                stack = l13 + 48ull;
+                                                                                                goto L430;
                                                                                             }
-                                                                                            L418:;
-                                                                                            store16(l28, (u16)0u);
-                                                                                            store8(l28 + 2u, (u8)0u);
-                                                                                            store8(l9 + 276u, (u8)l30);
-                                                                                            store32(l9 + 272u, l43);
-                                                                                            store32(l9 + 268u, l37);
-                                                                                            store32(l9 + 264u, l40);
-                                                                                            l13 = l9 + 280ull;
+                                                                                            L433:;
+                                                                                            store16(l27, (u16)0u);
+                                                                                            store8(l27 + 2u, (u8)0u);
+                                                                                            store8(l9 + 276u, (u8)l32);
+                                                                                            store32(l9 + 272u, l39);
+                                                                                            store32(l9 + 268u, l36);
+                                                                                            store32(l9 + 264u, l38);
+                                                                                            l12 = l9 + 280ull;
                                                                                             l1 = l8;
-                                                                                            l15 = l9 + 264ull;
-                                                                                            l20 = l9 + 72ull;
-                                                                                            l11 = stack - 80ull;
-                                                                                            stack = l11;
-                                                                                            u32 v470;
+                                                                                            l10 = l9 + 264ull;
+                                                                                            l13 = l9 + 72ull;
+                                                                                            l2 = stack - 80ull;
+                                                                                            stack = l2;
+                                                                                            u32 v485;
                                                                                             {
                                                                                                 {
                                                                                                     {
@@ -23859,190 +23990,190 @@ static void engine_turn(u64 stack, u64 l0, u64 l1, u64 l2, u64 l3, u64 l4, u64 l
                                                                                                             {
                                                                                                                 {
                                                                                                                     {
-                                                                                                                        const u64 t477 = load64(l15 + 8u);
-                                                                                                                        store64(l11 + 32u, t477);
-                                                                                                                        const u64 t478 = load64(l15);
-                                                                                                                        store64(l11 + 24u, t478);
-                                                                                                                        functions_arguments_Arguments_next(stack, l11 + 16ull, l11 + 24ull, l1);
-                                                                                                                        const u32 t479 = load32(l11 + 20u);
-                                                                                                                        l35 = t479;
-                                                                                                                        const u32 t480 = load32(l11 + 16u);
-                                                                                                                        l33 = t480;
-                                                                                                                        store64(l11 + 72u, 0ull);
-                                                                                                                        store64(l11 + 64u, 0ull);
-                                                                                                                        store64(l11 + 56u, 0ull);
-                                                                                                                        store64(l11 + 48u, 0ull);
-                                                                                                                        store64(l11 + 40u, 0ull);
-                                                                                                                        u32 v481;
+                                                                                                                        const u64 t492 = load64(l10 + 8u);
+                                                                                                                        store64(l2 + 32u, t492);
+                                                                                                                        const u64 t493 = load64(l10);
+                                                                                                                        store64(l2 + 24u, t493);
+                                                                                                                        functions_arguments_Arguments_next(stack, l2 + 16ull, l2 + 24ull, l1);
+                                                                                                                        const u32 t494 = load32(l2 + 20u);
+                                                                                                                        l34 = t494;
+                                                                                                                        const u32 t495 = load32(l2 + 16u);
+                                                                                                                        l32 = t495;
+                                                                                                                        store64(l2 + 72u, 0ull);
+                                                                                                                        store64(l2 + 64u, 0ull);
+                                                                                                                        store64(l2 + 56u, 0ull);
+                                                                                                                        store64(l2 + 48u, 0ull);
+                                                                                                                        store64(l2 + 40u, 0ull);
+                                                                                                                        u32 v496;
                                                                                                                         {
-                                                                                                                            const u32 t482 = load32(l1 + 40ull);
-                                                                                                                            l30 = t482;
-                                                                                                                            if (l30 >= 8u) {
-                                                                                                                                forms_work_Work_find_among_more(stack, l11, l1, l33, l35);
-                                                                                                                                const u32 t484 = load32(l11 + 4u);
-                                                                                                                                l33 = t484;
-                                                                                                                                const u32 t485 = load8(l11);
-                                                                                                                                v481 = t485; goto L481;
+                                                                                                                            const u32 t497 = load32(l1 + 40ull);
+                                                                                                                            l35 = t497;
+                                                                                                                            if (l35 >= 8u) {
+                                                                                                                                forms_work_Work_find_among_more(stack, l2, l1, l32, l34);
+                                                                                                                                const u32 t499 = load32(l2 + 4u);
+                                                                                                                                l32 = t499;
+                                                                                                                                const u32 t500 = load8(l2);
+                                                                                                                                v496 = t500; goto L496;
                                                                                                                             }
                                                                                                                             {
-                                                                                                                                if (l30 == 0) goto L486;
-                                                                                                                                const u64 t487 = load64(l1);
-                                                                                                                                l10 = t487;
-                                                                                                                                const u64 t488 = load32(l10 + 4ull);
-                                                                                                                                const u32 t489 = load32(l1 + 16ull);
-                                                                                                                                l30 = t489;
-                                                                                                                                l15 = (u64)(l30 + l35);
-                                                                                                                                l12 = (u64)(l30 + l33);
-                                                                                                                                if (t488 != (l15 - l12)) goto L486;
-                                                                                                                                l14 = 17ull - (l12 << 3);
-                                                                                                                                l12 = (l15 ^ 18446744073709551615ull) + l12;
-                                                                                                                                l15 = l10 + (l15 << 3);
-                                                                                                                                L490:;
+                                                                                                                                if (l35 == 0) goto L501;
+                                                                                                                                const u64 t502 = load64(l1);
+                                                                                                                                l11 = t502;
+                                                                                                                                const u64 t503 = load32(l11 + 4ull);
+                                                                                                                                const u32 t504 = load32(l1 + 16ull);
+                                                                                                                                l35 = t504;
+                                                                                                                                l10 = (u64)(l35 + l34);
+                                                                                                                                l14 = (u64)(l32 + l35);
+                                                                                                                                if (t503 != (l10 - l14)) goto L501;
+                                                                                                                                l15 = 17ull - (l14 << 3);
+                                                                                                                                l14 = (l10 ^ 18446744073709551615ull) + l14;
+                                                                                                                                l10 = l11 + (l10 << 3);
+                                                                                                                                L505:;
                                                                                                                                 {
-                                                                                                                                    l12 = l12 + 1ull;
-                                                                                                                                    if (l12 == 0) goto L475;
-                                                                                                                                    l10 = l15 - 7ull;
-                                                                                                                                    l2 = l14 + l15;
-                                                                                                                                    l15 = l15 - 8ull;
-                                                                                                                                    const u32 t491 = load8(l2);
-                                                                                                                                    const u32 t492 = load8(l10);
-                                                                                                                                    if (t491 == t492) goto L490;
+                                                                                                                                    l14 = l14 + 1ull;
+                                                                                                                                    if (l14 == 0) goto L490;
+                                                                                                                                    l11 = l10 - 7ull;
+                                                                                                                                    l18 = l10 + l15;
+                                                                                                                                    l10 = l10 - 8ull;
+                                                                                                                                    const u32 t506 = load8(l18);
+                                                                                                                                    const u32 t507 = load8(l11);
+                                                                                                                                    if (t506 == t507) goto L505;
                                                                                                                                 }
                                                                                                                             }
-                                                                                                                            L486:;
-                                                                                                                            forms_work_Work_find_among_few(stack, l11 + 8ull, l1, l33, l35);
-                                                                                                                            const u32 t493 = load32(l11 + 12u);
-                                                                                                                            l33 = t493;
-                                                                                                                            const u32 t494 = load8(l11 + 8u);
-                                                                                                                            v481 = t494;
+                                                                                                                            L501:;
+                                                                                                                            forms_work_Work_find_among_few(stack, l2 + 8ull, l1, l32, l34);
+                                                                                                                            const u32 t508 = load32(l2 + 12u);
+                                                                                                                            l32 = t508;
+                                                                                                                            const u32 t509 = load8(l2 + 8u);
+                                                                                                                            v496 = t509;
                                                                                                                         }
-                                                                                                                        L481:;
-                                                                                                                        if ((v481 & 255u) != 1u) goto L473;
-                                                                                                                        goto L474;
+                                                                                                                        L496:;
+                                                                                                                        if ((v496 & 255u) != 1u) goto L488;
+                                                                                                                        goto L489;
                                                                                                                     }
                                                                                                                     trap();
                                                                                                                 }
-                                                                                                                L475:;
+                                                                                                                L490:;
                                                                                                                 store64(l1 + 44ull, 0ull);
-                                                                                                                l33 = 0u;
+                                                                                                                l32 = 0u;
                                                                                                             }
-                                                                                                            L474:;
-                                                                                                            forms_work_Work_stored(stack, l11 + 40ull, l1, l33);
-                                                                                                            const u64 t495 = load64(l11 + 64u);
-                                                                                                            l15 = t495;
-                                                                                                            const u32 t496 = load32(l11 + 72u);
-                                                                                                            l35 = t496;
-                                                                                                            const u32 t497 = core_display_show_items2(stack, l11 + 40ull, 0u, l35, l20);
-                                                                                                            if (t497 & 255u) goto L471;
-                                                                                                            l1 = l20 + 16ull;
-                                                                                                            const u64 t498 = load64(l1);
-                                                                                                            l12 = t498;
-                                                                                                            l10 = l20 + 8ull;
-                                                                                                            const u64 t499 = load64(l10);
-                                                                                                            if (l12 >= t499) {
-                                                                                                                l15 = l20 + 24ull;
-                                                                                                                const u32 t501 = load8(l15);
-                                                                                                                if (t501 == 1u) goto L472;
-                                                                                                                store16(l15, (u16)15361u);
-                                                                                                                goto L472;
+                                                                                                            L489:;
+                                                                                                            forms_work_Work_stored(stack, l2 + 40ull, l1, l32);
+                                                                                                            const u64 t510 = load64(l2 + 64u);
+                                                                                                            l10 = t510;
+                                                                                                            const u32 t511 = load32(l2 + 72u);
+                                                                                                            l34 = t511;
+                                                                                                            const u32 t512 = core_display_show_items2(stack, l2 + 40ull, 0u, l34, l13);
+                                                                                                            if (t512 & 255u) goto L486;
+                                                                                                            l1 = l13 + 16ull;
+                                                                                                            const u64 t513 = load64(l1);
+                                                                                                            l14 = t513;
+                                                                                                            l11 = l13 + 8ull;
+                                                                                                            const u64 t514 = load64(l11);
+                                                                                                            if (l14 >= t514) {
+                                                                                                                l10 = l13 + 24ull;
+                                                                                                                const u32 t516 = load8(l10);
+                                                                                                                if (t516 == 1u) goto L487;
+                                                                                                                store16(l10, (u16)15361u);
+                                                                                                                goto L487;
                                                                                                             }
-                                                                                                            const u64 t502 = load64(l20);
-                                                                                                            store8(t502 + l12, (u8)60u);
-                                                                                                            const u64 t503 = load64(l1);
-                                                                                                            l12 = t503 + 1ull;
-                                                                                                            store64(l1, l12);
+                                                                                                            const u64 t517 = load64(l13);
+                                                                                                            store8(t517 + l14, (u8)60u);
+                                                                                                            const u64 t518 = load64(l1);
+                                                                                                            l14 = t518 + 1ull;
+                                                                                                            store64(l1, l14);
                                                                                                             {
-                                                                                                                const u64 t505 = load64(l10);
-                                                                                                                l1 = t505;
-                                                                                                                if (l1 <= l12) {
-                                                                                                                    l10 = l20 + 24ull;
-                                                                                                                    const u32 t507 = load8(l10);
-                                                                                                                    if (t507 == 1u) goto L472;
-                                                                                                                    store16(l10, (u16)24065u);
-                                                                                                                    goto L504;
+                                                                                                                const u64 t520 = load64(l11);
+                                                                                                                l1 = t520;
+                                                                                                                if (l1 <= l14) {
+                                                                                                                    l11 = l13 + 24ull;
+                                                                                                                    const u32 t522 = load8(l11);
+                                                                                                                    if (t522 == 1u) goto L487;
+                                                                                                                    store16(l11, (u16)24065u);
+                                                                                                                    goto L519;
                                                                                                                 }
-                                                                                                                const u64 t508 = load64(l20);
-                                                                                                                store8(t508 + l12, (u8)94u);
-                                                                                                                l12 = l20 + 16ull;
-                                                                                                                const u64 t509 = load64(l12);
-                                                                                                                const u64 t510 = l12;
-                                                                                                                l12 = t509 + 1ull;
-                                                                                                                store64(t510, l12);
-                                                                                                                const u64 t511 = load64(l20 + 8ull);
-                                                                                                                l1 = t511;
+                                                                                                                const u64 t523 = load64(l13);
+                                                                                                                store8(t523 + l14, (u8)94u);
+                                                                                                                l14 = l13 + 16ull;
+                                                                                                                const u64 t524 = load64(l14);
+                                                                                                                const u64 t525 = l14;
+                                                                                                                l14 = t524 + 1ull;
+                                                                                                                store64(t525, l14);
+                                                                                                                const u64 t526 = load64(l13 + 8ull);
+                                                                                                                l1 = t526;
                                                                                                             }
-                                                                                                            L504:;
+                                                                                                            L519:;
                                                                                                             {
-                                                                                                                if (l1 <= l12) {
-                                                                                                                    l12 = l20 + 24ull;
-                                                                                                                    const u32 t514 = load8(l12);
-                                                                                                                    if (t514 == 1u) goto L472;
-                                                                                                                    store16(l12, (u16)15873u);
-                                                                                                                    goto L512;
+                                                                                                                if (l1 <= l14) {
+                                                                                                                    l14 = l13 + 24ull;
+                                                                                                                    const u32 t529 = load8(l14);
+                                                                                                                    if (t529 == 1u) goto L487;
+                                                                                                                    store16(l14, (u16)15873u);
+                                                                                                                    goto L527;
                                                                                                                 }
-                                                                                                                const u64 t515 = load64(l20);
-                                                                                                                store8(t515 + l12, (u8)62u);
-                                                                                                                l12 = l20 + 16ull;
-                                                                                                                const u64 t516 = load64(l12);
-                                                                                                                store64(l12, t516 + 1ull);
+                                                                                                                const u64 t530 = load64(l13);
+                                                                                                                store8(t530 + l14, (u8)62u);
+                                                                                                                l14 = l13 + 16ull;
+                                                                                                                const u64 t531 = load64(l14);
+                                                                                                                store64(l14, t531 + 1ull);
                                                                                                             }
-                                                                                                            L512:;
-                                                                                                            const u32 t517 = core_display_show_items2(stack, l11 + 40ull, l35, (u32)l15, l20);
-                                                                                                            if (t517 & 255u) goto L471;
+                                                                                                            L527:;
+                                                                                                            const u32 t532 = core_display_show_items2(stack, l2 + 40ull, l34, (u32)l10, l13);
+                                                                                                            if (t532 & 255u) goto L486;
                                                                                                         }
-                                                                                                        L473:;
-                                                                                                        l33 = 3u;
-                                                                                                        v470 = 0u; goto L470;
+                                                                                                        L488:;
+                                                                                                        l32 = 3u;
+                                                                                                        v485 = 0u; goto L485;
                                                                                                     }
-                                                                                                    L472:;
-                                                                                                    l15 = l20 + 32ull;
-                                                                                                    const u64 t518 = load64(l15);
-                                                                                                    store64(l15, t518 + 1ull);
+                                                                                                    L487:;
+                                                                                                    l10 = l13 + 32ull;
+                                                                                                    const u64 t533 = load64(l10);
+                                                                                                    store64(l10, t533 + 1ull);
                                                                                                 }
-                                                                                                L471:;
-                                                                                                l33 = 4u;
-                                                                                                v470 = 5u;
+                                                                                                L486:;
+                                                                                                l32 = 4u;
+                                                                                                v485 = 5u;
                                                                                             }
-                                                                                            L470:;
-                                                                                            l35 = v470;
-                                                                                            store8(l13, (u8)l33);
-                                                                                            store32(l13 + 4ull, 0u);
-                                                                                            store8(l13 + 1ull, (u8)l35);
-                                                                                            stack = l11 + 80ull;
-                                                                                            goto L415;
+                                                                                            L485:;
+                                                                                            l34 = v485;
+                                                                                            store8(l12, (u8)l32);
+                                                                                            store32(l12 + 4ull, 0u);
+                                                                                            store8(l12 + 1ull, (u8)l34);
+                                                                                            stack = l2 + 80ull;
+                                                                                            goto L430;
                                                                                         }
-                                                                                        L417:;
-                                                                                        const u32 t519 = load8(l9 + 210u);
-                                                                                        l44 = t519;
-                                                                                        l38 = 0u;
-                                                                                        store16(l29, (u16)0u);
-                                                                                        store8(l29 + 2u, (u8)0u);
-                                                                                        store8(l9 + 180u, (u8)l30);
-                                                                                        store32(l9 + 176u, l43);
-                                                                                        store32(l9 + 172u, l37);
-                                                                                        store32(l9 + 168u, l40);
+                                                                                        L432:;
+                                                                                        const u32 t534 = load8(l9 + 210u);
+                                                                                        l40 = t534;
+                                                                                        l35 = 0u;
+                                                                                        store16(l28, (u16)0u);
+                                                                                        store8(l28 + 2u, (u8)0u);
+                                                                                        store8(l9 + 180u, (u8)l32);
+                                                                                        store32(l9 + 176u, l39);
+                                                                                        store32(l9 + 172u, l36);
+                                                                                        store32(l9 + 168u, l38);
                                                                                         store64(l9 + 288u, 0ull);
                                                                                         {
-                                                                                            if ((l36 - 5u) < 20u) goto L520;
-                                                                                            l30 = 0u;
+                                                                                            if ((l34 - 5u) < 20u) goto L535;
+                                                                                            l32 = 0u;
                                                                                             {
-                                                                                                switch (l36 - 3u) {
-                                                                                                case 0: goto L520;
-                                                                                                case 1: goto L386;
-                                                                                                default: goto L521;
+                                                                                                switch (l34 - 3u) {
+                                                                                                case 0: goto L535;
+                                                                                                case 1: goto L401;
+                                                                                                default: goto L536;
                                                                                                 }
                                                                                             }
-                                                                                            L521:;
-                                                                                            core_input_output_change_meta(stack, l9 + 288ull, l8, l9 + 168ull, l26);
-                                                                                            const u32 t522 = load32(l9 + 292u);
-                                                                                            l38 = t522;
-                                                                                            const u32 t523 = load8(l9 + 289u);
-                                                                                            l30 = t523;
-                                                                                            const u32 t524 = load8(l9 + 288u);
-                                                                                            l36 = t524;
-                                                                                            goto L386;
+                                                                                            L536:;
+                                                                                            core_input_output_change_meta(stack, l9 + 288ull, l8, l9 + 168ull, l25);
+                                                                                            const u32 t537 = load32(l9 + 292u);
+                                                                                            l35 = t537;
+                                                                                            const u32 t538 = load8(l9 + 289u);
+                                                                                            l32 = t538;
+                                                                                            const u32 t539 = load8(l9 + 288u);
+                                                                                            l34 = t539;
+                                                                                            goto L401;
                                                                                         }
-                                                                                        L520:;
+                                                                                        L535:;
                                                                                         store64(l9 + 296u, 0ull);
                                                                                         {
                                                                                             {
@@ -24064,505 +24195,505 @@ static void engine_turn(u64 stack, u64 l0, u64 l1, u64 l2, u64 l3, u64 l4, u64 l
                                                                                                                                                             {
                                                                                                                                                                 {
                                                                                                                                                                     {
-                                                                                                                                                                        switch (l36 - 5u) {
-                                                                                                                                                                        case 0: goto L544;
-                                                                                                                                                                        case 1: goto L543;
-                                                                                                                                                                        case 2: goto L542;
-                                                                                                                                                                        case 3: goto L541;
-                                                                                                                                                                        case 4: goto L540;
-                                                                                                                                                                        case 6: goto L539;
-                                                                                                                                                                        case 7: goto L538;
-                                                                                                                                                                        case 8: goto L537;
-                                                                                                                                                                        case 9: goto L536;
-                                                                                                                                                                        case 10: goto L535;
-                                                                                                                                                                        case 11: goto L534;
-                                                                                                                                                                        case 12: goto L533;
-                                                                                                                                                                        case 13: goto L532;
-                                                                                                                                                                        case 14: goto L531;
-                                                                                                                                                                        case 15: goto L530;
-                                                                                                                                                                        case 16: goto L529;
-                                                                                                                                                                        case 17: goto L528;
-                                                                                                                                                                        case 18: goto L527;
-                                                                                                                                                                        case 19: goto L526;
-                                                                                                                                                                        default: goto L525;
+                                                                                                                                                                        switch (l34 - 5u) {
+                                                                                                                                                                        case 0: goto L559;
+                                                                                                                                                                        case 1: goto L558;
+                                                                                                                                                                        case 2: goto L557;
+                                                                                                                                                                        case 3: goto L556;
+                                                                                                                                                                        case 4: goto L555;
+                                                                                                                                                                        case 6: goto L554;
+                                                                                                                                                                        case 7: goto L553;
+                                                                                                                                                                        case 8: goto L552;
+                                                                                                                                                                        case 9: goto L551;
+                                                                                                                                                                        case 10: goto L550;
+                                                                                                                                                                        case 11: goto L549;
+                                                                                                                                                                        case 12: goto L548;
+                                                                                                                                                                        case 13: goto L547;
+                                                                                                                                                                        case 14: goto L546;
+                                                                                                                                                                        case 15: goto L545;
+                                                                                                                                                                        case 16: goto L544;
+                                                                                                                                                                        case 17: goto L543;
+                                                                                                                                                                        case 18: goto L542;
+                                                                                                                                                                        case 19: goto L541;
+                                                                                                                                                                        default: goto L540;
                                                                                                                                                                         }
                                                                                                                                                                     }
-                                                                                                                                                                    L544:;
+                                                                                                                                                                    L559:;
                                                                                                                                                                     functions_form_calls_define_string(stack, l9 + 296ull, l8, l9 + 168ull);
-                                                                                                                                                                    goto L387;
+                                                                                                                                                                    goto L402;
                                                                                                                                                                 }
-                                                                                                                                                                L543:;
+                                                                                                                                                                L558:;
                                                                                                                                                                 functions_form_calls_segment_string(stack, l9 + 296ull, l8, l9 + 168ull);
-                                                                                                                                                                goto L387;
+                                                                                                                                                                goto L402;
                                                                                                                                                             }
-                                                                                                                                                            L542:;
+                                                                                                                                                            L557:;
                                                                                                                                                             functions_form_calls_delete_definition(stack, l9 + 296ull, l8, l9 + 168ull);
-                                                                                                                                                            goto L387;
+                                                                                                                                                            goto L402;
                                                                                                                                                         }
-                                                                                                                                                        L541:;
+                                                                                                                                                        L556:;
                                                                                                                                                         functions_form_calls_delete_all(stack, l9 + 296ull, l8);
-                                                                                                                                                        goto L387;
-                                                                                                                                                    }
-                                                                                                                                                    L540:;
-                                                                                                                                                    functions_form_calls_list_names(stack, l9 + 296ull, l8, l9 + 168ull);
-                                                                                                                                                    goto L387;
-                                                                                                                                                }
-                                                                                                                                                L539:;
-                                                                                                                                                const u64 t545 = load64(l9 + 176u);
-                                                                                                                                                store64(l9 + 216u, t545);
-                                                                                                                                                const u64 t546 = load64(l9 + 168u);
-                                                                                                                                                store64(l9 + 208u, t546);
-                                                                                                                                                const u32 t547 = load8(l9 + 220u);
-                                                                                                                                                l36 = t547;
-                                                                                                                                                functions_arguments_Arguments_next(stack, l9 + 24ull, l9 + 208ull, l8);
-                                                                                                                                                const u32 t548 = load32(l9 + 28u);
-                                                                                                                                                l30 = t548;
-                                                                                                                                                const u32 t549 = load32(l9 + 24u);
-                                                                                                                                                l38 = t549;
-                                                                                                                                                u32 v550;
-                                                                                                                                                {
-                                                                                                                                                    const u32 t551 = load32(l8 + 40ull);
-                                                                                                                                                    l43 = t551;
-                                                                                                                                                    if (l43 >= 8u) {
-                                                                                                                                                        forms_work_Work_find_among_more(stack, l9 + 8ull, l8, l38, l30);
-                                                                                                                                                        const u32 t553 = load32(l9 + 12u);
-                                                                                                                                                        l38 = t553;
-                                                                                                                                                        const u32 t554 = load8(l9 + 8u);
-                                                                                                                                                        v550 = t554; goto L550;
-                                                                                                                                                    }
-                                                                                                                                                    {
-                                                                                                                                                        if (l43 == 0) goto L555;
-                                                                                                                                                        const u64 t556 = load32(l12 + 4ull);
-                                                                                                                                                        l17 = (u64)(l30 + l32);
-                                                                                                                                                        l2 = (u64)(l32 + l38);
-                                                                                                                                                        if (t556 != (l17 - l2)) goto L555;
-                                                                                                                                                        l10 = 17ull - (l2 << 3);
-                                                                                                                                                        l2 = (l17 ^ 18446744073709551615ull) + l2;
-                                                                                                                                                        l12 = l12 + (l17 << 3);
-                                                                                                                                                        L557:;
-                                                                                                                                                        {
-                                                                                                                                                            l2 = l2 + 1ull;
-                                                                                                                                                            if (l2 == 0) goto L390;
-                                                                                                                                                            l17 = l12 - 7ull;
-                                                                                                                                                            l1 = l10 + l12;
-                                                                                                                                                            l12 = l12 - 8ull;
-                                                                                                                                                            const u32 t558 = load8(l1);
-                                                                                                                                                            const u32 t559 = load8(l17);
-                                                                                                                                                            if (t558 == t559) goto L557;
-                                                                                                                                                        }
+                                                                                                                                                        goto L402;
                                                                                                                                                     }
                                                                                                                                                     L555:;
-                                                                                                                                                    forms_work_Work_find_among_few(stack, l9 + 16ull, l8, l38, l30);
-                                                                                                                                                    const u32 t560 = load32(l9 + 20u);
-                                                                                                                                                    l38 = t560;
-                                                                                                                                                    const u32 t561 = load8(l9 + 16u);
-                                                                                                                                                    v550 = t561;
+                                                                                                                                                    functions_form_calls_list_names(stack, l9 + 296ull, l8, l9 + 168ull);
+                                                                                                                                                    goto L402;
                                                                                                                                                 }
-                                                                                                                                                L550:;
-                                                                                                                                                if ((v550 & 255u) != 1u) goto L389;
-                                                                                                                                                goto L388;
+                                                                                                                                                L554:;
+                                                                                                                                                const u64 t560 = load64(l9 + 176u);
+                                                                                                                                                store64(l9 + 216u, t560);
+                                                                                                                                                const u64 t561 = load64(l9 + 168u);
+                                                                                                                                                store64(l9 + 208u, t561);
+                                                                                                                                                const u32 t562 = load8(l9 + 220u);
+                                                                                                                                                l34 = t562;
+                                                                                                                                                functions_arguments_Arguments_next(stack, l9 + 24ull, l9 + 208ull, l8);
+                                                                                                                                                const u32 t563 = load32(l9 + 28u);
+                                                                                                                                                l32 = t563;
+                                                                                                                                                const u32 t564 = load32(l9 + 24u);
+                                                                                                                                                l35 = t564;
+                                                                                                                                                u32 v565;
+                                                                                                                                                {
+                                                                                                                                                    const u32 t566 = load32(l8 + 40ull);
+                                                                                                                                                    l39 = t566;
+                                                                                                                                                    if (l39 >= 8u) {
+                                                                                                                                                        forms_work_Work_find_among_more(stack, l9 + 8ull, l8, l35, l32);
+                                                                                                                                                        const u32 t568 = load32(l9 + 12u);
+                                                                                                                                                        l35 = t568;
+                                                                                                                                                        const u32 t569 = load8(l9 + 8u);
+                                                                                                                                                        v565 = t569; goto L565;
+                                                                                                                                                    }
+                                                                                                                                                    {
+                                                                                                                                                        if (l39 == 0) goto L570;
+                                                                                                                                                        const u64 t571 = load32(l12 + 4ull);
+                                                                                                                                                        l16 = (u64)(l31 + l32);
+                                                                                                                                                        l2 = (u64)(l31 + l35);
+                                                                                                                                                        if (t571 != (l16 - l2)) goto L570;
+                                                                                                                                                        l14 = 17ull - (l2 << 3);
+                                                                                                                                                        l2 = (l16 ^ 18446744073709551615ull) + l2;
+                                                                                                                                                        l12 = l12 + (l16 << 3);
+                                                                                                                                                        L572:;
+                                                                                                                                                        {
+                                                                                                                                                            l2 = l2 + 1ull;
+                                                                                                                                                            if (l2 == 0) goto L405;
+                                                                                                                                                            l16 = l12 - 7ull;
+                                                                                                                                                            l1 = l12 + l14;
+                                                                                                                                                            l12 = l12 - 8ull;
+                                                                                                                                                            const u32 t573 = load8(l1);
+                                                                                                                                                            const u32 t574 = load8(l16);
+                                                                                                                                                            if (t573 == t574) goto L572;
+                                                                                                                                                        }
+                                                                                                                                                    }
+                                                                                                                                                    L570:;
+                                                                                                                                                    forms_work_Work_find_among_few(stack, l9 + 16ull, l8, l35, l32);
+                                                                                                                                                    const u32 t575 = load32(l9 + 20u);
+                                                                                                                                                    l35 = t575;
+                                                                                                                                                    const u32 t576 = load8(l9 + 16u);
+                                                                                                                                                    v565 = t576;
+                                                                                                                                                }
+                                                                                                                                                L565:;
+                                                                                                                                                if ((v565 & 255u) != 1u) goto L404;
+                                                                                                                                                goto L403;
                                                                                                                                             }
-                                                                                                                                            L538:;
+                                                                                                                                            L553:;
                                                                                                                                             functions_form_parts_call_segment(stack, l9 + 296ull, l8, l9 + 168ull);
-                                                                                                                                            goto L387;
+                                                                                                                                            goto L402;
                                                                                                                                         }
-                                                                                                                                        L537:;
+                                                                                                                                        L552:;
                                                                                                                                         functions_form_parts_call_character(stack, l9 + 296ull, l8, l9 + 168ull);
-                                                                                                                                        goto L387;
+                                                                                                                                        goto L402;
                                                                                                                                     }
-                                                                                                                                    L536:;
+                                                                                                                                    L551:;
                                                                                                                                     functions_form_parts_call_number(stack, l9 + 296ull, l8, l9 + 168ull);
-                                                                                                                                    goto L387;
+                                                                                                                                    goto L402;
                                                                                                                                 }
-                                                                                                                                L535:;
+                                                                                                                                L550:;
                                                                                                                                 functions_form_parts_initial_part(stack, l9 + 296ull, l8, l9 + 168ull);
-                                                                                                                                goto L387;
+                                                                                                                                goto L402;
                                                                                                                             }
-                                                                                                                            L534:;
+                                                                                                                            L549:;
                                                                                                                             functions_form_parts_call_restore(stack, l9 + 296ull, l8, l9 + 168ull);
-                                                                                                                            goto L387;
+                                                                                                                            goto L402;
                                                                                                                         }
-                                                                                                                        L533:;
+                                                                                                                        L548:;
                                                                                                                         functions_comparing_equal(stack, l9 + 296ull, l8, l9 + 168ull);
-                                                                                                                        goto L387;
+                                                                                                                        goto L402;
                                                                                                                     }
-                                                                                                                    L532:;
+                                                                                                                    L547:;
                                                                                                                     functions_comparing_greater(stack, l9 + 296ull, l8, l9 + 168ull);
-                                                                                                                    goto L387;
+                                                                                                                    goto L402;
                                                                                                                 }
-                                                                                                                L531:;
-                                                                                                                functions_arithmetic_arithmetic(stack, l9 + 296ull, l8, l44, l9 + 168ull);
-                                                                                                                goto L387;
+                                                                                                                L546:;
+                                                                                                                functions_arithmetic_arithmetic(stack, l9 + 296ull, l8, l40, l9 + 168ull);
+                                                                                                                goto L402;
                                                                                                             }
-                                                                                                            L530:;
+                                                                                                            L545:;
                                                                                                             functions_bit_strings_union(stack, l9 + 296ull, l8, l9 + 168ull);
-                                                                                                            goto L387;
+                                                                                                            goto L402;
                                                                                                         }
-                                                                                                        L529:;
+                                                                                                        L544:;
                                                                                                         functions_bit_strings_intersection(stack, l9 + 296ull, l8, l9 + 168ull);
-                                                                                                        goto L387;
+                                                                                                        goto L402;
                                                                                                     }
-                                                                                                    L528:;
+                                                                                                    L543:;
                                                                                                     functions_bit_strings_complement(stack, l9 + 296ull, l8, l9 + 168ull);
-                                                                                                    goto L387;
+                                                                                                    goto L402;
                                                                                                 }
-                                                                                                L527:;
+                                                                                                L542:;
                                                                                                 functions_bit_strings_shift(stack, l9 + 296ull, l8, l9 + 168ull);
-                                                                                                goto L387;
+                                                                                                goto L402;
                                                                                             }
-                                                                                            L526:;
+                                                                                            L541:;
                                                                                             functions_bit_strings_rotate(stack, l9 + 296ull, l8, l9 + 168ull);
-                                                                                            goto L387;
+                                                                                            goto L402;
                                                                                         }
-                                                                                        L525:;
+                                                                                        L540:;
                                                                                         store8(l9 + 296u, (u8)1u);
-                                                                                        goto L387;
+                                                                                        goto L402;
                                                                                     }
-                                                                                    L416:;
-                                                                                    const u32 t562 = load8(l8 + 56ull);
-                                                                                    core_input_output_read_string(stack, l9 + 280ull, l8, t562, l9 + 112ull);
+                                                                                    L431:;
+                                                                                    const u32 t577 = load8(l8 + 56ull);
+                                                                                    core_input_output_read_string(stack, l9 + 280ull, l8, t577, l9 + 112ull);
                                                                                 }
-                                                                                L415:;
-                                                                                const u32 t563 = load32(l9 + 284u);
-                                                                                l38 = t563;
-                                                                                const u32 t564 = load8(l9 + 281u);
-                                                                                l30 = t564;
-                                                                                const u32 t565 = load8(l9 + 280u);
-                                                                                l36 = t565;
-                                                                                goto L386;
+                                                                                L430:;
+                                                                                const u32 t578 = load32(l9 + 284u);
+                                                                                l35 = t578;
+                                                                                const u32 t579 = load8(l9 + 281u);
+                                                                                l32 = t579;
+                                                                                const u32 t580 = load8(l9 + 280u);
+                                                                                l34 = t580;
+                                                                                goto L401;
                                                                             }
-                                                                            L411:;
-                                                                            l38 = 0u;
-                                                                            goto L385;
+                                                                            L426:;
+                                                                            l35 = 0u;
+                                                                            goto L400;
                                                                         }
-                                                                        const u32 t566 = load32(l12);
-                                                                        store32(l5, t566);
+                                                                        const u32 t581 = load32(l12);
+                                                                        store32(l5, t581);
                                                                         l12 = l8 + 72ull;
-                                                                        const u64 t567 = load64(l12);
-                                                                        store64(l12, t567 + 1ull);
+                                                                        const u64 t582 = load64(l12);
+                                                                        store64(l12, t582 + 1ull);
                                                                         l12 = l8 + 80ull;
-                                                                        l32 = (l30 + l34) + l32;
-                                                                        const u32 t568 = load32(l12);
-                                                                        l30 = t568;
-                                                                        store32(l12, (l30 < l32) ? l32 : l30);
-                                                                        l30 = 0u;
+                                                                        l31 = (l32 + l33) + l31;
+                                                                        const u32 t583 = load32(l12);
+                                                                        l32 = t583;
+                                                                        store32(l12, (l31 > l32) ? l31 : l32);
                                                                         l32 = 0u;
-                                                                        goto L370;
+                                                                        l31 = 0u;
+                                                                        goto L385;
                                                                     }
-                                                                    L390:;
+                                                                    L405:;
                                                                     store64(l8 + 44ull, 0ull);
-                                                                    l38 = 0u;
-                                                                    goto L388;
+                                                                    l35 = 0u;
+                                                                    goto L403;
                                                                 }
-                                                                L389:;
+                                                                L404:;
                                                                 store32(l9 + 300u, 0u);
                                                                 store16(l9 + 296u, (u16)1u);
-                                                                goto L387;
+                                                                goto L402;
                                                             }
-                                                            L388:;
-                                                            const u32 t569 = load32(l9 + 212u);
-                                                            l30 = t569;
-                                                            const u32 t570 = load32(l9 + 208u);
-                                                            l43 = t570;
+                                                            L403:;
+                                                            const u32 t584 = load32(l9 + 212u);
+                                                            l32 = t584;
+                                                            const u32 t585 = load32(l9 + 208u);
+                                                            l39 = t585;
                                                             {
                                                                 {
                                                                     {
                                                                         {
                                                                             {
-                                                                                if ((l36 & 1u) == 0) goto L575;
-                                                                                if (l30 >= l43) goto L575;
-                                                                                const u32 t576 = forms_work_Work_place_of(stack, l8, l38);
-                                                                                l40 = t576;
-                                                                                const u64 t577 = load64(l8);
-                                                                                l17 = t577;
-                                                                                l12 = l17 + ((u64)l40 << 3);
-                                                                                const u32 t578 = load32(l12 + 12ull);
-                                                                                l33 = t578;
-                                                                                const u32 t579 = load32(l12 + 20ull);
-                                                                                l44 = t579;
-                                                                                l36 = l33 - l44;
-                                                                                if (l36 == 0) {
-                                                                                    l36 = 0u;
-                                                                                    goto L571;
+                                                                                if ((l34 & 1u) == 0) goto L590;
+                                                                                if (l32 >= l39) goto L590;
+                                                                                const u32 t591 = forms_work_Work_place_of(stack, l8, l35);
+                                                                                l38 = t591;
+                                                                                const u64 t592 = load64(l8);
+                                                                                l16 = t592;
+                                                                                l12 = l16 + ((u64)l38 << 3);
+                                                                                const u32 t593 = load32(l12 + 12ull);
+                                                                                l44 = t593;
+                                                                                const u32 t594 = load32(l12 + 20ull);
+                                                                                l40 = t594;
+                                                                                l34 = l44 - l40;
+                                                                                if (l34 == 0) {
+                                                                                    l34 = 0u;
+                                                                                    goto L586;
                                                                                 }
-                                                                                const u32 t581 = load32(l12 + 4ull);
-                                                                                l35 = (l40 + t581) + 3u;
-                                                                                l40 = l44 + l35;
+                                                                                const u32 t596 = load32(l12 + 4ull);
+                                                                                l45 = (l38 + t596) + 3u;
+                                                                                l38 = l40 + l45;
                                                                                 {
-                                                                                    const u32 t583 = load32(l8 + 28ull);
-                                                                                    l44 = t583;
-                                                                                    const u32 t584 = load32(l8 + 20ull);
-                                                                                    const u32 t585 = load32(l8 + 24ull);
-                                                                                    l41 = t585;
-                                                                                    const u32 t586 = load32(l8 + 16ull);
-                                                                                    if (l36 <= (l44 - (t584 + (l41 + t586)))) {
-                                                                                        l1 = (u64)l36;
-                                                                                        l10 = (u64)l40;
+                                                                                    const u32 t598 = load32(l8 + 28ull);
+                                                                                    l40 = t598;
+                                                                                    const u32 t599 = load32(l8 + 20ull);
+                                                                                    const u32 t600 = load32(l8 + 24ull);
+                                                                                    l41 = t600;
+                                                                                    const u32 t601 = load32(l8 + 16ull);
+                                                                                    if (l34 <= (l40 - (t599 + (l41 + t601)))) {
+                                                                                        l1 = (u64)l34;
+                                                                                        l14 = (u64)l38;
                                                                                         {
                                                                                             {
-                                                                                                if (l36 >= 8u) {
-                                                                                                    if (l36 == 8u) goto L588;
-                                                                                                    l12 = l17 + (l10 << 3);
+                                                                                                if (l34 >= 8u) {
+                                                                                                    if (l34 == 8u) goto L603;
+                                                                                                    l12 = l16 + (l14 << 3);
                                                                                                     l2 = l1;
-                                                                                                    goto L589;
+                                                                                                    goto L604;
                                                                                                 }
-                                                                                                if (l36 >= 4u) {
-                                                                                                    l12 = l17 + (l10 << 3);
-                                                                                                    const u32 t592 = load8(l12 + 24ull);
-                                                                                                    const u32 t593 = load8(l12 + 16ull);
-                                                                                                    const u32 t594 = load8(l12 + 8ull);
-                                                                                                    const u32 t595 = load8(l12);
-                                                                                                    if (((t592 + t593) | (t594 + t595)) & 255u) goto L575;
-                                                                                                    l2 = l17 + ((l1 + l10) << 3);
-                                                                                                    const u32 t596 = load8(l2 - 8ull);
-                                                                                                    const u32 t597 = load8(l2 - 16ull);
-                                                                                                    const u32 t598 = load8(l2 - 24ull);
+                                                                                                if (l34 >= 4u) {
+                                                                                                    l12 = l16 + (l14 << 3);
+                                                                                                    const u32 t607 = load8(l12 + 24ull);
+                                                                                                    const u32 t608 = load8(l12 + 16ull);
+                                                                                                    const u32 t609 = load8(l12 + 8ull);
+                                                                                                    const u32 t610 = load8(l12);
+                                                                                                    if (((t607 + t608) | (t609 + t610)) & 255u) goto L590;
+                                                                                                    l2 = l16 + ((l1 + l14) << 3);
+                                                                                                    const u32 t611 = load8(l2 - 8ull);
+                                                                                                    const u32 t612 = load8(l2 - 16ull);
+                                                                                                    const u32 t613 = load8(l2 - 24ull);
                                                                                                     l2 = l2 - 32ull;
-                                                                                                    const u32 t599 = load8(l2);
-                                                                                                    if (((t596 + t597) | (t598 + t599)) & 255u) goto L575;
-                                                                                                    l30 = l36 + l41;
-                                                                                                    l10 = (u64)(l44 - l30);
-                                                                                                    core_slice_edits_slice_T_copy_from_slice(stack, l17 + (l10 << 3), l12, 4ull);
-                                                                                                    core_slice_edits_slice_T_copy_from_slice(stack, (((l1 + l10) << 3) + l17) - 32ull, l2, 4ull);
-                                                                                                    goto L572;
+                                                                                                    const u32 t614 = load8(l2);
+                                                                                                    if (((t611 + t612) | (t613 + t614)) & 255u) goto L590;
+                                                                                                    l32 = l34 + l41;
+                                                                                                    l14 = (u64)(l40 - l32);
+                                                                                                    core_slice_edits_slice_T_copy_from_slice(stack, l16 + (l14 << 3), l12, 4ull);
+                                                                                                    core_slice_edits_slice_T_copy_from_slice(stack, (((l1 + l14) << 3) + l16) - 32ull, l2, 4ull);
+                                                                                                    goto L587;
                                                                                                 }
-                                                                                                l12 = l17 + (l10 << 3);
-                                                                                                const u32 t600 = load8(l12);
-                                                                                                l40 = t600;
-                                                                                                if (l36 == 1u) goto L582;
-                                                                                                const u32 t601 = load8(l12 + 8ull);
-                                                                                                if (t601 | (l40 & 255u)) goto L575;
-                                                                                                l2 = l17 + ((l1 + l10) << 3);
-                                                                                                const u32 t602 = load8(l2 - 8ull);
+                                                                                                l12 = l16 + (l14 << 3);
+                                                                                                const u32 t615 = load8(l12);
+                                                                                                l38 = t615;
+                                                                                                if (l34 == 1u) goto L597;
+                                                                                                const u32 t616 = load8(l12 + 8ull);
+                                                                                                if (t616 | (l38 & 255u)) goto L590;
+                                                                                                l2 = l16 + ((l1 + l14) << 3);
+                                                                                                const u32 t617 = load8(l2 - 8ull);
                                                                                                 l2 = l2 - 16ull;
-                                                                                                const u32 t603 = load8(l2);
-                                                                                                if (t602 | t603) goto L575;
-                                                                                                l30 = l36 + l41;
-                                                                                                l10 = (u64)(l44 - l30);
-                                                                                                core_slice_edits_slice_T_copy_from_slice(stack, l17 + (l10 << 3), l12, 2ull);
-                                                                                                core_slice_edits_slice_T_copy_from_slice(stack, (((l1 + l10) << 3) + l17) - 16ull, l2, 2ull);
-                                                                                                goto L572;
+                                                                                                const u32 t618 = load8(l2);
+                                                                                                if (t617 | t618) goto L590;
+                                                                                                l32 = l34 + l41;
+                                                                                                l14 = (u64)(l40 - l32);
+                                                                                                core_slice_edits_slice_T_copy_from_slice(stack, l16 + (l14 << 3), l12, 2ull);
+                                                                                                core_slice_edits_slice_T_copy_from_slice(stack, (((l1 + l14) << 3) + l16) - 16ull, l2, 2ull);
+                                                                                                goto L587;
                                                                                             }
-                                                                                            L589:;
                                                                                             L604:;
+                                                                                            L619:;
                                                                                             {
-                                                                                                const u32 t605 = load8(l12 + 56ull);
-                                                                                                const u32 t606 = load8(l12 + 48ull);
-                                                                                                const u32 t607 = load8(l12 + 40ull);
-                                                                                                const u32 t608 = load8(l12 + 32ull);
-                                                                                                const u32 t609 = load8(l12 + 24ull);
-                                                                                                const u32 t610 = load8(l12 + 16ull);
-                                                                                                const u32 t611 = load8(l12 + 8ull);
-                                                                                                const u32 t612 = load8(l12);
-                                                                                                if (t605 | ((t606 + (t607 + (t608 + (t609 + (t610 + (t611 + t612)))))) & 255u)) goto L575;
+                                                                                                const u32 t620 = load8(l12 + 56ull);
+                                                                                                const u32 t621 = load8(l12 + 48ull);
+                                                                                                const u32 t622 = load8(l12 + 40ull);
+                                                                                                const u32 t623 = load8(l12 + 32ull);
+                                                                                                const u32 t624 = load8(l12 + 24ull);
+                                                                                                const u32 t625 = load8(l12 + 16ull);
+                                                                                                const u32 t626 = load8(l12 + 8ull);
+                                                                                                const u32 t627 = load8(l12);
+                                                                                                if (t620 | ((t621 + (t622 + (t623 + (t624 + (t625 + (t626 + t627)))))) & 255u)) goto L590;
                                                                                                 l12 = l12 + 64ull;
                                                                                                 l2 = l2 - 8ull;
-                                                                                                if (l2 >= 9ull) goto L604;
+                                                                                                if (l2 >= 9ull) goto L619;
                                                                                             }
                                                                                         }
-                                                                                        L588:;
-                                                                                        l2 = l1 + l10;
-                                                                                        l12 = l17 + (l2 << 3);
-                                                                                        const u32 t613 = load8(l12 - 56ull);
-                                                                                        const u32 t614 = load8(l12 - 64ull);
-                                                                                        const u32 t615 = load8(l12 - 48ull);
-                                                                                        const u32 t616 = load8(l12 - 40ull);
-                                                                                        const u32 t617 = load8(l12 - 32ull);
-                                                                                        const u32 t618 = load8(l12 - 24ull);
-                                                                                        const u32 t619 = load8(l12 - 16ull);
-                                                                                        const u32 t620 = load8(l12 - 8ull);
-                                                                                        if ((((((((t613 + t614) + t615) + t616) + t617) + t618) + t619) & 255u) | t620) goto L575;
-                                                                                        l30 = l36 + l41;
-                                                                                        l13 = (u64)(l44 - l30);
-                                                                                        if (l36 > 24u) goto L574;
-                                                                                        if (l36 != 8u) {
-                                                                                            l14 = l17 - 64ull;
-                                                                                            l12 = l14 + (l2 << 3);
-                                                                                            l2 = l14 + ((l1 + l13) << 3);
-                                                                                            L622:;
+                                                                                        L603:;
+                                                                                        l2 = l1 + l14;
+                                                                                        l12 = l16 + (l2 << 3);
+                                                                                        const u32 t628 = load8(l12 - 56ull);
+                                                                                        const u32 t629 = load8(l12 - 64ull);
+                                                                                        const u32 t630 = load8(l12 - 48ull);
+                                                                                        const u32 t631 = load8(l12 - 40ull);
+                                                                                        const u32 t632 = load8(l12 - 32ull);
+                                                                                        const u32 t633 = load8(l12 - 24ull);
+                                                                                        const u32 t634 = load8(l12 - 16ull);
+                                                                                        const u32 t635 = load8(l12 - 8ull);
+                                                                                        if ((((((((t628 + t629) + t630) + t631) + t632) + t633) + t634) & 255u) | t635) goto L590;
+                                                                                        l32 = l34 + l41;
+                                                                                        l10 = (u64)(l40 - l32);
+                                                                                        if (l34 > 24u) goto L589;
+                                                                                        if (l34 != 8u) {
+                                                                                            l13 = l16 - 64ull;
+                                                                                            l12 = l13 + (l2 << 3);
+                                                                                            l2 = l13 + ((l1 + l10) << 3);
+                                                                                            L637:;
                                                                                             {
                                                                                                 core_slice_edits_slice_T_copy_from_slice(stack, l2, l12, 8ull);
                                                                                                 l12 = l12 - 64ull;
                                                                                                 l2 = l2 - 64ull;
                                                                                                 l1 = l1 - 8ull;
-                                                                                                if (l1 > 8ull) goto L622;
+                                                                                                if (l1 > 8ull) goto L637;
                                                                                             }
                                                                                         }
-                                                                                        core_slice_edits_slice_T_copy_from_slice(stack, l17 + (l13 << 3), l17 + (l10 << 3), 8ull);
-                                                                                        store32(l8 + 24ull, l30);
-                                                                                        goto L571;
+                                                                                        core_slice_edits_slice_T_copy_from_slice(stack, l16 + (l10 << 3), l16 + (l14 << 3), 8ull);
+                                                                                        store32(l8 + 24ull, l32);
+                                                                                        goto L586;
                                                                                     }
-                                                                                    store_item_copies_load_items_over_spare(stack, l9, l8, l40, l33 + l35);
-                                                                                    const u32 t623 = load8(l9);
-                                                                                    if (t623 != 1u) goto L575;
-                                                                                    const u32 t624 = load32(l9 + 4u);
-                                                                                    l36 = t624;
-                                                                                    goto L571;
+                                                                                    store_item_copies_load_items_over_spare(stack, l9, l8, l38, l44 + l45);
+                                                                                    const u32 t638 = load8(l9);
+                                                                                    if (t638 != 1u) goto L590;
+                                                                                    const u32 t639 = load32(l9 + 4u);
+                                                                                    l34 = t639;
+                                                                                    goto L586;
                                                                                 }
-                                                                                L582:;
-                                                                                if ((l40 & 255u) == 0) goto L573;
+                                                                                L597:;
+                                                                                if ((l38 & 255u) == 0) goto L588;
                                                                             }
-                                                                            L575:;
-                                                                            const u32 t625 = forms_work_Work_fill_body(stack, l8, l38, l43, l30);
-                                                                            l30 = t625;
+                                                                            L590:;
+                                                                            const u32 t640 = forms_work_Work_fill_body(stack, l8, l35, l39, l32);
+                                                                            l32 = t640;
                                                                             store32(l9 + 300u, 0u);
                                                                             store8(l9 + 297u, (u8)0u);
-                                                                            store8(l9 + 296u, (u8)l30);
-                                                                            goto L387;
+                                                                            store8(l9 + 296u, (u8)l32);
+                                                                            goto L402;
                                                                         }
-                                                                        L574:;
-                                                                        space_copies_copy_long(stack, l17, l10, l2, l13);
-                                                                        goto L572;
+                                                                        L589:;
+                                                                        space_copies_copy_long(stack, l16, l14, l2, l10);
+                                                                        goto L587;
                                                                     }
-                                                                    L573:;
-                                                                    l30 = l41 + 1u;
-                                                                    l2 = l17 + ((u64)(l44 - l30) << 3);
+                                                                    L588:;
+                                                                    l32 = l41 + 1u;
+                                                                    l2 = l16 + ((u64)(l40 - l32) << 3);
                                                                     store8(l2, (u8)0u);
-                                                                    const u32 t626 = load32(l12 + 4ull);
-                                                                    store32(l2 + 4ull, t626);
-                                                                    const u32 t627 = load8(l12 + 1ull);
-                                                                    store8(l2 + 1ull, (u8)t627);
+                                                                    const u32 t641 = load32(l12 + 4ull);
+                                                                    store32(l2 + 4ull, t641);
+                                                                    const u32 t642 = load8(l12 + 1ull);
+                                                                    store8(l2 + 1ull, (u8)t642);
                                                                 }
-                                                                L572:;
-                                                                store32(l8 + 24ull, l30);
+                                                                L587:;
+                                                                store32(l8 + 24ull, l32);
                                                             }
-                                                            L571:;
-                                                            store32(l9 + 300u, l36);
+                                                            L586:;
+                                                            store32(l9 + 300u, l34);
                                                             store16(l9 + 296u, (u16)2u);
                                                         }
-                                                        L387:;
-                                                        const u32 t628 = load32(l9 + 300u);
-                                                        l38 = t628;
-                                                        const u32 t629 = load8(l9 + 297u);
-                                                        l30 = t629;
-                                                        const u32 t630 = load8(l9 + 296u);
-                                                        l36 = t630;
+                                                        L402:;
+                                                        const u32 t643 = load32(l9 + 300u);
+                                                        l35 = t643;
+                                                        const u32 t644 = load8(l9 + 297u);
+                                                        l32 = t644;
+                                                        const u32 t645 = load8(l9 + 296u);
+                                                        l34 = t645;
                                                     }
-                                                    L386:;
+                                                    L401:;
                                                     {
-                                                        switch ((u32)(((u64)l36 & 255ull)) - 1u) {
-                                                        case 0: goto L631;
-                                                        case 1: goto L385;
-                                                        case 2: goto L385;
-                                                        case 3: goto L382;
-                                                        default: goto L383;
+                                                        switch ((u32)(((u64)l34 & 255ull)) - 1u) {
+                                                        case 0: goto L646;
+                                                        case 1: goto L400;
+                                                        case 2: goto L400;
+                                                        case 3: goto L397;
+                                                        default: goto L398;
                                                         }
                                                     }
-                                                    L631:;
+                                                    L646:;
                                                     l12 = l8 + 20ull;
-                                                    const u32 t632 = load32(l12);
-                                                    l30 = t632;
-                                                    core_delivery_deliver(stack, l8, l34, l37);
-                                                    const u32 t633 = load32(l12);
-                                                    l34 = t633;
-                                                    v384 = l30 + (l32 + l45); goto L384;
+                                                    const u32 t647 = load32(l12);
+                                                    l32 = t647;
+                                                    core_delivery_deliver(stack, l8, l33, l36);
+                                                    const u32 t648 = load32(l12);
+                                                    l33 = t648;
+                                                    v399 = l32 + (l31 + l42); goto L399;
                                                 }
-                                                L385:;
-                                                l37 = l31 + l45;
-                                                const u64 t634 = load64(l8);
-                                                const u64 t635 = load32(l8 + 16ull);
-                                                l12 = t634 + (t635 << 3);
+                                                L400:;
+                                                l36 = l42 + l43;
+                                                const u64 t649 = load64(l8);
+                                                const u64 t650 = load32(l8 + 16ull);
+                                                l12 = t649 + (t650 << 3);
                                                 {
-                                                    const u32 t637 = load32(l8 + 32ull);
-                                                    l32 = t637;
-                                                    if (l39 == l32) {
-                                                        const u32 t639 = load32((l12 + ((l5 << 3) & 34359738360ull)) + 4ull);
-                                                        l32 = t639;
-                                                        l30 = l32 ? (l39 - l32) : 0u;
-                                                        goto L636;
+                                                    const u32 t652 = load32(l8 + 32ull);
+                                                    l31 = t652;
+                                                    if (l37 == l31) {
+                                                        const u32 t654 = load32((l12 + ((l5 << 3) & 34359738360ull)) + 4ull);
+                                                        l31 = t654;
+                                                        l32 = l31 ? (l37 - l31) : 0u;
+                                                        goto L651;
                                                     }
-                                                    if (l32 <= l34) {
-                                                        l30 = l32;
-                                                        goto L636;
+                                                    if (l31 <= l33) {
+                                                        l32 = l31;
+                                                        goto L651;
                                                     }
-                                                    L641:;
+                                                    L656:;
                                                     {
-                                                        const u32 t642 = load32((l12 + ((u64)(l32 - 1u) << 3)) + 4ull);
-                                                        l30 = t642;
-                                                        l32 = l32 - l30;
-                                                        l30 = l30 ? l32 : 0u;
-                                                        if (l30 > l34) goto L641;
+                                                        const u32 t657 = load32((l12 + ((u64)(l31 - 1u) << 3)) + 4ull);
+                                                        l32 = t657;
+                                                        l31 = l31 - l32;
+                                                        l32 = l32 ? l31 : 0u;
+                                                        if (l32 > l33) goto L656;
                                                     }
                                                 }
-                                                L636:;
-                                                store32(l8 + 20ull, l34);
-                                                store32(l8 + 32ull, l30);
-                                                v384 = l37 + l38;
+                                                L651:;
+                                                store32(l8 + 20ull, l33);
+                                                store32(l8 + 32ull, l32);
+                                                v399 = l35 + l36;
                                             }
-                                            L384:;
-                                            l32 = v384;
-                                            store32(l8 + 60ull, l34);
-                                            l34 = 0u;
-                                            l30 = 0u;
-                                            goto L381;
+                                            L399:;
+                                            l31 = v399;
+                                            store32(l8 + 60ull, l33);
+                                            l33 = 0u;
+                                            l32 = 0u;
+                                            goto L396;
                                         }
-                                        L383:;
-                                        const u32 t643 = load32(l8 + 20ull);
-                                        store32(l8 + 60ull, t643);
-                                        l30 = 2u;
-                                        goto L380;
+                                        L398:;
+                                        const u32 t658 = load32(l8 + 20ull);
+                                        store32(l8 + 60ull, t658);
+                                        l32 = 2u;
+                                        goto L395;
                                     }
-                                    L382:;
-                                    const u32 t644 = load32(l8 + 20ull);
-                                    l32 = t644;
-                                    store32(l8 + 60ull, l32);
-                                    const u32 t645 = load32(l8 + 24ull);
-                                    const u32 t646 = load32(l8 + 16ull);
-                                    l32 = t645 + (l32 + t646);
-                                    l34 = 1u;
-                                    l39 = 1u << (l30 & 31);
-                                    if (l39 & 3u) goto L381;
-                                    if (l39 & 12u) goto L380;
+                                    L397:;
+                                    const u32 t659 = load32(l8 + 20ull);
+                                    l31 = t659;
+                                    store32(l8 + 60ull, l31);
+                                    const u32 t660 = load32(l8 + 24ull);
+                                    const u32 t661 = load32(l8 + 16ull);
+                                    l31 = t660 + (l31 + t661);
+                                    l33 = 1u;
+                                    l37 = 1u << (l32 & 31);
+                                    if (l37 & 3u) goto L396;
+                                    if (l37 & 12u) goto L395;
                                     l12 = l8 + 80ull;
-                                    const u32 t647 = load32(l12);
-                                    l34 = t647;
-                                    store32(l12, (l32 > l34) ? l32 : l34);
-                                    goto L380;
+                                    const u32 t662 = load32(l12);
+                                    l33 = t662;
+                                    store32(l12, (l31 > l33) ? l31 : l33);
+                                    goto L395;
                                 }
-                                L381:;
+                                L396:;
                                 l12 = l8 + 72ull;
-                                const u64 t648 = load64(l12);
-                                store64(l12, t648 + 1ull);
+                                const u64 t663 = load64(l12);
+                                store64(l12, t663 + 1ull);
                                 l12 = l8 + 80ull;
-                                const u32 t649 = load32(l12);
-                                l39 = t649;
-                                store32(l12, (l32 > l39) ? l32 : l39);
-                                l32 = 0u;
-                                if (l34 == 0) goto L370;
+                                const u32 t664 = load32(l12);
+                                l37 = t664;
+                                store32(l12, (l31 > l37) ? l31 : l37);
+                                l31 = 0u;
+                                if (l33 == 0) goto L385;
                             }
-                            L380:;
-                            store8(l8 + 85ull, (u8)l30);
-                            l32 = 1u;
+                            L395:;
+                            store8(l8 + 85ull, (u8)l32);
+                            l31 = 1u;
                             store8(l8 + 84ull, (u8)1u);
                         }
-                        L370:;
-                        if ((l32 & 255u) == 0) {
+                        L385:;
+                        if ((l31 & 255u) == 0) {
                             l4 = l4 + 1ull;
                             if (l4 < l7) goto L5;
                             goto L4;
                         }
                     }
-                    l46 = (l30 & 255u) + 1u;
+                    l47 = (l32 & 255u) + 1u;
                 }
                 L4:;
                 l5 = 0ull;
             }
             L3:;
-            const u32 t651 = load32(l8 + 80ull);
-            l32 = t651;
-            const u64 t652 = load64(l8 + 72ull);
-            l8 = t652;
-            const u64 t653 = load64(l9 + 88u);
-            l7 = t653;
-            const u64 t654 = load64(l9 + 120u);
-            l4 = t654;
+            const u32 t666 = load32(l8 + 80ull);
+            l31 = t666;
+            const u64 t667 = load64(l8 + 72ull);
+            l8 = t667;
+            const u64 t668 = load64(l9 + 88u);
+            l7 = t668;
+            const u64 t669 = load64(l9 + 120u);
+            l4 = t669;
             store64(l0 + 32u, l5);
             l4 = l3 - l4;
             store64(l0 + 24u, (l3 < l4) ? 0ull : l4);
             store64(l0 + 16u, l7);
             store64(l0 + 8u, l8);
-            store32(l0 + 4u, l32);
-            store32(l0, l46);
+            store32(l0 + 4u, l31);
+            store32(l0, l47);
             stack = l9 + 304ull;
             goto L1;
         }
