@@ -65,7 +65,7 @@ proofs:
 	    trap 'exit 130' HUP INT TERM && status=0 && \
 	    if [ ! -d crates/trac_c/out ]; then \
 	        tar -cf - --exclude=.git --exclude=out --exclude=./build --exclude=./dist . | tar -xf - -C "$$copy" && \
-	        { setsid nice make -C "$$copy" dist/libtrac.a dist/trac.wasm >"$$copy/said" 2>&1 & }; \
+	        { setsid nice -n 19 make -C "$$copy" dist/libtrac.a dist/trac.wasm >"$$copy/said" 2>&1 & }; \
 	    fi; \
 	    $(RT) . rt ci || status=$$?; [ ! -f "$$copy/said" ] || tail -n +1 -f --pid="$$!" "$$copy/said"; \
 	    [ ! -f "$$copy/dist/trac.wasm" ] || { rm -rf crates/*/out/rlib && \

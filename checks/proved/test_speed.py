@@ -84,7 +84,8 @@ class Speed(unittest.TestCase):
         # takes to try again and again is no more than that
         unlike = calls_at_random([f'k{i:06}' for i in range(500)])
         alike = calls_at_random(names_of_one_slot(500))
-        self.assertLessEqual(self.cost(*alike), 6 * self.cost(*unlike))
+        # (a call in a string of its own takes some 1,400 instructions by the index, and 9,000 by a walk)
+        self.assertLessEqual(self.cost(*alike), 6.6 * self.cost(*unlike))
 
     def test_a_walk_through_a_form(self):
         walk = ')#(ds,R,(#(ds,X,#(cc,T,(#(ds,R))))#(cl,R)))#(cl,R)'
