@@ -4,7 +4,7 @@
  * and what compilers make of it (memcpy, memset) alone.
  *
  * Crates: trac_language trac_space trac_values trac_store trac_forms trac_devices trac_functions trac_laws trac_core trac_events trac_warnings trac_lent trac_views trac_checker trac_c
- * Sources: 33f693d45be8b2a46dd38042b535c0428a1f0a53cc7b6d2128ce151dc63074b6
+ * Sources: adb7c49f58791da5c3ee932e3e9195c7452efe37fd2677be7a8d39af7868a2b2
  * Kit: rattle-kit-13b logic dac8208d650f15bf
  * Tools: wasm-opt version 108, wabt 1.0.32
  */
@@ -22167,10 +22167,8 @@ static void engine_turn(u64 stack, u64 l0, u64 l1, u64 l2, u64 l3, u64 l4, u64 l
                                     l11 = l13;
                                     const u64 t14 = load64(l1 + 8u);
                                     l23 = t14;
+                                    store32(l11 + 68u, l31);
                                     store32(l11 + 64u, 0u);
-                                    store8(l11 + 68u, (u8)0u);
-                                    store32(l11 + 60u, l31);
-                                    store32(l11 + 56u, 0u);
                                     const u32 t15 = load32(l1 + 16u);
                                     l35 = t15;
                                     {
@@ -22200,312 +22198,340 @@ static void engine_turn(u64 stack, u64 l0, u64 l1, u64 l2, u64 l3, u64 l4, u64 l
                                                                     {
                                                                         {
                                                                             {
-                                                                                u32 v33;
                                                                                 {
+                                                                                    u32 v34;
                                                                                     {
-                                                                                        const u32 t35 = load32(l8 + 24ull);
-                                                                                        l33 = t35;
-                                                                                        if (l33) {
-                                                                                            l10 = 1ull;
-                                                                                            {
+                                                                                        {
+                                                                                            const u32 t36 = load32(l8 + 24ull);
+                                                                                            l33 = t36;
+                                                                                            if (l33) {
+                                                                                                l10 = 1ull;
                                                                                                 {
                                                                                                     {
-                                                                                                        l37 = l31 - l33;
-                                                                                                        l13 = (u64)l37;
-                                                                                                        l14 = l1 + (l13 << 3);
-                                                                                                        const u32 t40 = load8(l14 + 1ull);
-                                                                                                        switch (t40 - 9u) {
-                                                                                                        case 0: goto L27;
-                                                                                                        case 1: goto L27;
-                                                                                                        case 4: goto L27;
-                                                                                                        case 26: goto L39;
-                                                                                                        case 31: goto L28;
-                                                                                                        case 32: goto L38;
-                                                                                                        case 35: goto L29;
-                                                                                                        default: goto L37;
-                                                                                                        }
-                                                                                                    }
-                                                                                                    L39:;
-                                                                                                    {
-                                                                                                        l13 = (u64)l31 - l13;
-                                                                                                        if (l13 < 2ull) goto L41;
-                                                                                                        const u32 t42 = load8(l14 + 9ull);
-                                                                                                        l31 = t42;
-                                                                                                        if (l31 == 40u) goto L30;
-                                                                                                        if (l31 != 35u) goto L41;
-                                                                                                        if (l13 == 2ull) goto L41;
-                                                                                                        const u32 t43 = load8(l14 + 17ull);
-                                                                                                        if (t43 != 40u) goto L41;
-                                                                                                        l15 = l8 + 24ull;
-                                                                                                        store32(l15, l33 - 3u);
-                                                                                                        l13 = l8 + 32ull;
-                                                                                                        const u32 t44 = load32(l13);
-                                                                                                        l31 = t44;
-                                                                                                        l14 = l8 + 20ull;
-                                                                                                        const u32 t45 = load32(l14);
-                                                                                                        l33 = t45;
-                                                                                                        l19 = l8 + 16ull;
-                                                                                                        const u32 t46 = load32(l19);
-                                                                                                        l1 = l1 + ((u64)(l33 + t46) << 3);
-                                                                                                        store16(l1, (u16)257u);
-                                                                                                        l33 = l33 + 1u;
-                                                                                                        store32(l1 + 4ull, l31 ? (l33 - l31) : 0u);
-                                                                                                        store32(l14, l33);
-                                                                                                        store32(l13, l33);
-                                                                                                        const u32 t47 = load32(l11 + 56u);
-                                                                                                        if (t47 > 1u) goto L26;
-                                                                                                        const u32 t48 = load32(l8 + 28ull);
-                                                                                                        const u32 t49 = load32(l15);
-                                                                                                        l31 = t49;
-                                                                                                        l20 = (u64)(t48 - l31);
-                                                                                                        const u32 t50 = load32(l19);
-                                                                                                        l15 = (u64)(t50 + l33);
-                                                                                                        const u64 t51 = load64(l8);
-                                                                                                        l1 = t51;
                                                                                                         {
-                                                                                                            l10 = (u64)l31;
-                                                                                                            l13 = l18 - 1ull;
-                                                                                                            l14 = (l10 < l13) ? l10 : l13;
-                                                                                                            if (l14 >= 12ull) {
-                                                                                                                l15 = l1 + (l15 << 3);
-                                                                                                                l14 = (l1 + (l20 << 3)) + 1ull;
-                                                                                                                l1 = 0ull;
-                                                                                                                l10 = 0ull;
-                                                                                                                l19 = 0ull;
-                                                                                                                {
+                                                                                                            l37 = l31 - l33;
+                                                                                                            l13 = (u64)l37;
+                                                                                                            l14 = l1 + (l13 << 3);
+                                                                                                            const u32 t41 = load8(l14 + 1ull);
+                                                                                                            switch (t41 - 9u) {
+                                                                                                            case 0: goto L27;
+                                                                                                            case 1: goto L27;
+                                                                                                            case 4: goto L27;
+                                                                                                            case 26: goto L40;
+                                                                                                            case 31: goto L28;
+                                                                                                            case 32: goto L39;
+                                                                                                            case 35: goto L29;
+                                                                                                            default: goto L38;
+                                                                                                            }
+                                                                                                        }
+                                                                                                        L40:;
+                                                                                                        {
+                                                                                                            l13 = (u64)l31 - l13;
+                                                                                                            if (l13 < 2ull) goto L42;
+                                                                                                            const u32 t43 = load8(l14 + 9ull);
+                                                                                                            l31 = t43;
+                                                                                                            if (l31 == 40u) goto L30;
+                                                                                                            if (l31 != 35u) goto L42;
+                                                                                                            if (l13 == 2ull) goto L42;
+                                                                                                            const u32 t44 = load8(l14 + 17ull);
+                                                                                                            if (t44 != 40u) goto L42;
+                                                                                                            l15 = l8 + 24ull;
+                                                                                                            store32(l15, l33 - 3u);
+                                                                                                            l13 = l8 + 32ull;
+                                                                                                            const u32 t45 = load32(l13);
+                                                                                                            l31 = t45;
+                                                                                                            l14 = l8 + 20ull;
+                                                                                                            const u32 t46 = load32(l14);
+                                                                                                            l33 = t46;
+                                                                                                            l19 = l8 + 16ull;
+                                                                                                            const u32 t47 = load32(l19);
+                                                                                                            l1 = l1 + ((u64)(l33 + t47) << 3);
+                                                                                                            store16(l1, (u16)257u);
+                                                                                                            l33 = l33 + 1u;
+                                                                                                            store32(l1 + 4ull, l31 ? (l33 - l31) : 0u);
+                                                                                                            store32(l14, l33);
+                                                                                                            store32(l13, l33);
+                                                                                                            const u32 t48 = load32(l11 + 64u);
+                                                                                                            if (t48 > 1u) goto L26;
+                                                                                                            const u32 t49 = load32(l8 + 28ull);
+                                                                                                            const u32 t50 = load32(l15);
+                                                                                                            l31 = t50;
+                                                                                                            l20 = (u64)(t49 - l31);
+                                                                                                            const u32 t51 = load32(l19);
+                                                                                                            l15 = (u64)(t51 + l33);
+                                                                                                            const u64 t52 = load64(l8);
+                                                                                                            l1 = t52;
+                                                                                                            {
+                                                                                                                l10 = (u64)l31;
+                                                                                                                l13 = l18 - 1ull;
+                                                                                                                l14 = (l10 < l13) ? l10 : l13;
+                                                                                                                if (l14 >= 12ull) {
+                                                                                                                    l15 = l1 + (l15 << 3);
+                                                                                                                    l14 = (l1 + (l20 << 3)) + 1ull;
+                                                                                                                    l1 = 0ull;
+                                                                                                                    l10 = 0ull;
+                                                                                                                    l19 = 0ull;
+                                                                                                                    {
+                                                                                                                        L56:;
+                                                                                                                        {
+                                                                                                                            {
+                                                                                                                                const u32 t58 = load8(l10 + l14);
+                                                                                                                                l31 = t58;
+                                                                                                                                const u32 t59 = load8(((u64)l31 & 255ull) + TABLES + 513u);
+                                                                                                                                if (t59 == 0) {
+                                                                                                                                    l13 = l10 + l15;
+                                                                                                                                    store8(l13, (u8)0u);
+                                                                                                                                    store32(l13 + 4ull, 0u);
+                                                                                                                                    store8(l13 + 1ull, (u8)l31);
+                                                                                                                                    goto L57;
+                                                                                                                                }
+                                                                                                                                if ((l31 & 255u) != 44u) goto L55;
+                                                                                                                                l13 = l10 + l15;
+                                                                                                                                store16(l13, (u16)2u);
+                                                                                                                                store32(l13 + 4ull, 0u);
+                                                                                                                                l19 = l1 + 1ull;
+                                                                                                                            }
+                                                                                                                            L57:;
+                                                                                                                            l1 = l1 + 1ull;
+                                                                                                                            l10 = l10 + 8ull;
+                                                                                                                            if (l10 != 96ull) goto L56;
+                                                                                                                        }
+                                                                                                                        l1 = 12ull;
+                                                                                                                    }
                                                                                                                     L55:;
+                                                                                                                    l10 = l8 + 24ull;
+                                                                                                                    const u32 t61 = load32(l10);
+                                                                                                                    l31 = (u32)l1;
+                                                                                                                    store32(l10, t61 - l31);
+                                                                                                                    l10 = l8 + 20ull;
+                                                                                                                    const u32 t62 = load32(l10);
+                                                                                                                    store32(l10, t62 + l31);
+                                                                                                                    l31 = (u32)l19;
+                                                                                                                    if (l31 == 0) goto L53;
+                                                                                                                    store32(l11 + 68u, l31 + l33);
+                                                                                                                    goto L53;
+                                                                                                                }
+                                                                                                                if (l14 == 0) {
+                                                                                                                    l1 = 0ull;
+                                                                                                                    goto L53;
+                                                                                                                }
+                                                                                                                l10 = l1 + (l15 << 3);
+                                                                                                                l13 = (l1 + (l20 << 3)) + 1ull;
+                                                                                                                l1 = 0ull;
+                                                                                                                l15 = 0ull;
+                                                                                                                {
+                                                                                                                    L65:;
                                                                                                                     {
                                                                                                                         {
-                                                                                                                            const u32 t57 = load8(l10 + l14);
-                                                                                                                            l31 = t57;
-                                                                                                                            const u32 t58 = load8(((u64)l31 & 255ull) + TABLES + 513u);
-                                                                                                                            if (t58 == 0) {
-                                                                                                                                l13 = l10 + l15;
-                                                                                                                                store8(l13, (u8)0u);
-                                                                                                                                store32(l13 + 4ull, 0u);
-                                                                                                                                store8(l13 + 1ull, (u8)l31);
-                                                                                                                                goto L56;
+                                                                                                                            const u32 t67 = load8(l13);
+                                                                                                                            l31 = t67;
+                                                                                                                            const u32 t68 = load8(((u64)l31 & 255ull) + TABLES + 513u);
+                                                                                                                            if (t68 == 0) {
+                                                                                                                                store8(l10, (u8)0u);
+                                                                                                                                store32(l10 + 4ull, 0u);
+                                                                                                                                store8(l10 + 1ull, (u8)l31);
+                                                                                                                                goto L66;
                                                                                                                             }
-                                                                                                                            if ((l31 & 255u) != 44u) goto L54;
-                                                                                                                            l13 = l10 + l15;
-                                                                                                                            store16(l13, (u16)2u);
-                                                                                                                            store32(l13 + 4ull, 0u);
-                                                                                                                            l19 = l1 + 1ull;
-                                                                                                                        }
-                                                                                                                        L56:;
-                                                                                                                        l1 = l1 + 1ull;
-                                                                                                                        l10 = l10 + 8ull;
-                                                                                                                        if (l10 != 96ull) goto L55;
-                                                                                                                    }
-                                                                                                                    l1 = 12ull;
-                                                                                                                }
-                                                                                                                L54:;
-                                                                                                                l10 = l8 + 24ull;
-                                                                                                                const u32 t60 = load32(l10);
-                                                                                                                l31 = (u32)l1;
-                                                                                                                store32(l10, t60 - l31);
-                                                                                                                l10 = l8 + 20ull;
-                                                                                                                const u32 t61 = load32(l10);
-                                                                                                                store32(l10, t61 + l31);
-                                                                                                                l31 = (u32)l19;
-                                                                                                                if (l31 == 0) goto L52;
-                                                                                                                store32(l11 + 60u, l31 + l33);
-                                                                                                                goto L52;
-                                                                                                            }
-                                                                                                            if (l14 == 0) {
-                                                                                                                l1 = 0ull;
-                                                                                                                goto L52;
-                                                                                                            }
-                                                                                                            l10 = l1 + (l15 << 3);
-                                                                                                            l13 = (l1 + (l20 << 3)) + 1ull;
-                                                                                                            l1 = 0ull;
-                                                                                                            l15 = 0ull;
-                                                                                                            {
-                                                                                                                L64:;
-                                                                                                                {
-                                                                                                                    {
-                                                                                                                        const u32 t66 = load8(l13);
-                                                                                                                        l31 = t66;
-                                                                                                                        const u32 t67 = load8(((u64)l31 & 255ull) + TABLES + 513u);
-                                                                                                                        if (t67 == 0) {
-                                                                                                                            store8(l10, (u8)0u);
+                                                                                                                            if ((l31 & 255u) != 44u) goto L64;
+                                                                                                                            store16(l10, (u16)2u);
                                                                                                                             store32(l10 + 4ull, 0u);
-                                                                                                                            store8(l10 + 1ull, (u8)l31);
-                                                                                                                            goto L65;
+                                                                                                                            l15 = l1 + 1ull;
                                                                                                                         }
-                                                                                                                        if ((l31 & 255u) != 44u) goto L63;
-                                                                                                                        store16(l10, (u16)2u);
-                                                                                                                        store32(l10 + 4ull, 0u);
-                                                                                                                        l15 = l1 + 1ull;
+                                                                                                                        L66:;
+                                                                                                                        l13 = l13 + 8ull;
+                                                                                                                        l10 = l10 + 8ull;
+                                                                                                                        l1 = l1 + 1ull;
+                                                                                                                        if (l14 != l1) goto L65;
                                                                                                                     }
-                                                                                                                    L65:;
-                                                                                                                    l13 = l13 + 8ull;
-                                                                                                                    l10 = l10 + 8ull;
-                                                                                                                    l1 = l1 + 1ull;
-                                                                                                                    if (l14 != l1) goto L64;
+                                                                                                                    l1 = l14;
                                                                                                                 }
-                                                                                                                l1 = l14;
+                                                                                                                L64:;
+                                                                                                                l10 = l8 + 24ull;
+                                                                                                                const u32 t70 = load32(l10);
+                                                                                                                l31 = (u32)l1;
+                                                                                                                store32(l10, t70 - l31);
+                                                                                                                l10 = l8 + 20ull;
+                                                                                                                const u32 t71 = load32(l10);
+                                                                                                                store32(l10, t71 + l31);
+                                                                                                                l31 = (u32)l15;
+                                                                                                                if (l31 == 0) goto L53;
+                                                                                                                store32(l11 + 68u, l31 + l33);
                                                                                                             }
-                                                                                                            L63:;
-                                                                                                            l10 = l8 + 24ull;
-                                                                                                            const u32 t69 = load32(l10);
-                                                                                                            l31 = (u32)l1;
-                                                                                                            store32(l10, t69 - l31);
-                                                                                                            l10 = l8 + 20ull;
-                                                                                                            const u32 t70 = load32(l10);
-                                                                                                            store32(l10, t70 + l31);
-                                                                                                            l31 = (u32)l15;
-                                                                                                            if (l31 == 0) goto L52;
-                                                                                                            store32(l11 + 60u, l31 + l33);
+                                                                                                            L53:;
+                                                                                                            l10 = (l1 & 4294967295ull) + 1ull;
+                                                                                                            goto L26;
                                                                                                         }
-                                                                                                        L52:;
-                                                                                                        l10 = (l1 & 4294967295ull) + 1ull;
+                                                                                                        L42:;
+                                                                                                        store32(l8 + 24ull, l33 - 1u);
+                                                                                                        l13 = l8 + 32ull;
+                                                                                                        const u32 t72 = load32(l13);
+                                                                                                        l31 = t72;
+                                                                                                        l14 = l8 + 20ull;
+                                                                                                        const u32 t73 = load32(l14);
+                                                                                                        l33 = t73;
+                                                                                                        const u32 t74 = load32(l8 + 16ull);
+                                                                                                        l1 = l1 + ((u64)(l33 + t74) << 3);
+                                                                                                        store16(l1, (u16)8960u);
+                                                                                                        store32(l1 + 4ull, 0u);
+                                                                                                        store32(l14, l33 + 1u);
+                                                                                                        store32(l13, l31);
                                                                                                         goto L26;
                                                                                                     }
-                                                                                                    L41:;
+                                                                                                    L39:;
+                                                                                                    const u32 t75 = load32(l8 + 32ull);
+                                                                                                    l37 = t75;
+                                                                                                    if (l37) goto L35;
                                                                                                     store32(l8 + 24ull, l33 - 1u);
-                                                                                                    l13 = l8 + 32ull;
-                                                                                                    const u32 t71 = load32(l13);
-                                                                                                    l31 = t71;
-                                                                                                    l14 = l8 + 20ull;
-                                                                                                    const u32 t72 = load32(l14);
-                                                                                                    l33 = t72;
-                                                                                                    const u32 t73 = load32(l8 + 16ull);
-                                                                                                    l1 = l1 + ((u64)(l33 + t73) << 3);
-                                                                                                    store16(l1, (u16)8960u);
-                                                                                                    store32(l1 + 4ull, 0u);
-                                                                                                    store32(l14, l33 + 1u);
-                                                                                                    store32(l13, l31);
                                                                                                     goto L26;
                                                                                                 }
                                                                                                 L38:;
-                                                                                                const u32 t74 = load32(l8 + 32ull);
-                                                                                                l37 = t74;
-                                                                                                if (l37) goto L34;
-                                                                                                store32(l8 + 24ull, l33 - 1u);
+                                                                                                const u64 t76 = core_scan_add_characters(stack, l8, l18, l11 + 68ull, l11 + 64ull);
+                                                                                                l10 = t76;
                                                                                                 goto L26;
                                                                                             }
-                                                                                            L37:;
-                                                                                            const u64 t75 = core_scan_add_characters(stack, l8, l18, l11 + 60ull, l11 + 56ull);
-                                                                                            l10 = t75;
-                                                                                            goto L26;
-                                                                                        }
-                                                                                        {
-                                                                                            if (l18 < 8ull) goto L76;
-                                                                                            const u32 t77 = load32(l8 + 8ull);
-                                                                                            l10 = l8 + 16ull;
-                                                                                            const u32 t78 = load32(l10);
-                                                                                            if ((t77 - t78) < 11u) goto L76;
-                                                                                            const u32 t79 = core_scan_begin_idling(stack, l8);
-                                                                                            l31 = t79;
-                                                                                            store32(l11 + 56u, 0u);
-                                                                                            const u32 t80 = load32(l8 + 20ull);
-                                                                                            l33 = t80;
-                                                                                            store32(l11 + 60u, l33);
-                                                                                            const u32 t81 = load32(l8 + 24ull);
-                                                                                            const u32 t82 = load32(l10);
-                                                                                            l40 = t81 + (l33 + t82);
-                                                                                            l35 = (l31 > l35) ? l31 : l35;
-                                                                                            v25 = l18 - 8ull; goto L25;
-                                                                                        }
-                                                                                        L76:;
-                                                                                        store32(l8 + 32ull, 0u);
-                                                                                        l10 = l8 + 20ull;
-                                                                                        store32(l10, 0u);
-                                                                                        l33 = 11u;
-                                                                                        l13 = l8 + 16ull;
-                                                                                        const u32 t83 = load32(l13);
-                                                                                        u32 v84;
-                                                                                        if ((l31 - t83) <= 10u) {
-                                                                                            const u32 t85 = space_space_Space_try_claim_spare(stack, l8, 11ull);
-                                                                                            if (t85 == 0) goto L32;
-                                                                                            const u32 t86 = load32(l8 + 24ull);
-                                                                                            l33 = t86 + 11u;
-                                                                                            const u64 t87 = load64(l8);
-                                                                                            l1 = t87;
-                                                                                            const u32 t88 = load32(l8 + 28ull);
-                                                                                            v84 = t88;
-                                                                                        } else {
-                                                                                            v84 = l31;
-                                                                                        }
-                                                                                        l1 = ((u64)(v84 - l33) << 3) + l1;
-                                                                                        store64(l1 + 56u, 0ull);
-                                                                                        store64(l1 + 48u, 0ull);
-                                                                                        store64(l1 + 40u, 0ull);
-                                                                                        store64(l1 + 32u, 0ull);
-                                                                                        store64(l1 + 24u, 0ull);
-                                                                                        store64(l1 + 16u, 0ull);
-                                                                                        store64(l1 + 8u, 0ull);
-                                                                                        store64(l1, 0ull);
-                                                                                        store16(l1 + 80u, (u16)10496u);
-                                                                                        store16(l1 + 72u, (u16)10496u);
-                                                                                        store16(l1 + 64u, (u16)29440u);
-                                                                                        store32(l1 + 84ull, 0u);
-                                                                                        store32(l1 + 76ull, 0u);
-                                                                                        store32(l1 + 68ull, 0u);
-                                                                                        store8(l1 + 57ull, (u8)114u);
-                                                                                        store8(l1 + 49ull, (u8)40u);
-                                                                                        store8(l1 + 41ull, (u8)35u);
-                                                                                        store8(l1 + 33ull, (u8)44u);
-                                                                                        store8(l1 + 25ull, (u8)115u);
-                                                                                        store8(l1 + 17ull, (u8)112u);
-                                                                                        store8(l1 + 9ull, (u8)40u);
-                                                                                        store8(l1 + 1ull, (u8)35u);
-                                                                                        store32(l8 + 24ull, l33);
-                                                                                        const u32 t89 = load32(l10);
-                                                                                        const u32 t90 = load32(l13);
-                                                                                        v33 = t89 + (t90 + l33); goto L33;
-                                                                                    }
-                                                                                    L34:;
-                                                                                    const u32 t91 = load32(l8 + 16ull);
-                                                                                    l31 = t91;
-                                                                                    l40 = l37 - 1u;
-                                                                                    const u32 t92 = load8((l1 + ((u64)(l31 + l40) << 3)) + 1ull);
-                                                                                    l42 = t92;
-                                                                                    const u32 t93 = load32(l8 + 20ull);
-                                                                                    l44 = t93;
-                                                                                    const u32 t94 = load32(l11 + 60u);
-                                                                                    l41 = t94;
-                                                                                    l32 = 0u;
-                                                                                    store8(l11 + 98u, (u8)0u);
-                                                                                    store16(l11 + 96u, (u16)0u);
-                                                                                    u32 v95;
-                                                                                    {
-                                                                                        {
-                                                                                            l39 = l31 + l44;
-                                                                                            l10 = (u64)(l31 + l37);
-                                                                                            l13 = (u64)l39 - l10;
-                                                                                            if (l13 >= 2ull) {
-                                                                                                l10 = l1 + (l10 << 3);
-                                                                                                if (l13 == 2ull) goto L96;
-                                                                                                const u32 t98 = load8(l10 + 16ull);
-                                                                                                if (t98 == 2u) goto L96;
+                                                                                            {
+                                                                                                if (l18 < 8ull) goto L77;
+                                                                                                const u32 t78 = load32(l8 + 8ull);
+                                                                                                l10 = l8 + 16ull;
+                                                                                                const u32 t79 = load32(l10);
+                                                                                                if ((t78 - t79) < 11u) goto L77;
+                                                                                                const u32 t80 = core_scan_begin_idling(stack, l8);
+                                                                                                l31 = t80;
+                                                                                                store32(l11 + 64u, 0u);
+                                                                                                const u32 t81 = load32(l8 + 20ull);
+                                                                                                l33 = t81;
+                                                                                                store32(l11 + 68u, l33);
+                                                                                                const u32 t82 = load32(l8 + 24ull);
+                                                                                                const u32 t83 = load32(l10);
+                                                                                                l40 = t82 + (l33 + t83);
+                                                                                                l35 = (l31 > l35) ? l31 : l35;
+                                                                                                v25 = l18 - 8ull; goto L25;
                                                                                             }
+                                                                                            L77:;
+                                                                                            store32(l8 + 32ull, 0u);
+                                                                                            l10 = l8 + 20ull;
+                                                                                            store32(l10, 0u);
+                                                                                            l33 = 11u;
+                                                                                            l13 = l8 + 16ull;
+                                                                                            const u32 t84 = load32(l13);
+                                                                                            u32 v85;
+                                                                                            if ((l31 - t84) <= 10u) {
+                                                                                                const u32 t86 = space_space_Space_try_claim_spare(stack, l8, 11ull);
+                                                                                                if (t86 == 0) goto L32;
+                                                                                                const u32 t87 = load32(l8 + 24ull);
+                                                                                                l33 = t87 + 11u;
+                                                                                                const u64 t88 = load64(l8);
+                                                                                                l1 = t88;
+                                                                                                const u32 t89 = load32(l8 + 28ull);
+                                                                                                v85 = t89;
+                                                                                            } else {
+                                                                                                v85 = l31;
+                                                                                            }
+                                                                                            l1 = ((u64)(v85 - l33) << 3) + l1;
+                                                                                            store64(l1 + 56u, 0ull);
+                                                                                            store64(l1 + 48u, 0ull);
+                                                                                            store64(l1 + 40u, 0ull);
+                                                                                            store64(l1 + 32u, 0ull);
+                                                                                            store64(l1 + 24u, 0ull);
+                                                                                            store64(l1 + 16u, 0ull);
+                                                                                            store64(l1 + 8u, 0ull);
+                                                                                            store64(l1, 0ull);
+                                                                                            store16(l1 + 80u, (u16)10496u);
+                                                                                            store16(l1 + 72u, (u16)10496u);
+                                                                                            store16(l1 + 64u, (u16)29440u);
+                                                                                            store32(l1 + 84ull, 0u);
+                                                                                            store32(l1 + 76ull, 0u);
+                                                                                            store32(l1 + 68ull, 0u);
+                                                                                            store8(l1 + 57ull, (u8)114u);
+                                                                                            store8(l1 + 49ull, (u8)40u);
+                                                                                            store8(l1 + 41ull, (u8)35u);
+                                                                                            store8(l1 + 33ull, (u8)44u);
+                                                                                            store8(l1 + 25ull, (u8)115u);
+                                                                                            store8(l1 + 17ull, (u8)112u);
+                                                                                            store8(l1 + 9ull, (u8)40u);
+                                                                                            store8(l1 + 1ull, (u8)35u);
+                                                                                            store32(l8 + 24ull, l33);
+                                                                                            const u32 t90 = load32(l10);
+                                                                                            const u32 t91 = load32(l13);
+                                                                                            v34 = t90 + (t91 + l33); goto L34;
+                                                                                        }
+                                                                                        L35:;
+                                                                                        const u32 t92 = load32(l8 + 16ull);
+                                                                                        l31 = t92;
+                                                                                        l40 = l37 - 1u;
+                                                                                        const u32 t93 = load8((l1 + ((u64)(l31 + l40) << 3)) + 1ull);
+                                                                                        l42 = t93;
+                                                                                        const u32 t94 = load32(l8 + 20ull);
+                                                                                        l44 = t94;
+                                                                                        const u32 t95 = load32(l11 + 68u);
+                                                                                        l41 = t95;
+                                                                                        l32 = 0u;
+                                                                                        store8(l11 + 98u, (u8)0u);
+                                                                                        store16(l11 + 96u, (u16)0u);
+                                                                                        u32 v96;
+                                                                                        {
+                                                                                            {
+                                                                                                l39 = l31 + l44;
+                                                                                                l10 = (u64)(l31 + l37);
+                                                                                                l13 = (u64)l39 - l10;
+                                                                                                if (l13 >= 2ull) {
+                                                                                                    l10 = l1 + (l10 << 3);
+                                                                                                    if (l13 == 2ull) goto L97;
+                                                                                                    const u32 t99 = load8(l10 + 16ull);
+                                                                                                    if (t99 == 2u) goto L97;
+                                                                                                }
+                                                                                                l36 = 1u;
+                                                                                                l34 = 0u;
+                                                                                                l43 = 0u;
+                                                                                                v96 = l37; goto L96;
+                                                                                            }
+                                                                                            L97:;
+                                                                                            functions_function_function_of(stack, l11 + 96ull, l10, l10 + 8ull);
                                                                                             l36 = 1u;
                                                                                             l34 = 0u;
                                                                                             l43 = 0u;
-                                                                                            v95 = l37; goto L95;
+                                                                                            const u32 t100 = load8(l11 + 96u);
+                                                                                            if (t100 != 1u) { v96 = l37; goto L96; }
+                                                                                            const u32 t101 = load8(l11 + 98u);
+                                                                                            l43 = t101;
+                                                                                            const u32 t102 = load8(l11 + 97u);
+                                                                                            l34 = t102;
+                                                                                            l36 = 0u;
+                                                                                            l32 = 1u;
+                                                                                            v96 = l37 + 3u;
                                                                                         }
                                                                                         L96:;
-                                                                                        functions_function_function_of(stack, l11 + 96ull, l10, l10 + 8ull);
-                                                                                        l36 = 1u;
-                                                                                        l34 = 0u;
-                                                                                        l43 = 0u;
-                                                                                        const u32 t99 = load8(l11 + 96u);
-                                                                                        if (t99 != 1u) { v95 = l37; goto L95; }
-                                                                                        const u32 t100 = load8(l11 + 98u);
-                                                                                        l43 = t100;
-                                                                                        const u32 t101 = load8(l11 + 97u);
-                                                                                        l34 = t101;
-                                                                                        l36 = 0u;
-                                                                                        l32 = 1u;
-                                                                                        v95 = l37 + 3u;
-                                                                                    }
-                                                                                    L95:;
-                                                                                    l38 = v95;
-                                                                                    l45 = l42 == 0;
-                                                                                    {
+                                                                                        l38 = v96;
+                                                                                        l45 = l42 == 0;
                                                                                         {
+                                                                                            if (l32 == 0) goto L103;
+                                                                                            l32 = l34 & 255u;
+                                                                                            if ((1u << (l32 & 31)) & 33553396u) goto L103;
+                                                                                            if (l32 != 3u) {
+                                                                                                l1 = (((u64)l34 & 255ull) << 8) | 1ull;
+                                                                                                goto L33;
+                                                                                            }
+                                                                                            store16(l24, (u16)0u);
+                                                                                            store8(l24 + 2u, (u8)0u);
+                                                                                            store8(l11 + 108u, (u8)l45);
+                                                                                            store32(l11 + 104u, l41);
+                                                                                            store32(l11 + 100u, l44);
+                                                                                            store32(l11 + 96u, l38);
+                                                                                            functions_arguments_Arguments_next(stack, l11 + 56ull, l11 + 96ull, l8);
+                                                                                            const u32 t105 = load32(l11 + 56u);
+                                                                                            const u32 t106 = load32(l11 + 60u);
+                                                                                            if (t105 >= t106) goto L103;
+                                                                                            l1 = 769ull;
+                                                                                            goto L33;
+                                                                                        }
+                                                                                        L103:;
+                                                                                        l33 = l33 - 1u;
+                                                                                        store32(l8 + 24ull, l33);
+                                                                                        l42 = l33 + l39;
+                                                                                        l32 = 0u;
+                                                                                        {
+                                                                                            l39 = l34 & 255u;
+                                                                                            if (l36 | (l39 == 3u)) goto L107;
                                                                                             {
                                                                                                 {
                                                                                                     {
@@ -22514,65 +22540,42 @@ static void engine_turn(u64 stack, u64 l0, u64 l1, u64 l2, u64 l3, u64 l4, u64 l
                                                                                                                 {
                                                                                                                     {
                                                                                                                         {
-                                                                                                                            if (l32 == 0) goto L111;
-                                                                                                                            l32 = l34 & 255u;
-                                                                                                                            if ((1u << (l32 & 31)) & 33553396u) goto L111;
-                                                                                                                            if (l32 != 3u) goto L110;
-                                                                                                                            store16(l24, (u16)0u);
-                                                                                                                            store8(l24 + 2u, (u8)0u);
-                                                                                                                            store8(l11 + 108u, (u8)l45);
-                                                                                                                            store32(l11 + 104u, l41);
-                                                                                                                            store32(l11 + 100u, l44);
-                                                                                                                            store32(l11 + 96u, l38);
-                                                                                                                            functions_arguments_Arguments_next(stack, l11 + 48ull, l11 + 96ull, l8);
-                                                                                                                            const u32 t112 = load32(l11 + 48u);
-                                                                                                                            const u32 t113 = load32(l11 + 52u);
-                                                                                                                            if (t112 < t113) goto L110;
-                                                                                                                        }
-                                                                                                                        L111:;
-                                                                                                                        l33 = l33 - 1u;
-                                                                                                                        store32(l8 + 24ull, l33);
-                                                                                                                        l42 = l33 + l39;
-                                                                                                                        l32 = 0u;
-                                                                                                                        l39 = l34 & 255u;
-                                                                                                                        if (l36 | (l39 == 3u)) goto L102;
-                                                                                                                        {
-                                                                                                                            if ((l39 - 5u) < 20u) goto L114;
+                                                                                                                            if ((l39 - 5u) < 20u) goto L115;
                                                                                                                             {
                                                                                                                                 switch (l39 - 2u) {
-                                                                                                                                case 0: goto L115;
+                                                                                                                                case 0: goto L116;
                                                                                                                                 case 1: goto L13;
-                                                                                                                                case 2: goto L109;
-                                                                                                                                default: goto L114;
+                                                                                                                                case 2: goto L114;
+                                                                                                                                default: goto L115;
                                                                                                                                 }
                                                                                                                             }
-                                                                                                                            L115:;
+                                                                                                                            L116:;
                                                                                                                             store16(l24, (u16)0u);
                                                                                                                             store8(l24 + 2u, (u8)0u);
                                                                                                                             store8(l11 + 108u, (u8)l45);
                                                                                                                             store32(l11 + 104u, l41);
                                                                                                                             store32(l11 + 100u, l44);
                                                                                                                             store32(l11 + 96u, l38);
-                                                                                                                            functions_arguments_Arguments_next(stack, l11, l11 + 96ull, l8);
-                                                                                                                            const u32 t116 = load32(l11);
-                                                                                                                            l34 = t116;
-                                                                                                                            const u32 t117 = load32(l11 + 4u);
-                                                                                                                            if (l34 != t117) {
+                                                                                                                            functions_arguments_Arguments_next(stack, l11 + 8ull, l11 + 96ull, l8);
+                                                                                                                            const u32 t117 = load32(l11 + 8u);
+                                                                                                                            l34 = t117;
+                                                                                                                            const u32 t118 = load32(l11 + 12u);
+                                                                                                                            if (l34 != t118) {
                                                                                                                                 l1 = l1 + ((u64)(l31 + l34) << 3);
-                                                                                                                                const u32 t119 = load8(l1);
-                                                                                                                                const u64 t120 = l25;
-                                                                                                                                u32 v121;
-                                                                                                                                if (t119) {
-                                                                                                                                    v121 = 0u;
+                                                                                                                                const u32 t120 = load8(l1);
+                                                                                                                                const u64 t121 = l25;
+                                                                                                                                u32 v122;
+                                                                                                                                if (t120) {
+                                                                                                                                    v122 = 0u;
                                                                                                                                 } else {
-                                                                                                                                    const u32 t122 = load8(l1 + 1ull);
-                                                                                                                                    v121 = t122;
+                                                                                                                                    const u32 t123 = load8(l1 + 1ull);
+                                                                                                                                    v122 = t123;
                                                                                                                                 }
-                                                                                                                                store8(t120, (u8)v121);
+                                                                                                                                store8(t121, (u8)v122);
                                                                                                                             }
-                                                                                                                            goto L102;
+                                                                                                                            goto L107;
                                                                                                                         }
-                                                                                                                        L114:;
+                                                                                                                        L115:;
                                                                                                                         store16(l29, (u16)0u);
                                                                                                                         store8(l29 + 2u, (u8)0u);
                                                                                                                         store8(l11 + 92u, (u8)l45);
@@ -22600,55 +22603,55 @@ static void engine_turn(u64 stack, u64 l0, u64 l1, u64 l2, u64 l3, u64 l4, u64 l
                                                                                                                                                                                             {
                                                                                                                                                                                                 {
                                                                                                                                                                                                     switch ((u32)(((u64)l34 & 255ull)) - 5u) {
-                                                                                                                                                                                                    case 0: goto L123;
-                                                                                                                                                                                                    case 1: goto L141;
-                                                                                                                                                                                                    case 2: goto L140;
-                                                                                                                                                                                                    case 3: goto L139;
-                                                                                                                                                                                                    case 4: goto L138;
-                                                                                                                                                                                                    case 6: goto L137;
-                                                                                                                                                                                                    case 7: goto L136;
-                                                                                                                                                                                                    case 8: goto L135;
-                                                                                                                                                                                                    case 9: goto L134;
-                                                                                                                                                                                                    case 10: goto L133;
-                                                                                                                                                                                                    case 11: goto L132;
-                                                                                                                                                                                                    case 12: goto L131;
-                                                                                                                                                                                                    case 13: goto L130;
-                                                                                                                                                                                                    case 14: goto L129;
-                                                                                                                                                                                                    case 15: goto L128;
-                                                                                                                                                                                                    case 16: goto L127;
-                                                                                                                                                                                                    case 17: goto L126;
-                                                                                                                                                                                                    case 18: goto L125;
-                                                                                                                                                                                                    case 19: goto L124;
-                                                                                                                                                                                                    default: goto L103;
+                                                                                                                                                                                                    case 0: goto L124;
+                                                                                                                                                                                                    case 1: goto L142;
+                                                                                                                                                                                                    case 2: goto L141;
+                                                                                                                                                                                                    case 3: goto L140;
+                                                                                                                                                                                                    case 4: goto L139;
+                                                                                                                                                                                                    case 6: goto L138;
+                                                                                                                                                                                                    case 7: goto L137;
+                                                                                                                                                                                                    case 8: goto L136;
+                                                                                                                                                                                                    case 9: goto L135;
+                                                                                                                                                                                                    case 10: goto L134;
+                                                                                                                                                                                                    case 11: goto L133;
+                                                                                                                                                                                                    case 12: goto L132;
+                                                                                                                                                                                                    case 13: goto L131;
+                                                                                                                                                                                                    case 14: goto L130;
+                                                                                                                                                                                                    case 15: goto L129;
+                                                                                                                                                                                                    case 16: goto L128;
+                                                                                                                                                                                                    case 17: goto L127;
+                                                                                                                                                                                                    case 18: goto L126;
+                                                                                                                                                                                                    case 19: goto L125;
+                                                                                                                                                                                                    default: goto L108;
                                                                                                                                                                                                     }
                                                                                                                                                                                                 }
-                                                                                                                                                                                                L141:;
+                                                                                                                                                                                                L142:;
                                                                                                                                                                                                 functions_form_calls_segment_string(stack, l11 + 72ull, l8, l11 + 80ull);
-                                                                                                                                                                                                goto L105;
+                                                                                                                                                                                                goto L110;
                                                                                                                                                                                             }
-                                                                                                                                                                                            L140:;
+                                                                                                                                                                                            L141:;
                                                                                                                                                                                             functions_form_calls_delete_definition(stack, l11 + 72ull, l8, l11 + 80ull);
-                                                                                                                                                                                            goto L105;
+                                                                                                                                                                                            goto L110;
                                                                                                                                                                                         }
-                                                                                                                                                                                        L139:;
+                                                                                                                                                                                        L140:;
                                                                                                                                                                                         space_space_Space_remove_store(stack, l8, 0u, l31);
                                                                                                                                                                                         {
-                                                                                                                                                                                            const u32 t143 = load32(l8 + 40ull);
-                                                                                                                                                                                            const u64 t144 = load64(l8 + 8ull);
-                                                                                                                                                                                            l1 = t144;
-                                                                                                                                                                                            const u32 t145 = load32(l8 + 28ull);
-                                                                                                                                                                                            l37 = t145;
-                                                                                                                                                                                            if (t143 < (((u32)l1 - l37) >> 5)) {
+                                                                                                                                                                                            const u32 t144 = load32(l8 + 40ull);
+                                                                                                                                                                                            const u64 t145 = load64(l8 + 8ull);
+                                                                                                                                                                                            l1 = t145;
+                                                                                                                                                                                            const u32 t146 = load32(l8 + 28ull);
+                                                                                                                                                                                            l37 = t146;
+                                                                                                                                                                                            if (t144 < (((u32)l1 - l37) >> 5)) {
                                                                                                                                                                                                 space_space_Space_drop_spare(stack, l8);
-                                                                                                                                                                                                goto L142;
+                                                                                                                                                                                                goto L143;
                                                                                                                                                                                             }
                                                                                                                                                                                             l10 = (u64)l37;
-                                                                                                                                                                                            if (l1 == l10) goto L142;
+                                                                                                                                                                                            if (l1 == l10) goto L143;
                                                                                                                                                                                             l19 = l1 - l10;
-                                                                                                                                                                                            const u64 t147 = load64(l8);
-                                                                                                                                                                                            l20 = t147 + (l10 << 3);
+                                                                                                                                                                                            const u64 t148 = load64(l8);
+                                                                                                                                                                                            l20 = t148 + (l10 << 3);
                                                                                                                                                                                             l15 = 0ull;
-                                                                                                                                                                                            L148:;
+                                                                                                                                                                                            L149:;
                                                                                                                                                                                             {
                                                                                                                                                                                                 l1 = l15;
                                                                                                                                                                                                 l10 = l19 - l1;
@@ -22661,12 +22664,12 @@ static void engine_turn(u64 stack, u64 l0, u64 l1, u64 l2, u64 l3, u64 l4, u64 l
                                                                                                                                                                                                     if (l10 > (l1 - (TABLES + 772u))) {
                                                                                                                                                                                                         l10 = l14 & 3ull;
                                                                                                                                                                                                         l13 = 0ull;
-                                                                                                                                                                                                        const u64 t151 = l20;
-                                                                                                                                                                                                        const u64 t152 = l30;
-                                                                                                                                                                                                        u64 v153;
+                                                                                                                                                                                                        const u64 t152 = l20;
+                                                                                                                                                                                                        const u64 t153 = l30;
+                                                                                                                                                                                                        u64 v154;
                                                                                                                                                                                                         if ((l14 - 1ull) >= 3ull) {
                                                                                                                                                                                                             l14 = 0ull - (l14 & 18446744073709551612ull);
-                                                                                                                                                                                                            L154:;
+                                                                                                                                                                                                            L155:;
                                                                                                                                                                                                             {
                                                                                                                                                                                                                 store16(l1, (u16)0u);
                                                                                                                                                                                                                 store32(l1 + 28ull, 0u);
@@ -22678,478 +22681,474 @@ static void engine_turn(u64 stack, u64 l0, u64 l1, u64 l2, u64 l3, u64 l4, u64 l
                                                                                                                                                                                                                 store32(l1 + 4ull, 0u);
                                                                                                                                                                                                                 l1 = l1 + 32ull;
                                                                                                                                                                                                                 l13 = l13 - 4ull;
-                                                                                                                                                                                                                if (l14 != l13) goto L154;
+                                                                                                                                                                                                                if (l14 != l13) goto L155;
                                                                                                                                                                                                             }
-                                                                                                                                                                                                            if (l10 == 0) goto L149;
-                                                                                                                                                                                                            v153 = 0ull - l13;
+                                                                                                                                                                                                            if (l10 == 0) goto L150;
+                                                                                                                                                                                                            v154 = 0ull - l13;
                                                                                                                                                                                                         } else {
-                                                                                                                                                                                                            v153 = 0ull;
+                                                                                                                                                                                                            v154 = 0ull;
                                                                                                                                                                                                         }
-                                                                                                                                                                                                        l1 = t151 + (t152 + (v153 << 3));
-                                                                                                                                                                                                        L155:;
+                                                                                                                                                                                                        l1 = t152 + (t153 + (v154 << 3));
+                                                                                                                                                                                                        L156:;
                                                                                                                                                                                                         {
                                                                                                                                                                                                             store16(l1, (u16)0u);
                                                                                                                                                                                                             store32(l1 + 4ull, 0u);
                                                                                                                                                                                                             l1 = l1 + 8ull;
                                                                                                                                                                                                             l10 = l10 - 1ull;
-                                                                                                                                                                                                            if (l10 != 0ull) goto L155;
+                                                                                                                                                                                                            if (l10 != 0ull) goto L156;
                                                                                                                                                                                                         }
-                                                                                                                                                                                                        goto L149;
+                                                                                                                                                                                                        goto L150;
                                                                                                                                                                                                     }
-                                                                                                                                                                                                    if (l10 == 0) goto L149;
+                                                                                                                                                                                                    if (l10 == 0) goto L150;
                                                                                                                                                                                                     memset(at(l1), (int)0u, (size_t)l10);
                                                                                                                                                                                                 }
-                                                                                                                                                                                                L149:;
-                                                                                                                                                                                                if (l15 < l19) goto L148;
+                                                                                                                                                                                                L150:;
+                                                                                                                                                                                                if (l15 < l19) goto L149;
                                                                                                                                                                                             }
                                                                                                                                                                                         }
-                                                                                                                                                                                        L142:;
+                                                                                                                                                                                        L143:;
                                                                                                                                                                                         store32(l8 + 48ull, 0u);
                                                                                                                                                                                         store64(l8 + 40ull, 0ull);
-                                                                                                                                                                                        goto L103;
+                                                                                                                                                                                        goto L108;
                                                                                                                                                                                     }
-                                                                                                                                                                                    L138:;
+                                                                                                                                                                                    L139:;
                                                                                                                                                                                     functions_form_calls_list_names(stack, l11 + 72ull, l8, l11 + 80ull);
-                                                                                                                                                                                    goto L105;
+                                                                                                                                                                                    goto L110;
                                                                                                                                                                                 }
-                                                                                                                                                                                L137:;
-                                                                                                                                                                                const u64 t156 = load64(l11 + 88u);
-                                                                                                                                                                                store64(l11 + 104u, t156);
-                                                                                                                                                                                const u64 t157 = load64(l11 + 80u);
-                                                                                                                                                                                store64(l11 + 96u, t157);
-                                                                                                                                                                                const u32 t158 = load8(l11 + 108u);
-                                                                                                                                                                                l36 = t158;
-                                                                                                                                                                                functions_arguments_Arguments_next(stack, l11 + 32ull, l11 + 96ull, l8);
-                                                                                                                                                                                const u32 t159 = load32(l11 + 36u);
-                                                                                                                                                                                l34 = t159;
-                                                                                                                                                                                const u32 t160 = load32(l11 + 32u);
-                                                                                                                                                                                l32 = t160;
-                                                                                                                                                                                u32 v161;
+                                                                                                                                                                                L138:;
+                                                                                                                                                                                const u64 t157 = load64(l11 + 88u);
+                                                                                                                                                                                store64(l11 + 104u, t157);
+                                                                                                                                                                                const u64 t158 = load64(l11 + 80u);
+                                                                                                                                                                                store64(l11 + 96u, t158);
+                                                                                                                                                                                const u32 t159 = load8(l11 + 108u);
+                                                                                                                                                                                l36 = t159;
+                                                                                                                                                                                functions_arguments_Arguments_next(stack, l11 + 40ull, l11 + 96ull, l8);
+                                                                                                                                                                                const u32 t160 = load32(l11 + 44u);
+                                                                                                                                                                                l34 = t160;
+                                                                                                                                                                                const u32 t161 = load32(l11 + 40u);
+                                                                                                                                                                                l32 = t161;
+                                                                                                                                                                                u32 v162;
                                                                                                                                                                                 {
-                                                                                                                                                                                    const u32 t162 = load32(l8 + 40ull);
-                                                                                                                                                                                    l39 = t162;
+                                                                                                                                                                                    const u32 t163 = load32(l8 + 40ull);
+                                                                                                                                                                                    l39 = t163;
                                                                                                                                                                                     if (l39 >= 8u) {
-                                                                                                                                                                                        forms_work_Work_find_among_more(stack, l11 + 16ull, l8, l32, l34);
-                                                                                                                                                                                        const u32 t164 = load8(l11 + 16u);
-                                                                                                                                                                                        l34 = t164;
-                                                                                                                                                                                        const u32 t165 = load32(l11 + 20u);
-                                                                                                                                                                                        v161 = t165; goto L161;
+                                                                                                                                                                                        forms_work_Work_find_among_more(stack, l11 + 24ull, l8, l32, l34);
+                                                                                                                                                                                        const u32 t165 = load8(l11 + 24u);
+                                                                                                                                                                                        l34 = t165;
+                                                                                                                                                                                        const u32 t166 = load32(l11 + 28u);
+                                                                                                                                                                                        v162 = t166; goto L162;
                                                                                                                                                                                     }
                                                                                                                                                                                     {
-                                                                                                                                                                                        if (l39 == 0) goto L166;
-                                                                                                                                                                                        const u64 t167 = load32(l1 + 4ull);
+                                                                                                                                                                                        if (l39 == 0) goto L167;
+                                                                                                                                                                                        const u64 t168 = load32(l1 + 4ull);
                                                                                                                                                                                         l13 = (u64)(l31 + l34);
                                                                                                                                                                                         l10 = (u64)(l31 + l32);
-                                                                                                                                                                                        if (t167 != (l13 - l10)) goto L166;
+                                                                                                                                                                                        if (t168 != (l13 - l10)) goto L167;
                                                                                                                                                                                         l15 = 17ull - (l10 << 3);
                                                                                                                                                                                         l10 = (l13 ^ 18446744073709551615ull) + l10;
                                                                                                                                                                                         l1 = l1 + (l13 << 3);
-                                                                                                                                                                                        L168:;
+                                                                                                                                                                                        L169:;
                                                                                                                                                                                         {
                                                                                                                                                                                             l10 = l10 + 1ull;
-                                                                                                                                                                                            if (l10 == 0) goto L108;
+                                                                                                                                                                                            if (l10 == 0) goto L113;
                                                                                                                                                                                             l13 = l1 - 7ull;
                                                                                                                                                                                             l14 = l1 + l15;
                                                                                                                                                                                             l1 = l1 - 8ull;
-                                                                                                                                                                                            const u32 t169 = load8(l14);
-                                                                                                                                                                                            const u32 t170 = load8(l13);
-                                                                                                                                                                                            if (t169 == t170) goto L168;
+                                                                                                                                                                                            const u32 t170 = load8(l14);
+                                                                                                                                                                                            const u32 t171 = load8(l13);
+                                                                                                                                                                                            if (t170 == t171) goto L169;
                                                                                                                                                                                         }
                                                                                                                                                                                     }
-                                                                                                                                                                                    L166:;
-                                                                                                                                                                                    forms_work_Work_find_among_few(stack, l11 + 24ull, l8, l32, l34);
-                                                                                                                                                                                    const u32 t171 = load8(l11 + 24u);
-                                                                                                                                                                                    l34 = t171;
-                                                                                                                                                                                    const u32 t172 = load32(l11 + 28u);
-                                                                                                                                                                                    v161 = t172;
+                                                                                                                                                                                    L167:;
+                                                                                                                                                                                    forms_work_Work_find_among_few(stack, l11 + 32ull, l8, l32, l34);
+                                                                                                                                                                                    const u32 t172 = load8(l11 + 32u);
+                                                                                                                                                                                    l34 = t172;
+                                                                                                                                                                                    const u32 t173 = load32(l11 + 36u);
+                                                                                                                                                                                    v162 = t173;
                                                                                                                                                                                 }
-                                                                                                                                                                                L161:;
-                                                                                                                                                                                l32 = v161;
-                                                                                                                                                                                if ((l34 & 255u) != 1u) goto L107;
-                                                                                                                                                                                goto L106;
+                                                                                                                                                                                L162:;
+                                                                                                                                                                                l32 = v162;
+                                                                                                                                                                                if ((l34 & 255u) != 1u) goto L112;
+                                                                                                                                                                                goto L111;
                                                                                                                                                                             }
-                                                                                                                                                                            L136:;
+                                                                                                                                                                            L137:;
                                                                                                                                                                             functions_form_parts_call_segment(stack, l11 + 72ull, l8, l11 + 80ull);
-                                                                                                                                                                            goto L105;
+                                                                                                                                                                            goto L110;
                                                                                                                                                                         }
-                                                                                                                                                                        L135:;
+                                                                                                                                                                        L136:;
                                                                                                                                                                         functions_form_parts_call_character(stack, l11 + 72ull, l8, l11 + 80ull);
-                                                                                                                                                                        goto L105;
+                                                                                                                                                                        goto L110;
                                                                                                                                                                     }
-                                                                                                                                                                    L134:;
+                                                                                                                                                                    L135:;
                                                                                                                                                                     functions_form_parts_call_number(stack, l11 + 72ull, l8, l11 + 80ull);
-                                                                                                                                                                    goto L105;
+                                                                                                                                                                    goto L110;
                                                                                                                                                                 }
-                                                                                                                                                                L133:;
+                                                                                                                                                                L134:;
                                                                                                                                                                 functions_form_parts_initial_part(stack, l11 + 72ull, l8, l11 + 80ull);
-                                                                                                                                                                goto L105;
+                                                                                                                                                                goto L110;
                                                                                                                                                             }
-                                                                                                                                                            L132:;
+                                                                                                                                                            L133:;
                                                                                                                                                             functions_form_parts_call_restore(stack, l11 + 72ull, l8, l11 + 80ull);
-                                                                                                                                                            goto L105;
+                                                                                                                                                            goto L110;
                                                                                                                                                         }
-                                                                                                                                                        L131:;
+                                                                                                                                                        L132:;
                                                                                                                                                         functions_comparing_equal(stack, l11 + 72ull, l8, l11 + 80ull);
-                                                                                                                                                        goto L105;
+                                                                                                                                                        goto L110;
                                                                                                                                                     }
-                                                                                                                                                    L130:;
+                                                                                                                                                    L131:;
                                                                                                                                                     functions_comparing_greater(stack, l11 + 72ull, l8, l11 + 80ull);
-                                                                                                                                                    goto L105;
+                                                                                                                                                    goto L110;
                                                                                                                                                 }
-                                                                                                                                                L129:;
+                                                                                                                                                L130:;
                                                                                                                                                 functions_arithmetic_arithmetic(stack, l11 + 72ull, l8, l43, l11 + 80ull);
-                                                                                                                                                goto L105;
+                                                                                                                                                goto L110;
                                                                                                                                             }
-                                                                                                                                            L128:;
+                                                                                                                                            L129:;
                                                                                                                                             functions_bit_strings_union(stack, l11 + 72ull, l8, l11 + 80ull);
-                                                                                                                                            goto L105;
+                                                                                                                                            goto L110;
                                                                                                                                         }
-                                                                                                                                        L127:;
+                                                                                                                                        L128:;
                                                                                                                                         functions_bit_strings_intersection(stack, l11 + 72ull, l8, l11 + 80ull);
-                                                                                                                                        goto L105;
+                                                                                                                                        goto L110;
                                                                                                                                     }
-                                                                                                                                    L126:;
+                                                                                                                                    L127:;
                                                                                                                                     store64(l11 + 136u, 0ull);
-                                                                                                                                    const u64 t173 = load64(l11 + 80u);
-                                                                                                                                    store64(l11 + 120u, t173);
-                                                                                                                                    const u64 t174 = load64(l11 + 88u);
-                                                                                                                                    store64(l11 + 128u, t174);
+                                                                                                                                    const u64 t174 = load64(l11 + 80u);
+                                                                                                                                    store64(l11 + 120u, t174);
+                                                                                                                                    const u64 t175 = load64(l11 + 88u);
+                                                                                                                                    store64(l11 + 128u, t175);
                                                                                                                                     store64(l11 + 108u, 0ull);
-                                                                                                                                    functions_arguments_Arguments_next(stack, l11 + 40ull, l11 + 120ull, l8);
-                                                                                                                                    const u32 t175 = load32(l11 + 40u);
-                                                                                                                                    l39 = t175;
-                                                                                                                                    const u32 t176 = load32(l11 + 44u);
-                                                                                                                                    l36 = t176;
+                                                                                                                                    functions_arguments_Arguments_next(stack, l11 + 48ull, l11 + 120ull, l8);
+                                                                                                                                    const u32 t176 = load32(l11 + 48u);
+                                                                                                                                    l39 = t176;
+                                                                                                                                    const u32 t177 = load32(l11 + 52u);
+                                                                                                                                    l36 = t177;
                                                                                                                                     l13 = (u64)(l36 + l31);
                                                                                                                                     l10 = (u64)(l39 + l31) - l13;
                                                                                                                                     l1 = (l1 + (l13 << 3)) - 8ull;
                                                                                                                                     l32 = l36;
-                                                                                                                                    L177:;
+                                                                                                                                    L178:;
                                                                                                                                     {
                                                                                                                                         {
                                                                                                                                             l34 = l32;
-                                                                                                                                            if (l10 == 0) goto L178;
-                                                                                                                                            const u32 t179 = load8(l1);
-                                                                                                                                            if (t179) goto L178;
+                                                                                                                                            if (l10 == 0) goto L179;
+                                                                                                                                            const u32 t180 = load8(l1);
+                                                                                                                                            if (t180) goto L179;
                                                                                                                                             l10 = l10 + 1ull;
                                                                                                                                             l32 = l34 - 1u;
                                                                                                                                             l13 = l1 + 1ull;
                                                                                                                                             l1 = l1 - 8ull;
-                                                                                                                                            const u32 t180 = load8(l13);
-                                                                                                                                            if ((t180 & 248u) == 48u) goto L177;
+                                                                                                                                            const u32 t181 = load8(l13);
+                                                                                                                                            if ((t181 & 248u) == 48u) goto L178;
                                                                                                                                         }
-                                                                                                                                        L178:;
+                                                                                                                                        L179:;
                                                                                                                                     }
                                                                                                                                     store32(l11 + 104u, l36);
                                                                                                                                     store32(l11 + 100u, l34);
                                                                                                                                     store32(l11 + 96u, 2u);
                                                                                                                                     functions_bit_strings_give_bits(stack, l11 + 136ull, l8, l39, l34, l11 + 96ull);
-                                                                                                                                    const u32 t181 = load16(l11 + 136u);
-                                                                                                                                    store16(l11 + 72u, (u16)t181);
-                                                                                                                                    const u32 t182 = load32(l11 + 140u);
-                                                                                                                                    store32(l11 + 76u, t182);
-                                                                                                                                    goto L105;
+                                                                                                                                    const u32 t182 = load16(l11 + 136u);
+                                                                                                                                    store16(l11 + 72u, (u16)t182);
+                                                                                                                                    const u32 t183 = load32(l11 + 140u);
+                                                                                                                                    store32(l11 + 76u, t183);
+                                                                                                                                    goto L110;
                                                                                                                                 }
-                                                                                                                                L125:;
+                                                                                                                                L126:;
                                                                                                                                 functions_bit_strings_shift(stack, l11 + 72ull, l8, l11 + 80ull);
-                                                                                                                                goto L105;
+                                                                                                                                goto L110;
                                                                                                                             }
-                                                                                                                            L124:;
+                                                                                                                            L125:;
                                                                                                                             functions_bit_strings_rotate(stack, l11 + 72ull, l8, l11 + 80ull);
-                                                                                                                            goto L105;
+                                                                                                                            goto L110;
                                                                                                                         }
-                                                                                                                        L123:;
+                                                                                                                        L124:;
                                                                                                                         functions_form_calls_define_string(stack, l11 + 72ull, l8, l11 + 80ull);
-                                                                                                                        goto L105;
+                                                                                                                        goto L110;
                                                                                                                     }
-                                                                                                                    L110:;
-                                                                                                                    store32(l17 + 11u, 0u);
-                                                                                                                    store8(l17 + 10u, (u8)l43);
-                                                                                                                    store8(l17 + 9u, (u8)l34);
-                                                                                                                    store8(l17 + 8u, (u8)1u);
-                                                                                                                    store8(l17 + 15u, (u8)0u);
-                                                                                                                    store32(l17 + 36u, 0u);
-                                                                                                                    store32(l17 + 32u, l35);
-                                                                                                                    store32(l17 + 20u, 0u);
-                                                                                                                    const u32 t183 = load32(l11 + 60u);
-                                                                                                                    store32(l17 + 16u, t183);
-                                                                                                                    l1 = l21 - l18;
-                                                                                                                    store64(l17, l1);
-                                                                                                                    store64(l17 + 24u, l1 + l23);
-                                                                                                                    goto L16;
+                                                                                                                    L114:;
+                                                                                                                    l10 = l21 - l18;
+                                                                                                                    l1 = l10 + l23;
+                                                                                                                    l31 = 0u;
+                                                                                                                    goto L109;
                                                                                                                 }
-                                                                                                                L109:;
-                                                                                                                l10 = l21 - l18;
-                                                                                                                l1 = l10 + l23;
-                                                                                                                l31 = 0u;
-                                                                                                                goto L104;
+                                                                                                                L113:;
+                                                                                                                store64(l8 + 44ull, 0ull);
+                                                                                                                l32 = 0u;
+                                                                                                                goto L111;
                                                                                                             }
-                                                                                                            L108:;
-                                                                                                            store64(l8 + 44ull, 0ull);
-                                                                                                            l32 = 0u;
-                                                                                                            goto L106;
+                                                                                                            L112:;
+                                                                                                            store32(l11 + 76u, 0u);
+                                                                                                            store16(l11 + 72u, (u16)1u);
+                                                                                                            goto L110;
                                                                                                         }
-                                                                                                        L107:;
-                                                                                                        store32(l11 + 76u, 0u);
-                                                                                                        store16(l11 + 72u, (u16)1u);
-                                                                                                        goto L105;
-                                                                                                    }
-                                                                                                    L106:;
-                                                                                                    const u32 t184 = load32(l11 + 100u);
-                                                                                                    l34 = t184;
-                                                                                                    const u32 t185 = load32(l11 + 96u);
-                                                                                                    l39 = t185;
-                                                                                                    {
+                                                                                                        L111:;
+                                                                                                        const u32 t184 = load32(l11 + 100u);
+                                                                                                        l34 = t184;
+                                                                                                        const u32 t185 = load32(l11 + 96u);
+                                                                                                        l39 = t185;
                                                                                                         {
                                                                                                             {
                                                                                                                 {
                                                                                                                     {
-                                                                                                                        if ((l36 & 1u) == 0) goto L190;
-                                                                                                                        if (l34 >= l39) goto L190;
-                                                                                                                        const u32 t191 = forms_work_Work_place_of(stack, l8, l32);
-                                                                                                                        l38 = t191;
-                                                                                                                        const u64 t192 = load64(l8);
-                                                                                                                        l13 = t192;
-                                                                                                                        l1 = l13 + ((u64)l38 << 3);
-                                                                                                                        const u32 t193 = load32(l1 + 12ull);
-                                                                                                                        l45 = t193;
-                                                                                                                        const u32 t194 = load32(l1 + 20ull);
-                                                                                                                        l41 = t194;
-                                                                                                                        l36 = l45 - l41;
-                                                                                                                        if (l36 == 0) {
-                                                                                                                            l36 = 0u;
-                                                                                                                            goto L186;
-                                                                                                                        }
-                                                                                                                        const u32 t196 = load32(l1 + 4ull);
-                                                                                                                        l43 = (l38 + t196) + 3u;
-                                                                                                                        l38 = l41 + l43;
                                                                                                                         {
-                                                                                                                            const u32 t198 = load32(l8 + 28ull);
-                                                                                                                            l41 = t198;
-                                                                                                                            const u32 t199 = load32(l8 + 20ull);
-                                                                                                                            const u32 t200 = load32(l8 + 24ull);
-                                                                                                                            l46 = t200;
-                                                                                                                            const u32 t201 = load32(l8 + 16ull);
-                                                                                                                            if (l36 <= (l41 - (t199 + (l46 + t201)))) {
-                                                                                                                                l14 = (u64)l36;
-                                                                                                                                l15 = (u64)l38;
-                                                                                                                                {
-                                                                                                                                    {
-                                                                                                                                        if (l36 >= 8u) {
-                                                                                                                                            if (l36 == 8u) goto L203;
-                                                                                                                                            l1 = l13 + (l15 << 3);
-                                                                                                                                            l10 = l14;
-                                                                                                                                            goto L204;
-                                                                                                                                        }
-                                                                                                                                        if (l36 >= 4u) {
-                                                                                                                                            l1 = l13 + (l15 << 3);
-                                                                                                                                            const u32 t207 = load8(l1 + 24ull);
-                                                                                                                                            const u32 t208 = load8(l1 + 16ull);
-                                                                                                                                            const u32 t209 = load8(l1 + 8ull);
-                                                                                                                                            const u32 t210 = load8(l1);
-                                                                                                                                            if (((t207 + t208) | (t209 + t210)) & 255u) goto L190;
-                                                                                                                                            l10 = l14 + l15;
-                                                                                                                                            l1 = l13 + (l10 << 3);
-                                                                                                                                            const u32 t211 = load8(l1 - 8ull);
-                                                                                                                                            const u32 t212 = load8(l1 - 16ull);
-                                                                                                                                            const u32 t213 = load8(l1 - 24ull);
-                                                                                                                                            const u32 t214 = load8(l1 - 32ull);
-                                                                                                                                            if (((t211 + t212) | (t213 + t214)) & 255u) goto L190;
-                                                                                                                                            l34 = l36 + l46;
-                                                                                                                                            l1 = (u64)(l41 - l34);
-                                                                                                                                            core_slice_edits_slice_T_copy_from_slice(stack, l13 + (l1 << 3), l13 + (l15 << 3), 4ull);
-                                                                                                                                            const u64 t215 = l1 - l15;
-                                                                                                                                            l1 = l10 - 4ull;
-                                                                                                                                            core_slice_edits_slice_T_copy_from_slice(stack, l13 + ((t215 + l1) << 3), l13 + (l1 << 3), 4ull);
-                                                                                                                                            goto L187;
-                                                                                                                                        }
-                                                                                                                                        l1 = l13 + (l15 << 3);
-                                                                                                                                        const u32 t216 = load8(l1);
-                                                                                                                                        l38 = t216;
-                                                                                                                                        if (l36 == 1u) goto L197;
-                                                                                                                                        const u32 t217 = load8(l1 + 8ull);
-                                                                                                                                        if (t217 | (l38 & 255u)) goto L190;
-                                                                                                                                        l10 = l14 + l15;
-                                                                                                                                        l1 = l13 + (l10 << 3);
-                                                                                                                                        const u32 t218 = load8(l1 - 8ull);
-                                                                                                                                        const u32 t219 = load8(l1 - 16ull);
-                                                                                                                                        if (t218 | t219) goto L190;
-                                                                                                                                        l34 = l36 + l46;
-                                                                                                                                        l1 = (u64)(l41 - l34);
-                                                                                                                                        core_slice_edits_slice_T_copy_from_slice(stack, l13 + (l1 << 3), l13 + (l15 << 3), 2ull);
-                                                                                                                                        const u64 t220 = l1 - l15;
-                                                                                                                                        l1 = l10 - 2ull;
-                                                                                                                                        core_slice_edits_slice_T_copy_from_slice(stack, l13 + ((t220 + l1) << 3), l13 + (l1 << 3), 2ull);
-                                                                                                                                        goto L187;
-                                                                                                                                    }
-                                                                                                                                    L204:;
-                                                                                                                                    L221:;
-                                                                                                                                    {
-                                                                                                                                        const u32 t222 = load8(l1 + 56ull);
-                                                                                                                                        const u32 t223 = load8(l1 + 48ull);
-                                                                                                                                        const u32 t224 = load8(l1 + 40ull);
-                                                                                                                                        const u32 t225 = load8(l1 + 32ull);
-                                                                                                                                        const u32 t226 = load8(l1 + 24ull);
-                                                                                                                                        const u32 t227 = load8(l1 + 16ull);
-                                                                                                                                        const u32 t228 = load8(l1 + 8ull);
-                                                                                                                                        const u32 t229 = load8(l1);
-                                                                                                                                        if (t222 | ((t223 + (t224 + (t225 + (t226 + (t227 + (t228 + t229)))))) & 255u)) goto L190;
-                                                                                                                                        l1 = l1 + 64ull;
-                                                                                                                                        l10 = l10 - 8ull;
-                                                                                                                                        if (l10 >= 9ull) goto L221;
-                                                                                                                                    }
-                                                                                                                                }
-                                                                                                                                L203:;
-                                                                                                                                l10 = l14 + l15;
-                                                                                                                                l1 = l13 + (l10 << 3);
-                                                                                                                                const u32 t230 = load8(l1 - 56ull);
-                                                                                                                                const u32 t231 = load8(l1 - 64ull);
-                                                                                                                                const u32 t232 = load8(l1 - 48ull);
-                                                                                                                                const u32 t233 = load8(l1 - 40ull);
-                                                                                                                                const u32 t234 = load8(l1 - 32ull);
-                                                                                                                                const u32 t235 = load8(l1 - 24ull);
-                                                                                                                                const u32 t236 = load8(l1 - 16ull);
-                                                                                                                                const u32 t237 = load8(l1 - 8ull);
-                                                                                                                                if ((((((((t230 + t231) + t232) + t233) + t234) + t235) + t236) & 255u) | t237) goto L190;
-                                                                                                                                l34 = l36 + l46;
-                                                                                                                                l19 = (u64)(l41 - l34);
-                                                                                                                                if (l36 > 24u) goto L189;
-                                                                                                                                if (l36 != 8u) {
-                                                                                                                                    l20 = l13 - 64ull;
-                                                                                                                                    l1 = l20 + (l10 << 3);
-                                                                                                                                    l10 = l20 + ((l14 + l19) << 3);
-                                                                                                                                    L239:;
-                                                                                                                                    {
-                                                                                                                                        core_slice_edits_slice_T_copy_from_slice(stack, l10, l1, 8ull);
-                                                                                                                                        l1 = l1 - 64ull;
-                                                                                                                                        l10 = l10 - 64ull;
-                                                                                                                                        l14 = l14 - 8ull;
-                                                                                                                                        if (l14 > 8ull) goto L239;
-                                                                                                                                    }
-                                                                                                                                }
-                                                                                                                                core_slice_edits_slice_T_copy_from_slice(stack, l13 + (l19 << 3), l13 + (l15 << 3), 8ull);
-                                                                                                                                store32(l8 + 24ull, l34);
+                                                                                                                            if ((l36 & 1u) == 0) goto L190;
+                                                                                                                            if (l34 >= l39) goto L190;
+                                                                                                                            const u32 t191 = forms_work_Work_place_of(stack, l8, l32);
+                                                                                                                            l38 = t191;
+                                                                                                                            const u64 t192 = load64(l8);
+                                                                                                                            l13 = t192;
+                                                                                                                            l1 = l13 + ((u64)l38 << 3);
+                                                                                                                            const u32 t193 = load32(l1 + 12ull);
+                                                                                                                            l45 = t193;
+                                                                                                                            const u32 t194 = load32(l1 + 20ull);
+                                                                                                                            l41 = t194;
+                                                                                                                            l36 = l45 - l41;
+                                                                                                                            if (l36 == 0) {
+                                                                                                                                l36 = 0u;
                                                                                                                                 goto L186;
                                                                                                                             }
-                                                                                                                            store_item_copies_load_items_over_spare(stack, l11 + 8ull, l8, l38, l43 + l45);
-                                                                                                                            const u32 t240 = load8(l11 + 8u);
-                                                                                                                            if (t240 != 1u) goto L190;
-                                                                                                                            const u32 t241 = load32(l11 + 12u);
-                                                                                                                            l36 = t241;
-                                                                                                                            goto L186;
+                                                                                                                            const u32 t196 = load32(l1 + 4ull);
+                                                                                                                            l43 = (l38 + t196) + 3u;
+                                                                                                                            l38 = l41 + l43;
+                                                                                                                            {
+                                                                                                                                const u32 t198 = load32(l8 + 28ull);
+                                                                                                                                l41 = t198;
+                                                                                                                                const u32 t199 = load32(l8 + 20ull);
+                                                                                                                                const u32 t200 = load32(l8 + 24ull);
+                                                                                                                                l46 = t200;
+                                                                                                                                const u32 t201 = load32(l8 + 16ull);
+                                                                                                                                if (l36 <= (l41 - (t199 + (l46 + t201)))) {
+                                                                                                                                    l14 = (u64)l36;
+                                                                                                                                    l15 = (u64)l38;
+                                                                                                                                    {
+                                                                                                                                        {
+                                                                                                                                            if (l36 >= 8u) {
+                                                                                                                                                if (l36 == 8u) goto L203;
+                                                                                                                                                l1 = l13 + (l15 << 3);
+                                                                                                                                                l10 = l14;
+                                                                                                                                                goto L204;
+                                                                                                                                            }
+                                                                                                                                            if (l36 >= 4u) {
+                                                                                                                                                l1 = l13 + (l15 << 3);
+                                                                                                                                                const u32 t207 = load8(l1 + 24ull);
+                                                                                                                                                const u32 t208 = load8(l1 + 16ull);
+                                                                                                                                                const u32 t209 = load8(l1 + 8ull);
+                                                                                                                                                const u32 t210 = load8(l1);
+                                                                                                                                                if (((t207 + t208) | (t209 + t210)) & 255u) goto L190;
+                                                                                                                                                l10 = l14 + l15;
+                                                                                                                                                l1 = l13 + (l10 << 3);
+                                                                                                                                                const u32 t211 = load8(l1 - 8ull);
+                                                                                                                                                const u32 t212 = load8(l1 - 16ull);
+                                                                                                                                                const u32 t213 = load8(l1 - 24ull);
+                                                                                                                                                const u32 t214 = load8(l1 - 32ull);
+                                                                                                                                                if (((t211 + t212) | (t213 + t214)) & 255u) goto L190;
+                                                                                                                                                l34 = l36 + l46;
+                                                                                                                                                l1 = (u64)(l41 - l34);
+                                                                                                                                                core_slice_edits_slice_T_copy_from_slice(stack, l13 + (l1 << 3), l13 + (l15 << 3), 4ull);
+                                                                                                                                                const u64 t215 = l1 - l15;
+                                                                                                                                                l1 = l10 - 4ull;
+                                                                                                                                                core_slice_edits_slice_T_copy_from_slice(stack, l13 + ((t215 + l1) << 3), l13 + (l1 << 3), 4ull);
+                                                                                                                                                goto L187;
+                                                                                                                                            }
+                                                                                                                                            l1 = l13 + (l15 << 3);
+                                                                                                                                            const u32 t216 = load8(l1);
+                                                                                                                                            l38 = t216;
+                                                                                                                                            if (l36 == 1u) goto L197;
+                                                                                                                                            const u32 t217 = load8(l1 + 8ull);
+                                                                                                                                            if (t217 | (l38 & 255u)) goto L190;
+                                                                                                                                            l10 = l14 + l15;
+                                                                                                                                            l1 = l13 + (l10 << 3);
+                                                                                                                                            const u32 t218 = load8(l1 - 8ull);
+                                                                                                                                            const u32 t219 = load8(l1 - 16ull);
+                                                                                                                                            if (t218 | t219) goto L190;
+                                                                                                                                            l34 = l36 + l46;
+                                                                                                                                            l1 = (u64)(l41 - l34);
+                                                                                                                                            core_slice_edits_slice_T_copy_from_slice(stack, l13 + (l1 << 3), l13 + (l15 << 3), 2ull);
+                                                                                                                                            const u64 t220 = l1 - l15;
+                                                                                                                                            l1 = l10 - 2ull;
+                                                                                                                                            core_slice_edits_slice_T_copy_from_slice(stack, l13 + ((t220 + l1) << 3), l13 + (l1 << 3), 2ull);
+                                                                                                                                            goto L187;
+                                                                                                                                        }
+                                                                                                                                        L204:;
+                                                                                                                                        L221:;
+                                                                                                                                        {
+                                                                                                                                            const u32 t222 = load8(l1 + 56ull);
+                                                                                                                                            const u32 t223 = load8(l1 + 48ull);
+                                                                                                                                            const u32 t224 = load8(l1 + 40ull);
+                                                                                                                                            const u32 t225 = load8(l1 + 32ull);
+                                                                                                                                            const u32 t226 = load8(l1 + 24ull);
+                                                                                                                                            const u32 t227 = load8(l1 + 16ull);
+                                                                                                                                            const u32 t228 = load8(l1 + 8ull);
+                                                                                                                                            const u32 t229 = load8(l1);
+                                                                                                                                            if (t222 | ((t223 + (t224 + (t225 + (t226 + (t227 + (t228 + t229)))))) & 255u)) goto L190;
+                                                                                                                                            l1 = l1 + 64ull;
+                                                                                                                                            l10 = l10 - 8ull;
+                                                                                                                                            if (l10 >= 9ull) goto L221;
+                                                                                                                                        }
+                                                                                                                                    }
+                                                                                                                                    L203:;
+                                                                                                                                    l10 = l14 + l15;
+                                                                                                                                    l1 = l13 + (l10 << 3);
+                                                                                                                                    const u32 t230 = load8(l1 - 56ull);
+                                                                                                                                    const u32 t231 = load8(l1 - 64ull);
+                                                                                                                                    const u32 t232 = load8(l1 - 48ull);
+                                                                                                                                    const u32 t233 = load8(l1 - 40ull);
+                                                                                                                                    const u32 t234 = load8(l1 - 32ull);
+                                                                                                                                    const u32 t235 = load8(l1 - 24ull);
+                                                                                                                                    const u32 t236 = load8(l1 - 16ull);
+                                                                                                                                    const u32 t237 = load8(l1 - 8ull);
+                                                                                                                                    if ((((((((t230 + t231) + t232) + t233) + t234) + t235) + t236) & 255u) | t237) goto L190;
+                                                                                                                                    l34 = l36 + l46;
+                                                                                                                                    l19 = (u64)(l41 - l34);
+                                                                                                                                    if (l36 > 24u) goto L189;
+                                                                                                                                    if (l36 != 8u) {
+                                                                                                                                        l20 = l13 - 64ull;
+                                                                                                                                        l1 = l20 + (l10 << 3);
+                                                                                                                                        l10 = l20 + ((l14 + l19) << 3);
+                                                                                                                                        L239:;
+                                                                                                                                        {
+                                                                                                                                            core_slice_edits_slice_T_copy_from_slice(stack, l10, l1, 8ull);
+                                                                                                                                            l1 = l1 - 64ull;
+                                                                                                                                            l10 = l10 - 64ull;
+                                                                                                                                            l14 = l14 - 8ull;
+                                                                                                                                            if (l14 > 8ull) goto L239;
+                                                                                                                                        }
+                                                                                                                                    }
+                                                                                                                                    core_slice_edits_slice_T_copy_from_slice(stack, l13 + (l19 << 3), l13 + (l15 << 3), 8ull);
+                                                                                                                                    store32(l8 + 24ull, l34);
+                                                                                                                                    goto L186;
+                                                                                                                                }
+                                                                                                                                store_item_copies_load_items_over_spare(stack, l11 + 16ull, l8, l38, l43 + l45);
+                                                                                                                                const u32 t240 = load8(l11 + 16u);
+                                                                                                                                if (t240 != 1u) goto L190;
+                                                                                                                                const u32 t241 = load32(l11 + 20u);
+                                                                                                                                l36 = t241;
+                                                                                                                                goto L186;
+                                                                                                                            }
+                                                                                                                            L197:;
+                                                                                                                            if ((l38 & 255u) == 0) goto L188;
                                                                                                                         }
-                                                                                                                        L197:;
-                                                                                                                        if ((l38 & 255u) == 0) goto L188;
+                                                                                                                        L190:;
+                                                                                                                        const u32 t242 = forms_work_Work_fill_body(stack, l8, l32, l39, l34);
+                                                                                                                        l34 = t242;
+                                                                                                                        store32(l11 + 76u, 0u);
+                                                                                                                        store8(l11 + 73u, (u8)0u);
+                                                                                                                        store8(l11 + 72u, (u8)l34);
+                                                                                                                        goto L110;
                                                                                                                     }
-                                                                                                                    L190:;
-                                                                                                                    const u32 t242 = forms_work_Work_fill_body(stack, l8, l32, l39, l34);
-                                                                                                                    l34 = t242;
-                                                                                                                    store32(l11 + 76u, 0u);
-                                                                                                                    store8(l11 + 73u, (u8)0u);
-                                                                                                                    store8(l11 + 72u, (u8)l34);
-                                                                                                                    goto L105;
+                                                                                                                    L189:;
+                                                                                                                    space_copies_copy_long(stack, l13, l15, l10, l19);
+                                                                                                                    goto L187;
                                                                                                                 }
-                                                                                                                L189:;
-                                                                                                                space_copies_copy_long(stack, l13, l15, l10, l19);
-                                                                                                                goto L187;
+                                                                                                                L188:;
+                                                                                                                l34 = l36 + l46;
+                                                                                                                l1 = l13 + ((u64)(l41 - l34) << 3);
+                                                                                                                l10 = l13 + (l15 << 3);
+                                                                                                                const u32 t243 = load16(l10);
+                                                                                                                store16(l1, (u16)t243);
+                                                                                                                const u32 t244 = load32(l10 + 4ull);
+                                                                                                                store32(l1 + 4ull, t244);
                                                                                                             }
-                                                                                                            L188:;
-                                                                                                            l34 = l36 + l46;
-                                                                                                            l1 = l13 + ((u64)(l41 - l34) << 3);
-                                                                                                            l10 = l13 + (l15 << 3);
-                                                                                                            const u32 t243 = load16(l10);
-                                                                                                            store16(l1, (u16)t243);
-                                                                                                            const u32 t244 = load32(l10 + 4ull);
-                                                                                                            store32(l1 + 4ull, t244);
+                                                                                                            L187:;
+                                                                                                            store32(l8 + 24ull, l34);
                                                                                                         }
-                                                                                                        L187:;
-                                                                                                        store32(l8 + 24ull, l34);
+                                                                                                        L186:;
+                                                                                                        store32(l11 + 76u, l36);
+                                                                                                        store16(l11 + 72u, (u16)2u);
                                                                                                     }
-                                                                                                    L186:;
-                                                                                                    store32(l11 + 76u, l36);
-                                                                                                    store16(l11 + 72u, (u16)2u);
-                                                                                                }
-                                                                                                L105:;
-                                                                                                const u32 t245 = load32(l11 + 76u);
-                                                                                                l32 = t245;
-                                                                                                {
-                                                                                                    const u64 t247 = load8(l11 + 72u);
-                                                                                                    switch ((u32)t247 - 1u) {
-                                                                                                    case 0: goto L103;
-                                                                                                    case 1: goto L102;
-                                                                                                    case 2: goto L102;
-                                                                                                    case 3: goto L246;
-                                                                                                    default: goto L32;
+                                                                                                    L110:;
+                                                                                                    const u32 t245 = load32(l11 + 76u);
+                                                                                                    l32 = t245;
+                                                                                                    {
+                                                                                                        const u64 t247 = load8(l11 + 72u);
+                                                                                                        switch ((u32)t247 - 1u) {
+                                                                                                        case 0: goto L108;
+                                                                                                        case 1: goto L107;
+                                                                                                        case 2: goto L107;
+                                                                                                        case 3: goto L246;
+                                                                                                        default: goto L32;
+                                                                                                        }
                                                                                                     }
+                                                                                                    L246:;
+                                                                                                    const u32 t248 = load32(l8 + 24ull);
+                                                                                                    const u32 t249 = load32(l8 + 20ull);
+                                                                                                    const u32 t250 = load32(l8 + 16ull);
+                                                                                                    l42 = t248 + (t249 + t250);
+                                                                                                    l10 = l21 - l18;
+                                                                                                    l1 = l10 + l23;
+                                                                                                    const u32 t251 = load8(l11 + 73u);
+                                                                                                    l31 = t251;
+                                                                                                    l33 = 1u << (l31 & 31);
+                                                                                                    if (l33 & 3u) goto L109;
+                                                                                                    if (l33 & 12u) goto L31;
+                                                                                                    l35 = (l35 < l42) ? l42 : l35;
+                                                                                                    goto L31;
                                                                                                 }
-                                                                                                L246:;
-                                                                                                const u32 t248 = load32(l8 + 24ull);
-                                                                                                const u32 t249 = load32(l8 + 20ull);
-                                                                                                const u32 t250 = load32(l8 + 16ull);
-                                                                                                l42 = t248 + (t249 + t250);
-                                                                                                l10 = l21 - l18;
-                                                                                                l1 = l10 + l23;
-                                                                                                const u32 t251 = load8(l11 + 73u);
-                                                                                                l31 = t251;
-                                                                                                l33 = 1u << (l31 & 31);
-                                                                                                if (l33 & 3u) goto L104;
-                                                                                                if (l33 & 12u) goto L31;
+                                                                                                L109:;
                                                                                                 l35 = (l35 < l42) ? l42 : l35;
+                                                                                                l1 = l1 + 1ull;
                                                                                                 goto L31;
                                                                                             }
-                                                                                            L104:;
-                                                                                            l35 = (l35 < l42) ? l42 : l35;
-                                                                                            l1 = l1 + 1ull;
-                                                                                            goto L31;
+                                                                                            L108:;
+                                                                                            const u32 t252 = load32(l8 + 20ull);
+                                                                                            l37 = t252;
+                                                                                            core_delivery_deliver(stack, l8, l40, l44);
+                                                                                            v34 = l37 + (l31 + l33); goto L34;
                                                                                         }
-                                                                                        L103:;
-                                                                                        const u32 t252 = load32(l8 + 20ull);
-                                                                                        l37 = t252;
-                                                                                        core_delivery_deliver(stack, l8, l40, l44);
-                                                                                        v33 = l37 + (l31 + l33); goto L33;
-                                                                                    }
-                                                                                    L102:;
-                                                                                    const u64 t253 = load64(l8);
-                                                                                    const u64 t254 = load32(l8 + 16ull);
-                                                                                    l1 = t253 + (t254 << 3);
-                                                                                    {
-                                                                                        const u32 t256 = load32(l8 + 32ull);
-                                                                                        l31 = t256;
-                                                                                        if (l37 == l31) {
-                                                                                            const u32 t258 = load32((l1 + ((u64)l40 << 3)) + 4ull);
-                                                                                            l31 = t258;
-                                                                                            l33 = l31 ? (l37 - l31) : 0u;
-                                                                                            goto L255;
-                                                                                        }
-                                                                                        if (l31 <= l40) {
-                                                                                            l33 = l31;
-                                                                                            goto L255;
-                                                                                        }
-                                                                                        L260:;
+                                                                                        L107:;
+                                                                                        const u64 t253 = load64(l8);
+                                                                                        const u64 t254 = load32(l8 + 16ull);
+                                                                                        l1 = t253 + (t254 << 3);
                                                                                         {
-                                                                                            const u32 t261 = load32((l1 + ((u64)(l31 - 1u) << 3)) + 4ull);
-                                                                                            l33 = t261;
-                                                                                            l31 = l31 - l33;
-                                                                                            l33 = l33 ? l31 : 0u;
-                                                                                            if (l33 > l40) goto L260;
+                                                                                            const u32 t256 = load32(l8 + 32ull);
+                                                                                            l31 = t256;
+                                                                                            if (l37 == l31) {
+                                                                                                const u32 t258 = load32((l1 + ((u64)l40 << 3)) + 4ull);
+                                                                                                l31 = t258;
+                                                                                                l33 = l31 ? (l37 - l31) : 0u;
+                                                                                                goto L255;
+                                                                                            }
+                                                                                            if (l31 <= l40) {
+                                                                                                l33 = l31;
+                                                                                                goto L255;
+                                                                                            }
+                                                                                            L260:;
+                                                                                            {
+                                                                                                const u32 t261 = load32((l1 + ((u64)(l31 - 1u) << 3)) + 4ull);
+                                                                                                l33 = t261;
+                                                                                                l31 = l31 - l33;
+                                                                                                l33 = l33 ? l31 : 0u;
+                                                                                                if (l33 > l40) goto L260;
+                                                                                            }
                                                                                         }
+                                                                                        L255:;
+                                                                                        store32(l8 + 20ull, l40);
+                                                                                        store32(l8 + 32ull, l33);
+                                                                                        v34 = l32 + l42;
                                                                                     }
-                                                                                    L255:;
-                                                                                    store32(l8 + 20ull, l40);
-                                                                                    store32(l8 + 32ull, l33);
-                                                                                    v33 = l32 + l42;
+                                                                                    L34:;
+                                                                                    l31 = v34;
+                                                                                    store32(l11 + 64u, 0u);
+                                                                                    const u32 t262 = load32(l8 + 20ull);
+                                                                                    l33 = t262;
+                                                                                    store32(l11 + 68u, l33);
+                                                                                    const u32 t263 = load32(l8 + 24ull);
+                                                                                    const u32 t264 = load32(l8 + 16ull);
+                                                                                    l40 = t263 + (l33 + t264);
+                                                                                    l35 = (l31 > l35) ? l31 : l35;
+                                                                                    v25 = l18 - 1ull; goto L25;
                                                                                 }
                                                                                 L33:;
-                                                                                l31 = v33;
-                                                                                store32(l11 + 56u, 0u);
-                                                                                const u32 t262 = load32(l8 + 20ull);
-                                                                                l33 = t262;
-                                                                                store32(l11 + 60u, l33);
-                                                                                const u32 t263 = load32(l8 + 24ull);
-                                                                                const u32 t264 = load32(l8 + 16ull);
-                                                                                l40 = t263 + (l33 + t264);
-                                                                                l35 = (l31 > l35) ? l31 : l35;
-                                                                                v25 = l18 - 1ull; goto L25;
+                                                                                store32(l17 + 36u, 0u);
+                                                                                store32(l17 + 32u, l35);
+                                                                                store32(l17 + 20u, 0u);
+                                                                                const u32 t265 = load32(l11 + 68u);
+                                                                                store32(l17 + 16u, t265);
+                                                                                l10 = l21 - l18;
+                                                                                store64(l17, l10);
+                                                                                store64(l17 + 24u, l10 + l23);
+                                                                                store64(l17 + 8u, l1 | (((u64)l43 & 255ull) << 16));
+                                                                                goto L16;
                                                                             }
                                                                             L32:;
                                                                             l10 = l21 - l18;
@@ -23157,15 +23156,8 @@ static void engine_turn(u64 stack, u64 l0, u64 l1, u64 l2, u64 l3, u64 l4, u64 l
                                                                             l31 = 2u;
                                                                         }
                                                                         L31:;
-                                                                        const u32 t265 = load32(l8 + 20ull);
-                                                                        l33 = t265;
-                                                                        store8(l17 + 10u, (u8)0u);
-                                                                        store16(l17 + 8u, (u16)0u);
-                                                                        store64(l17, l10);
-                                                                        const u32 t266 = load32(l11 + 64u);
-                                                                        store32(l17 + 11u, t266);
-                                                                        const u32 t267 = load8(l11 + 68u);
-                                                                        store8(l17 + 15u, (u8)t267);
+                                                                        const u32 t266 = load32(l8 + 20ull);
+                                                                        l33 = t266;
                                                                         store16(l17 + 38u, (u16)0u);
                                                                         store8(l17 + 37u, (u8)l31);
                                                                         store8(l17 + 36u, (u8)1u);
@@ -23173,35 +23165,37 @@ static void engine_turn(u64 stack, u64 l0, u64 l1, u64 l2, u64 l3, u64 l4, u64 l
                                                                         store64(l17 + 24u, l1);
                                                                         store32(l17 + 20u, 0u);
                                                                         store32(l17 + 16u, l33);
+                                                                        store64(l17 + 8u, 0ull);
+                                                                        store64(l17, l10);
                                                                         goto L16;
                                                                     }
                                                                     L30:;
                                                                     l15 = l8 + 24ull;
                                                                     store32(l15, l33 - 2u);
                                                                     l13 = l8 + 32ull;
-                                                                    const u32 t268 = load32(l13);
-                                                                    l31 = t268;
+                                                                    const u32 t267 = load32(l13);
+                                                                    l31 = t267;
                                                                     l14 = l8 + 20ull;
-                                                                    const u32 t269 = load32(l14);
-                                                                    l33 = t269;
+                                                                    const u32 t268 = load32(l14);
+                                                                    l33 = t268;
                                                                     l19 = l8 + 16ull;
-                                                                    const u32 t270 = load32(l19);
-                                                                    l1 = l1 + ((u64)(l33 + t270) << 3);
+                                                                    const u32 t269 = load32(l19);
+                                                                    l1 = l1 + ((u64)(l33 + t269) << 3);
                                                                     store16(l1, (u16)1u);
                                                                     l33 = l33 + 1u;
                                                                     store32(l1 + 4ull, l31 ? (l33 - l31) : 0u);
                                                                     store32(l14, l33);
                                                                     store32(l13, l33);
-                                                                    const u32 t271 = load32(l11 + 56u);
-                                                                    if (t271 > 1u) goto L26;
-                                                                    const u32 t272 = load32(l8 + 28ull);
-                                                                    const u32 t273 = load32(l15);
-                                                                    l31 = t273;
-                                                                    l20 = (u64)(t272 - l31);
-                                                                    const u32 t274 = load32(l19);
-                                                                    l15 = (u64)(t274 + l33);
-                                                                    const u64 t275 = load64(l8);
-                                                                    l1 = t275;
+                                                                    const u32 t270 = load32(l11 + 64u);
+                                                                    if (t270 > 1u) goto L26;
+                                                                    const u32 t271 = load32(l8 + 28ull);
+                                                                    const u32 t272 = load32(l15);
+                                                                    l31 = t272;
+                                                                    l20 = (u64)(t271 - l31);
+                                                                    const u32 t273 = load32(l19);
+                                                                    l15 = (u64)(t273 + l33);
+                                                                    const u64 t274 = load64(l8);
+                                                                    l1 = t274;
                                                                     {
                                                                         l10 = (u64)l31;
                                                                         l13 = l18 - 1ull;
@@ -23213,99 +23207,99 @@ static void engine_turn(u64 stack, u64 l0, u64 l1, u64 l2, u64 l3, u64 l4, u64 l
                                                                             l10 = 0ull;
                                                                             l19 = 0ull;
                                                                             {
-                                                                                L279:;
+                                                                                L278:;
                                                                                 {
                                                                                     {
-                                                                                        const u32 t281 = load8(l10 + l14);
-                                                                                        l31 = t281;
-                                                                                        const u32 t282 = load8(((u64)l31 & 255ull) + TABLES + 513u);
-                                                                                        if (t282 == 0) {
+                                                                                        const u32 t280 = load8(l10 + l14);
+                                                                                        l31 = t280;
+                                                                                        const u32 t281 = load8(((u64)l31 & 255ull) + TABLES + 513u);
+                                                                                        if (t281 == 0) {
                                                                                             l13 = l10 + l15;
                                                                                             store8(l13, (u8)0u);
                                                                                             store32(l13 + 4ull, 0u);
                                                                                             store8(l13 + 1ull, (u8)l31);
-                                                                                            goto L280;
+                                                                                            goto L279;
                                                                                         }
-                                                                                        if ((l31 & 255u) != 44u) goto L278;
+                                                                                        if ((l31 & 255u) != 44u) goto L277;
                                                                                         l13 = l10 + l15;
                                                                                         store16(l13, (u16)2u);
                                                                                         store32(l13 + 4ull, 0u);
                                                                                         l19 = l1 + 1ull;
                                                                                     }
-                                                                                    L280:;
+                                                                                    L279:;
                                                                                     l1 = l1 + 1ull;
                                                                                     l10 = l10 + 8ull;
-                                                                                    if (l10 != 96ull) goto L279;
+                                                                                    if (l10 != 96ull) goto L278;
                                                                                 }
                                                                                 l1 = 12ull;
                                                                             }
-                                                                            L278:;
+                                                                            L277:;
                                                                             l10 = l8 + 24ull;
-                                                                            const u32 t284 = load32(l10);
+                                                                            const u32 t283 = load32(l10);
                                                                             l31 = (u32)l1;
-                                                                            store32(l10, t284 - l31);
+                                                                            store32(l10, t283 - l31);
                                                                             l10 = l8 + 20ull;
-                                                                            const u32 t285 = load32(l10);
-                                                                            store32(l10, t285 + l31);
+                                                                            const u32 t284 = load32(l10);
+                                                                            store32(l10, t284 + l31);
                                                                             l31 = (u32)l19;
-                                                                            if (l31 == 0) goto L276;
-                                                                            store32(l11 + 60u, l31 + l33);
-                                                                            goto L276;
+                                                                            if (l31 == 0) goto L275;
+                                                                            store32(l11 + 68u, l31 + l33);
+                                                                            goto L275;
                                                                         }
                                                                         if (l14 == 0) {
                                                                             l1 = 0ull;
-                                                                            goto L276;
+                                                                            goto L275;
                                                                         }
                                                                         l10 = l1 + (l15 << 3);
                                                                         l13 = (l1 + (l20 << 3)) + 1ull;
                                                                         l1 = 0ull;
                                                                         l15 = 0ull;
                                                                         {
-                                                                            L288:;
+                                                                            L287:;
                                                                             {
                                                                                 {
-                                                                                    const u32 t290 = load8(l13);
-                                                                                    l31 = t290;
-                                                                                    const u32 t291 = load8(((u64)l31 & 255ull) + TABLES + 513u);
-                                                                                    if (t291 == 0) {
+                                                                                    const u32 t289 = load8(l13);
+                                                                                    l31 = t289;
+                                                                                    const u32 t290 = load8(((u64)l31 & 255ull) + TABLES + 513u);
+                                                                                    if (t290 == 0) {
                                                                                         store8(l10, (u8)0u);
                                                                                         store32(l10 + 4ull, 0u);
                                                                                         store8(l10 + 1ull, (u8)l31);
-                                                                                        goto L289;
+                                                                                        goto L288;
                                                                                     }
-                                                                                    if ((l31 & 255u) != 44u) goto L287;
+                                                                                    if ((l31 & 255u) != 44u) goto L286;
                                                                                     store16(l10, (u16)2u);
                                                                                     store32(l10 + 4ull, 0u);
                                                                                     l15 = l1 + 1ull;
                                                                                 }
-                                                                                L289:;
+                                                                                L288:;
                                                                                 l13 = l13 + 8ull;
                                                                                 l10 = l10 + 8ull;
                                                                                 l1 = l1 + 1ull;
-                                                                                if (l14 != l1) goto L288;
+                                                                                if (l14 != l1) goto L287;
                                                                             }
                                                                             l1 = l14;
                                                                         }
-                                                                        L287:;
+                                                                        L286:;
                                                                         l10 = l8 + 24ull;
-                                                                        const u32 t293 = load32(l10);
+                                                                        const u32 t292 = load32(l10);
                                                                         l31 = (u32)l1;
-                                                                        store32(l10, t293 - l31);
+                                                                        store32(l10, t292 - l31);
                                                                         l10 = l8 + 20ull;
-                                                                        const u32 t294 = load32(l10);
-                                                                        store32(l10, t294 + l31);
+                                                                        const u32 t293 = load32(l10);
+                                                                        store32(l10, t293 + l31);
                                                                         l31 = (u32)l15;
-                                                                        if (l31 == 0) goto L276;
-                                                                        store32(l11 + 60u, l31 + l33);
+                                                                        if (l31 == 0) goto L275;
+                                                                        store32(l11 + 68u, l31 + l33);
                                                                     }
-                                                                    L276:;
+                                                                    L275:;
                                                                     l10 = (l1 & 4294967295ull) + 1ull;
                                                                     goto L26;
                                                                 }
                                                                 L29:;
-                                                                const u32 t295 = load32(l11 + 56u);
-                                                                const u64 t296 = core_scan_begin_argument(stack, l8, l18, l11 + 60ull, t295 > 1u);
-                                                                l10 = t296;
+                                                                const u32 t294 = load32(l11 + 64u);
+                                                                const u64 t295 = core_scan_begin_argument(stack, l8, l18, l11 + 68ull, t294 > 1u);
+                                                                l10 = t295;
                                                                 goto L26;
                                                             }
                                                             L28:;
@@ -23315,26 +23309,26 @@ static void engine_turn(u64 stack, u64 l0, u64 l1, u64 l2, u64 l3, u64 l4, u64 l
                                                         L27:;
                                                         l31 = 1u;
                                                         l10 = (u64)l33;
-                                                        const u64 t297 = (u64)((l37 + (u32)(((l10 < l18) ? l10 : l18))));
+                                                        const u64 t296 = (u64)((l37 + (u32)(((l10 < l18) ? l10 : l18))));
                                                         l10 = (u64)(l37 + 1u);
-                                                        l13 = t297 - l10;
+                                                        l13 = t296 - l10;
                                                         if ((l13 == 0) == 0) {
                                                             l1 = (l1 + (l10 << 3)) + 1ull;
                                                             l10 = 0ull;
                                                             {
-                                                                L300:;
+                                                                L299:;
                                                                 {
-                                                                    const u32 t301 = load8(l1);
-                                                                    l31 = t301;
-                                                                    if (l31 > 13u) goto L299;
-                                                                    if (((1u << (l31 & 31)) & 9728u) == 0) goto L299;
+                                                                    const u32 t300 = load8(l1);
+                                                                    l31 = t300;
+                                                                    if (l31 > 13u) goto L298;
+                                                                    if (((1u << (l31 & 31)) & 9728u) == 0) goto L298;
                                                                     l1 = l1 + 8ull;
                                                                     l10 = l10 + 1ull;
-                                                                    if (l13 != l10) goto L300;
+                                                                    if (l13 != l10) goto L299;
                                                                 }
                                                                 l10 = l13;
                                                             }
-                                                            L299:;
+                                                            L298:;
                                                             l31 = (u32)l10 + 1u;
                                                         }
                                                         store32(l8 + 24ull, l33 - l31);
@@ -23348,8 +23342,8 @@ static void engine_turn(u64 stack, u64 l0, u64 l1, u64 l2, u64 l3, u64 l4, u64 l
                                                 l18 = v25;
                                                 if (l18 != 0ull) goto L22;
                                             }
-                                            const u32 t302 = load32(l11 + 60u);
-                                            l31 = t302;
+                                            const u32 t301 = load32(l11 + 68u);
+                                            l31 = t301;
                                         }
                                         store32(l17 + 36u, 0u);
                                         store32(l17 + 32u, l35);
@@ -23367,95 +23361,95 @@ static void engine_turn(u64 stack, u64 l0, u64 l1, u64 l2, u64 l3, u64 l4, u64 l
                                 trap();
                             }
                             L12:;
-                            const u64 t303 = load64(l9 + 232u);
-                            store64(l2, t303);
-                            const u32 t304 = load32(l9 + 240u);
-                            store32(l12, t304);
-                            const u32 t305 = load8(l9 + 245u);
-                            store8(l8 + 85ull, (u8)t305);
-                            const u32 t306 = load8(l9 + 244u);
-                            l32 = t306;
+                            const u64 t302 = load64(l9 + 232u);
+                            store64(l2, t302);
+                            const u32 t303 = load32(l9 + 240u);
+                            store32(l12, t303);
+                            const u32 t304 = load8(l9 + 245u);
+                            store8(l8 + 85ull, (u8)t304);
+                            const u32 t305 = load8(l9 + 244u);
+                            l32 = t305;
                             store8(l5, (u8)l32);
-                            const u32 t307 = load32(l9 + 224u);
-                            store32(l16, t307);
-                            const u32 t308 = load8(l9 + 217u);
-                            l33 = t308;
-                            const u32 t309 = load8(l9 + 216u);
-                            l31 = t309 == 1u;
-                            const u64 t310 = load64(l9 + 208u);
-                            l12 = t310;
+                            const u32 t306 = load32(l9 + 224u);
+                            store32(l16, t306);
+                            const u32 t307 = load8(l9 + 217u);
+                            l33 = t307;
+                            const u32 t308 = load8(l9 + 216u);
+                            l31 = t308 == 1u;
+                            const u64 t309 = load64(l9 + 208u);
+                            l12 = t309;
                         }
                         l5 = 0ull;
                         l4 = l4 + l12;
                         if (l4 == l7) goto L3;
                         {
-                            u64 v312;
+                            u64 v311;
                             {
                                 if (l6 == 0) {
-                                    if (l31 == 0) goto L311;
+                                    if (l31 == 0) goto L310;
                                     {
                                         l31 = l33 & 255u;
-                                        if ((l31 - 2u) < 23u) goto L314;
-                                        const u64 t315 = load64(l9 + 120u);
-                                        l12 = t315;
+                                        if ((l31 - 2u) < 23u) goto L313;
+                                        const u64 t314 = load64(l9 + 120u);
+                                        l12 = t314;
                                         {
                                             if (l31 != 1u) {
-                                                const u64 t318 = load64(l9 + 112u);
-                                                l5 = t318;
-                                                const u32 t319 = load8(l25);
-                                                store8(l9 + 208u, (u8)t319);
+                                                const u64 t317 = load64(l9 + 112u);
+                                                l5 = t317;
+                                                const u32 t318 = load8(l25);
+                                                store8(l9 + 208u, (u8)t318);
                                                 l2 = l12 - 64ull;
                                                 l2 = (l2 > l12) ? 0ull : l2;
-                                                const u32 t320 = core_slice_reads_slice_T_contains(stack, l5 + l2, l12 - l2, l9 + 208ull);
-                                                if (t320) goto L314;
-                                                const u32 t321 = core_slice_reads_slice_T_contains(stack, l5, l2, l9 + 208ull);
-                                                if (t321) goto L314;
-                                                const u32 t322 = load32(l8 + 24ull);
-                                                const u32 t323 = load32(l8 + 20ull);
-                                                const u32 t324 = load32(l8 + 16ull);
-                                                const u64 t325 = load32(l8 + 8ull);
-                                                if ((l12 + (u64)((t322 + (t323 + t324)))) > (t325 + 1ull)) goto L316;
+                                                const u32 t319 = core_slice_reads_slice_T_contains(stack, l5 + l2, l12 - l2, l9 + 208ull);
+                                                if (t319) goto L313;
+                                                const u32 t320 = core_slice_reads_slice_T_contains(stack, l5, l2, l9 + 208ull);
+                                                if (t320) goto L313;
+                                                const u32 t321 = load32(l8 + 24ull);
+                                                const u32 t322 = load32(l8 + 20ull);
+                                                const u32 t323 = load32(l8 + 16ull);
+                                                const u64 t324 = load32(l8 + 8ull);
+                                                if ((l12 + (u64)((t321 + (t322 + t323)))) > (t324 + 1ull)) goto L315;
                                                 l47 = 7u;
                                                 goto L4;
                                             }
-                                            if ((l12 == 0) == 0) goto L316;
+                                            if ((l12 == 0) == 0) goto L315;
                                             l47 = 7u;
                                             goto L3;
                                         }
-                                        L316:;
-                                        const u64 t326 = load64(l9 + 80u);
-                                        const u64 t327 = load64(l9 + 88u);
-                                        v312 = t326 - t327; goto L312;
+                                        L315:;
+                                        const u64 t325 = load64(l9 + 80u);
+                                        const u64 t326 = load64(l9 + 88u);
+                                        v311 = t325 - t326; goto L311;
                                     }
-                                    L314:;
-                                    const u64 t328 = load64(l9 + 80u);
-                                    const u64 t329 = load64(l9 + 88u);
-                                    v312 = t328 - t329; goto L312;
+                                    L313:;
+                                    const u64 t327 = load64(l9 + 80u);
+                                    const u64 t328 = load64(l9 + 88u);
+                                    v311 = t327 - t328; goto L311;
                                 }
-                                if (l31 == 0) goto L311;
-                                const u64 t330 = load64(l9 + 80u);
-                                const u64 t331 = load64(l9 + 88u);
-                                v312 = t330 - t331;
+                                if (l31 == 0) goto L310;
+                                const u64 t329 = load64(l9 + 80u);
+                                const u64 t330 = load64(l9 + 88u);
+                                v311 = t329 - t330;
                             }
-                            L312:;
-                            l12 = v312;
-                            if ((1u << (l33 & 31)) & 33553399u) goto L311;
-                            const u32 t332 = load32(l8 + 24ull);
-                            l31 = t332;
-                            if (l31 == 0) goto L311;
-                            const u64 t333 = load64(l8);
-                            l5 = t333;
-                            const u32 t334 = load32(l8 + 28ull);
-                            const u32 t335 = load8((l5 + ((u64)(t334 - l31) << 3)) + 1ull);
-                            if (t335 != 41u) goto L311;
-                            const u32 t336 = load32(l8 + 32ull);
-                            l31 = t336;
-                            if (l31 == 0) goto L311;
-                            const u32 t337 = load32(l8 + 60ull);
-                            l37 = t337;
-                            const u32 t338 = load32(l8 + 20ull);
-                            l36 = t338;
-                            if (((l33 & 255u) != 10u) & ((u64)l36 <= l12)) goto L311;
+                            L311:;
+                            l12 = v311;
+                            if ((1u << (l33 & 31)) & 33553399u) goto L310;
+                            const u32 t331 = load32(l8 + 24ull);
+                            l31 = t331;
+                            if (l31 == 0) goto L310;
+                            const u64 t332 = load64(l8);
+                            l5 = t332;
+                            const u32 t333 = load32(l8 + 28ull);
+                            const u32 t334 = load8((l5 + ((u64)(t333 - l31) << 3)) + 1ull);
+                            if (t334 != 41u) goto L310;
+                            const u32 t335 = load32(l8 + 32ull);
+                            l31 = t335;
+                            if (l31 == 0) goto L310;
+                            const u32 t336 = load32(l8 + 60ull);
+                            l37 = t336;
+                            const u32 t337 = load32(l8 + 20ull);
+                            l36 = t337;
+                            if (((l33 & 255u) != 10u) & ((u64)l36 <= l12)) goto L310;
                             l32 = 0u;
                             store8(l9 + 160u, (u8)0u);
                             store64(l9 + 152u, 0ull);
@@ -23465,12 +23459,12 @@ static void engine_turn(u64 stack, u64 l0, u64 l1, u64 l2, u64 l3, u64 l4, u64 l
                             store32(l9 + 208u, l31);
                             store32(l9 + 220u, 0u);
                             functions_arguments_Arguments_next(stack, l9 + 64ull, l9 + 208ull, l8);
-                            const u32 t339 = load32(l8 + 16ull);
-                            l31 = t339;
-                            const u32 t340 = load32(l9 + 68u);
-                            l33 = t340;
-                            const u32 t341 = load32(l9 + 64u);
-                            l37 = t341;
+                            const u32 t338 = load32(l8 + 16ull);
+                            l31 = t338;
+                            const u32 t339 = load32(l9 + 68u);
+                            l33 = t339;
+                            const u32 t340 = load32(l9 + 64u);
+                            l37 = t340;
                             store8(l9 + 170u, (u8)0u);
                             store16(l9 + 168u, (u16)0u);
                             {
@@ -23478,28 +23472,28 @@ static void engine_turn(u64 stack, u64 l0, u64 l1, u64 l2, u64 l3, u64 l4, u64 l
                                 if (((u64)(l31 + l33) - l2) == 2ull) {
                                     l2 = l5 + (l2 << 3);
                                     functions_function_function_of(stack, l9 + 168ull, l2, l2 + 8ull);
-                                    const u32 t344 = load8(l9 + 169u);
-                                    l37 = t344;
-                                    const u32 t345 = load8(l9 + 168u);
-                                    l33 = t345;
-                                    const u64 t346 = load64(l9 + 216u);
-                                    store64(l22 + 8u, t346);
-                                    const u64 t347 = load64(l9 + 208u);
-                                    store64(l22, t347);
-                                    const u64 t348 = load64(l22);
-                                    store64(l9 + 264u, t348);
-                                    const u64 t349 = load64(l22 + 8u);
-                                    store64(l9 + 272u, t349);
+                                    const u32 t343 = load8(l9 + 169u);
+                                    l37 = t343;
+                                    const u32 t344 = load8(l9 + 168u);
+                                    l33 = t344;
+                                    const u64 t345 = load64(l9 + 216u);
+                                    store64(l22 + 8u, t345);
+                                    const u64 t346 = load64(l9 + 208u);
+                                    store64(l22, t346);
+                                    const u64 t347 = load64(l22);
+                                    store64(l9 + 264u, t347);
+                                    const u64 t348 = load64(l22 + 8u);
+                                    store64(l9 + 272u, t348);
                                     functions_arguments_Arguments_next(stack, l9 + 48ull, l9 + 264ull, l8);
-                                    if (l33 == 0) goto L342;
-                                    const u32 t350 = load32(l9 + 52u);
-                                    l33 = t350;
-                                    const u32 t351 = load32(l9 + 48u);
-                                    l36 = t351;
-                                    if ((1u << (l37 & 31)) & 33553399u) goto L342;
+                                    if (l33 == 0) goto L341;
+                                    const u32 t349 = load32(l9 + 52u);
+                                    l33 = t349;
+                                    const u32 t350 = load32(l9 + 48u);
+                                    l36 = t350;
+                                    if ((1u << (l37 & 31)) & 33553399u) goto L341;
                                     if (l37 == 3u) {
                                         l32 = l33 - l36;
-                                        goto L342;
+                                        goto L341;
                                     }
                                     store64(l9 + 200u, 0ull);
                                     store64(l9 + 192u, 0ull);
@@ -23508,159 +23502,159 @@ static void engine_turn(u64 stack, u64 l0, u64 l1, u64 l2, u64 l3, u64 l4, u64 l
                                     store64(l9 + 168u, 0ull);
                                     {
                                         {
-                                            u32 v355;
+                                            u32 v354;
                                             {
-                                                const u32 t356 = load32(l8 + 40ull);
-                                                l32 = t356;
+                                                const u32 t355 = load32(l8 + 40ull);
+                                                l32 = t355;
                                                 if (l32 >= 8u) {
                                                     forms_work_Work_find_among_more(stack, l9 + 32ull, l8, l36, l33);
-                                                    const u32 t358 = load8(l9 + 32u);
-                                                    l31 = t358;
-                                                    const u32 t359 = load32(l9 + 36u);
-                                                    v355 = t359; goto L355;
+                                                    const u32 t357 = load8(l9 + 32u);
+                                                    l31 = t357;
+                                                    const u32 t358 = load32(l9 + 36u);
+                                                    v354 = t358; goto L354;
                                                 }
                                                 {
-                                                    if (l32 == 0) goto L360;
-                                                    const u64 t361 = load32(l5 + 4ull);
+                                                    if (l32 == 0) goto L359;
+                                                    const u64 t360 = load32(l5 + 4ull);
                                                     l16 = (u64)(l31 + l33);
                                                     l2 = (u64)(l31 + l36);
-                                                    if (t361 != (l16 - l2)) goto L360;
+                                                    if (t360 != (l16 - l2)) goto L359;
                                                     l14 = 17ull - (l2 << 3);
                                                     l2 = (l16 ^ 18446744073709551615ull) + l2;
                                                     l5 = l5 + (l16 << 3);
-                                                    L362:;
+                                                    L361:;
                                                     {
                                                         l2 = l2 + 1ull;
-                                                        if (l2 == 0) goto L354;
+                                                        if (l2 == 0) goto L353;
                                                         l16 = l5 - 7ull;
                                                         l1 = l5 + l14;
                                                         l5 = l5 - 8ull;
-                                                        const u32 t363 = load8(l1);
-                                                        const u32 t364 = load8(l16);
-                                                        if (t363 == t364) goto L362;
+                                                        const u32 t362 = load8(l1);
+                                                        const u32 t363 = load8(l16);
+                                                        if (t362 == t363) goto L361;
                                                     }
                                                 }
-                                                L360:;
+                                                L359:;
                                                 forms_work_Work_find_among_few(stack, l9 + 40ull, l8, l36, l33);
-                                                const u32 t365 = load8(l9 + 40u);
-                                                l31 = t365;
-                                                const u32 t366 = load32(l9 + 44u);
-                                                v355 = t366;
+                                                const u32 t364 = load8(l9 + 40u);
+                                                l31 = t364;
+                                                const u32 t365 = load32(l9 + 44u);
+                                                v354 = t365;
                                             }
-                                            L355:;
-                                            l32 = v355;
-                                            if ((l31 & 255u) == 1u) goto L353;
+                                            L354:;
+                                            l32 = v354;
+                                            if ((l31 & 255u) == 1u) goto L352;
                                             l32 = 0u;
-                                            goto L342;
+                                            goto L341;
                                         }
-                                        L354:;
+                                        L353:;
                                         store64(l8 + 44ull, 0ull);
                                         l32 = 0u;
                                     }
-                                    L353:;
+                                    L352:;
                                     forms_work_Work_stored(stack, l9 + 168ull, l8, l32);
-                                    const u64 t367 = load64(l9 + 192u);
-                                    l16 = t367;
+                                    const u64 t366 = load64(l9 + 192u);
+                                    l16 = t366;
                                     l1 = l16 & 4294967295ull;
                                     if (l1 == 0) {
                                         l32 = 3u;
-                                        goto L342;
+                                        goto L341;
                                     }
-                                    const u64 t369 = load64(l9 + 184u);
-                                    l2 = t369;
+                                    const u64 t368 = load64(l9 + 184u);
+                                    l2 = t368;
                                     l32 = 3u;
                                     l5 = 0ull;
-                                    L370:;
+                                    L369:;
                                     {
-                                        u32 v371;
+                                        u32 v370;
                                         {
                                             {
                                                 {
                                                     {
                                                         if (l5 < l16) {
                                                             l14 = 0ull;
-                                                            const u64 t376 = load8(l2);
-                                                            switch ((u32)t376 - 1u) {
-                                                            case 0: goto L372;
-                                                            case 1: goto L372;
-                                                            case 2: goto L373;
-                                                            case 3: goto L372;
-                                                            default: goto L374;
+                                                            const u64 t375 = load8(l2);
+                                                            switch ((u32)t375 - 1u) {
+                                                            case 0: goto L371;
+                                                            case 1: goto L371;
+                                                            case 2: goto L372;
+                                                            case 3: goto L371;
+                                                            default: goto L373;
                                                             }
                                                         }
-                                                        v371 = 0u; goto L371;
+                                                        v370 = 0u; goto L370;
                                                     }
-                                                    L374:;
-                                                    v371 = 1u; goto L371;
+                                                    L373:;
+                                                    v370 = 1u; goto L370;
                                                 }
-                                                L373:;
-                                                const u64 t377 = load32(l2 + 4ull);
-                                                l14 = t377;
+                                                L372:;
+                                                const u64 t376 = load32(l2 + 4ull);
+                                                l14 = t376;
                                             }
-                                            L372:;
-                                            const u64 t378 = itoa_integer_write_unsigned(stack, l14, l9 + 208ull);
-                                            v371 = 42u - (u32)t378;
+                                            L371:;
+                                            const u64 t377 = itoa_integer_write_unsigned(stack, l14, l9 + 208ull);
+                                            v370 = 42u - (u32)t377;
                                         }
-                                        L371:;
-                                        l31 = v371;
+                                        L370:;
+                                        l31 = v370;
                                         l2 = l2 + 8ull;
                                         l32 = l31 + l32;
                                         l5 = l5 + 1ull;
-                                        if (l1 != l5) goto L370;
+                                        if (l1 != l5) goto L369;
                                     }
-                                    goto L342;
+                                    goto L341;
                                 }
-                                const u64 t379 = load64(l9 + 216u);
-                                store64(l22 + 8u, t379);
-                                const u64 t380 = load64(l9 + 208u);
-                                store64(l22, t380);
-                                const u64 t381 = load64(l22);
-                                store64(l9 + 264u, t381);
-                                const u64 t382 = load64(l22 + 8u);
-                                store64(l9 + 272u, t382);
+                                const u64 t378 = load64(l9 + 216u);
+                                store64(l22 + 8u, t378);
+                                const u64 t379 = load64(l9 + 208u);
+                                store64(l22, t379);
+                                const u64 t380 = load64(l22);
+                                store64(l9 + 264u, t380);
+                                const u64 t381 = load64(l22 + 8u);
+                                store64(l9 + 272u, t381);
                                 functions_arguments_Arguments_next(stack, l9 + 56ull, l9 + 264ull, l8);
                             }
-                            L342:;
+                            L341:;
                             l5 = (u64)l32;
                             if (l5 > l12) {
                                 l47 = 8u;
                                 goto L3;
                             }
-                            const u32 t384 = load8(l8 + 84ull);
-                            l32 = t384;
+                            const u32 t383 = load8(l8 + 84ull);
+                            l32 = t383;
                         }
-                        L311:;
+                        L310:;
                         store64(l9 + 256u, 0ull);
                         store64(l9 + 248u, 0ull);
                         l31 = 1u;
                         {
                             if ((l32 & 255u) == 1u) {
-                                const u32 t387 = load8(l8 + 85ull);
-                                l32 = t387;
-                                goto L385;
+                                const u32 t386 = load8(l8 + 85ull);
+                                l32 = t386;
+                                goto L384;
                             }
-                            const u64 t388 = load64(l8 + 72ull);
-                            const u64 t389 = load64(l8 + 64ull);
-                            if (t388 == t389) {
+                            const u64 t387 = load64(l8 + 72ull);
+                            const u64 t388 = load64(l8 + 64ull);
+                            if (t387 == t388) {
                                 store16(l8 + 84ull, (u16)769u);
                                 l32 = 3u;
-                                goto L385;
+                                goto L384;
                             }
-                            const u32 t391 = load32(l8 + 24ull);
-                            l31 = t391;
+                            const u32 t390 = load32(l8 + 24ull);
+                            l31 = t390;
                             l12 = l8 + 20ull;
-                            const u32 t392 = load32(l12);
-                            l32 = t392;
-                            const u32 t393 = load32(l8 + 16ull);
-                            l33 = t393;
+                            const u32 t391 = load32(l12);
+                            l32 = t391;
+                            const u32 t392 = load32(l8 + 16ull);
+                            l33 = t392;
                             l5 = l8 + 60ull;
-                            const u32 t394 = load32(l5);
-                            core_scan_scan_once(stack, l9 + 248ull, l8, t394);
+                            const u32 t393 = load32(l5);
+                            core_scan_scan_once(stack, l9 + 248ull, l8, t393);
                             {
                                 {
                                     {
                                         {
-                                            u32 v399;
+                                            u32 v398;
                                             {
                                                 {
                                                     {
@@ -23668,31 +23662,31 @@ static void engine_turn(u64 stack, u64 l0, u64 l1, u64 l2, u64 l3, u64 l4, u64 l
                                                             {
                                                                 {
                                                                     {
-                                                                        const u32 t406 = load8(l9 + 248u);
-                                                                        if (t406 == 1u) {
-                                                                            const u32 t408 = load8(l9 + 252u);
-                                                                            if (t408 == 0) {
+                                                                        const u32 t405 = load8(l9 + 248u);
+                                                                        if (t405 == 1u) {
+                                                                            const u32 t407 = load8(l9 + 252u);
+                                                                            if (t407 == 0) {
                                                                                 store32(l8 + 32ull, 0u);
                                                                                 l5 = l8 + 20ull;
                                                                                 store32(l5, 0u);
-                                                                                const u32 t410 = load32(l8 + 28ull);
-                                                                                l32 = t410;
+                                                                                const u32 t409 = load32(l8 + 28ull);
+                                                                                l32 = t409;
                                                                                 l16 = l8 + 24ull;
-                                                                                const u32 t411 = load32(l16);
-                                                                                l31 = t411;
+                                                                                const u32 t410 = load32(l16);
+                                                                                l31 = t410;
                                                                                 l2 = l8 + 16ull;
-                                                                                const u32 t412 = load32(l2);
-                                                                                if ((l32 - (l31 + t412)) <= 10u) {
-                                                                                    const u32 t414 = space_space_Space_try_claim_spare(stack, l8, 11ull);
-                                                                                    if (t414 == 0) goto L398;
-                                                                                    const u32 t415 = load32(l8 + 24ull);
-                                                                                    l31 = t415;
-                                                                                    const u32 t416 = load32(l8 + 28ull);
-                                                                                    l32 = t416;
+                                                                                const u32 t411 = load32(l2);
+                                                                                if ((l32 - (l31 + t411)) <= 10u) {
+                                                                                    const u32 t413 = space_space_Space_try_claim_spare(stack, l8, 11ull);
+                                                                                    if (t413 == 0) goto L397;
+                                                                                    const u32 t414 = load32(l8 + 24ull);
+                                                                                    l31 = t414;
+                                                                                    const u32 t415 = load32(l8 + 28ull);
+                                                                                    l32 = t415;
                                                                                 }
-                                                                                const u64 t417 = load64(l8);
+                                                                                const u64 t416 = load64(l8);
                                                                                 l31 = l31 + 11u;
-                                                                                l12 = t417 + ((u64)(l32 - l31) << 3);
+                                                                                l12 = t416 + ((u64)(l32 - l31) << 3);
                                                                                 store64(l12 + 56u, 0ull);
                                                                                 store64(l12 + 48u, 0ull);
                                                                                 store64(l12 + 40u, 0ull);
@@ -23716,31 +23710,31 @@ static void engine_turn(u64 stack, u64 l0, u64 l1, u64 l2, u64 l3, u64 l4, u64 l
                                                                                 store8(l12 + 9ull, (u8)40u);
                                                                                 store8(l12 + 1ull, (u8)35u);
                                                                                 store32(l16, l31);
-                                                                                const u32 t418 = load32(l5);
-                                                                                l33 = t418;
-                                                                                const u32 t419 = load32(l2);
-                                                                                v399 = l33 + (t419 + l31); goto L399;
+                                                                                const u32 t417 = load32(l5);
+                                                                                l33 = t417;
+                                                                                const u32 t418 = load32(l2);
+                                                                                v398 = l33 + (t418 + l31); goto L398;
                                                                             }
-                                                                            const u64 t420 = load64(l9 + 256u);
-                                                                            l5 = t420;
+                                                                            const u64 t419 = load64(l9 + 256u);
+                                                                            l5 = t419;
                                                                             l12 = l8 + 24ull;
-                                                                            const u32 t421 = load32(l12);
-                                                                            l42 = t421 - 1u;
+                                                                            const u32 t420 = load32(l12);
+                                                                            l42 = t420 - 1u;
                                                                             store32(l12, l42);
-                                                                            const u32 t422 = load32(l8 + 20ull);
-                                                                            l36 = t422;
-                                                                            const u32 t423 = load32(l8 + 16ull);
-                                                                            l31 = t423;
+                                                                            const u32 t421 = load32(l8 + 20ull);
+                                                                            l36 = t421;
+                                                                            const u32 t422 = load32(l8 + 16ull);
+                                                                            l31 = t422;
                                                                             store64(l9 + 280u, 0ull);
                                                                             store64(l9 + 144u, 0ull);
                                                                             store64(l9 + 152u, 0ull);
                                                                             store64(l9 + 264u, 0ull);
                                                                             store64(l9 + 272u, 0ull);
-                                                                            const u64 t424 = load64(l8);
-                                                                            l12 = t424;
+                                                                            const u64 t423 = load64(l8);
+                                                                            l12 = t423;
                                                                             l33 = (u32)l5;
-                                                                            const u32 t425 = load8((l12 + ((u64)(l31 + l33) << 3)) + 1ull);
-                                                                            l32 = t425;
+                                                                            const u32 t424 = load8((l12 + ((u64)(l31 + l33) << 3)) + 1ull);
+                                                                            l32 = t424;
                                                                             store8(l9 + 210u, (u8)0u);
                                                                             store16(l9 + 208u, (u16)0u);
                                                                             {
@@ -23748,15 +23742,15 @@ static void engine_turn(u64 stack, u64 l0, u64 l1, u64 l2, u64 l3, u64 l4, u64 l
                                                                                 l37 = l33 + 1u;
                                                                                 l2 = (u64)(l31 + l37);
                                                                                 l16 = (u64)l43 - l2;
-                                                                                if (l16 < 2ull) goto L426;
+                                                                                if (l16 < 2ull) goto L425;
                                                                                 l2 = l12 + (l2 << 3);
                                                                                 if (l16 != 2ull) {
-                                                                                    const u32 t428 = load8(l2 + 16ull);
-                                                                                    if (t428 != 2u) goto L426;
+                                                                                    const u32 t427 = load8(l2 + 16ull);
+                                                                                    if (t427 != 2u) goto L425;
                                                                                 }
                                                                                 functions_function_function_of(stack, l9 + 208ull, l2, l2 + 8ull);
-                                                                                const u32 t429 = load8(l9 + 208u);
-                                                                                if (t429 != 1u) goto L426;
+                                                                                const u32 t428 = load8(l9 + 208u);
+                                                                                if (t428 != 1u) goto L425;
                                                                                 l39 = (u32)(l5 >> 32);
                                                                                 l32 = l32 == 0;
                                                                                 l38 = l33 + 4u;
@@ -23766,41 +23760,41 @@ static void engine_turn(u64 stack, u64 l0, u64 l1, u64 l2, u64 l3, u64 l4, u64 l
                                                                                             {
                                                                                                 {
                                                                                                     {
-                                                                                                        const u32 t436 = load8(l9 + 209u);
-                                                                                                        l34 = t436;
+                                                                                                        const u32 t435 = load8(l9 + 209u);
+                                                                                                        l34 = t435;
                                                                                                         switch (l34 - 1u) {
-                                                                                                        case 0: goto L435;
-                                                                                                        case 1: goto L432;
-                                                                                                        case 2: goto L434;
-                                                                                                        case 3: goto L432;
-                                                                                                        case 4: goto L432;
-                                                                                                        case 5: goto L432;
-                                                                                                        case 6: goto L432;
-                                                                                                        case 7: goto L432;
-                                                                                                        case 8: goto L432;
-                                                                                                        case 9: goto L433;
-                                                                                                        case 10: goto L432;
-                                                                                                        case 11: goto L432;
-                                                                                                        case 12: goto L432;
-                                                                                                        case 13: goto L432;
-                                                                                                        case 14: goto L432;
-                                                                                                        case 15: goto L432;
-                                                                                                        case 16: goto L432;
-                                                                                                        case 17: goto L432;
-                                                                                                        case 18: goto L432;
-                                                                                                        case 19: goto L432;
-                                                                                                        case 20: goto L432;
-                                                                                                        case 21: goto L432;
-                                                                                                        case 22: goto L432;
-                                                                                                        case 23: goto L432;
-                                                                                                        default: goto L431;
+                                                                                                        case 0: goto L434;
+                                                                                                        case 1: goto L431;
+                                                                                                        case 2: goto L433;
+                                                                                                        case 3: goto L431;
+                                                                                                        case 4: goto L431;
+                                                                                                        case 5: goto L431;
+                                                                                                        case 6: goto L431;
+                                                                                                        case 7: goto L431;
+                                                                                                        case 8: goto L431;
+                                                                                                        case 9: goto L432;
+                                                                                                        case 10: goto L431;
+                                                                                                        case 11: goto L431;
+                                                                                                        case 12: goto L431;
+                                                                                                        case 13: goto L431;
+                                                                                                        case 14: goto L431;
+                                                                                                        case 15: goto L431;
+                                                                                                        case 16: goto L431;
+                                                                                                        case 17: goto L431;
+                                                                                                        case 18: goto L431;
+                                                                                                        case 19: goto L431;
+                                                                                                        case 20: goto L431;
+                                                                                                        case 21: goto L431;
+                                                                                                        case 22: goto L431;
+                                                                                                        case 23: goto L431;
+                                                                                                        default: goto L430;
                                                                                                         }
                                                                                                     }
-                                                                                                    L435:;
+                                                                                                    L434:;
                                                                                                     core_input_output_read_character(stack, l9 + 280ull, l8, l9 + 112ull);
-                                                                                                    goto L430;
+                                                                                                    goto L429;
                                                                                                 }
-                                                                                                L434:;
+                                                                                                L433:;
                                                                                                 store16(l26, (u16)0u);
                                                                                                 store8(l26 + 2u, (u8)0u);
                                                                                                 store8(l9 + 156u, (u8)l32);
@@ -23813,7 +23807,7 @@ static void engine_turn(u64 stack, u64 l0, u64 l1, u64 l2, u64 l3, u64 l4, u64 l
                                                                                                 l2 = l9 + 72ull;
                                                                                                 l13 = stack - 48ull;
                                                                                                 stack = l13;
-                                                                                                u32 v437;
+                                                                                                u32 v436;
                                                                                                 {
                                                                                                     {
                                                                                                         {
@@ -23821,155 +23815,155 @@ static void engine_turn(u64 stack, u64 l0, u64 l1, u64 l2, u64 l3, u64 l4, u64 l
                                                                                                                 {
                                                                                                                     {
                                                                                                                         {
-                                                                                                                            const u64 t444 = load64(l10 + 8u);
-                                                                                                                            store64(l13 + 40u, t444);
-                                                                                                                            const u64 t445 = load64(l10);
-                                                                                                                            store64(l13 + 32u, t445);
+                                                                                                                            const u64 t443 = load64(l10 + 8u);
+                                                                                                                            store64(l13 + 40u, t443);
+                                                                                                                            const u64 t444 = load64(l10);
+                                                                                                                            store64(l13 + 32u, t444);
                                                                                                                             functions_arguments_Arguments_next(stack, l13 + 8ull, l13 + 32ull, l1);
-                                                                                                                            const u32 t446 = load32(l1 + 16ull);
-                                                                                                                            l32 = t446;
-                                                                                                                            const u32 t447 = load32(l13 + 12u);
-                                                                                                                            l35 = t447;
+                                                                                                                            const u32 t445 = load32(l1 + 16ull);
+                                                                                                                            l32 = t445;
+                                                                                                                            const u32 t446 = load32(l13 + 12u);
+                                                                                                                            l35 = t446;
                                                                                                                             l18 = (u64)(l32 + l35);
-                                                                                                                            const u32 t448 = load32(l13 + 8u);
-                                                                                                                            l38 = t448;
+                                                                                                                            const u32 t447 = load32(l13 + 8u);
+                                                                                                                            l38 = t447;
                                                                                                                             l11 = (u64)(l32 + l38);
                                                                                                                             l10 = l18 - l11;
                                                                                                                             store64(l13 + 24u, l10);
-                                                                                                                            const u64 t449 = load64(l1);
-                                                                                                                            l21 = t449;
+                                                                                                                            const u64 t448 = load64(l1);
+                                                                                                                            l21 = t448;
                                                                                                                             l16 = l11 << 3;
                                                                                                                             l1 = l21 + l16;
                                                                                                                             store64(l13 + 16u, l1);
                                                                                                                             l34 = 3u;
                                                                                                                             {
-                                                                                                                                if (l35 == l38) goto L450;
+                                                                                                                                if (l35 == l38) goto L449;
                                                                                                                                 if (l10 <= 15ull) {
-                                                                                                                                    const u64 t452 = load64(l2 + 16ull);
-                                                                                                                                    l14 = t452;
-                                                                                                                                    const u64 t453 = load64(l2 + 8ull);
-                                                                                                                                    if (l14 >= t453) goto L440;
+                                                                                                                                    const u64 t451 = load64(l2 + 16ull);
+                                                                                                                                    l14 = t451;
+                                                                                                                                    const u64 t452 = load64(l2 + 8ull);
+                                                                                                                                    if (l14 >= t452) goto L439;
                                                                                                                                     l1 = l1 + 1ull;
-                                                                                                                                    L454:;
+                                                                                                                                    L453:;
                                                                                                                                     {
-                                                                                                                                        const u32 t455 = load8(l1);
-                                                                                                                                        l32 = t455;
+                                                                                                                                        const u32 t454 = load8(l1);
+                                                                                                                                        l32 = t454;
                                                                                                                                         {
-                                                                                                                                            const u64 t457 = load64(l2 + 8ull);
-                                                                                                                                            if (t457 > l14) {
-                                                                                                                                                const u64 t459 = load64(l2);
-                                                                                                                                                store8(t459 + l14, (u8)l32);
+                                                                                                                                            const u64 t456 = load64(l2 + 8ull);
+                                                                                                                                            if (t456 > l14) {
+                                                                                                                                                const u64 t458 = load64(l2);
+                                                                                                                                                store8(t458 + l14, (u8)l32);
                                                                                                                                                 l14 = l2 + 16ull;
-                                                                                                                                                const u64 t460 = load64(l14);
-                                                                                                                                                const u64 t461 = l14;
-                                                                                                                                                l14 = t460 + 1ull;
-                                                                                                                                                store64(t461, l14);
-                                                                                                                                                goto L456;
+                                                                                                                                                const u64 t459 = load64(l14);
+                                                                                                                                                const u64 t460 = l14;
+                                                                                                                                                l14 = t459 + 1ull;
+                                                                                                                                                store64(t460, l14);
+                                                                                                                                                goto L455;
                                                                                                                                             }
                                                                                                                                             l11 = l2 + 24ull;
-                                                                                                                                            const u32 t462 = load8(l11);
-                                                                                                                                            if (t462 == 1u) goto L439;
+                                                                                                                                            const u32 t461 = load8(l11);
+                                                                                                                                            if (t461 == 1u) goto L438;
                                                                                                                                             store8(l2 + 25ull, (u8)l32);
                                                                                                                                             store8(l11, (u8)1u);
                                                                                                                                         }
-                                                                                                                                        L456:;
+                                                                                                                                        L455:;
                                                                                                                                         l1 = l1 + 8ull;
                                                                                                                                         l10 = l10 - 1ull;
-                                                                                                                                        if ((l10 == 0) == 0) goto L454;
+                                                                                                                                        if ((l10 == 0) == 0) goto L453;
                                                                                                                                     }
-                                                                                                                                    goto L450;
+                                                                                                                                    goto L449;
                                                                                                                                 }
                                                                                                                                 l14 = l2 + 16ull;
-                                                                                                                                const u64 t463 = load64(l14);
-                                                                                                                                const u64 t464 = load64(l2);
+                                                                                                                                const u64 t462 = load64(l14);
+                                                                                                                                const u64 t463 = load64(l2);
                                                                                                                                 l17 = l2 + 8ull;
-                                                                                                                                const u64 t465 = load64(l17);
-                                                                                                                                const u64 t466 = c_filling_put_characters(stack, l13 + 16ull, t463, t464, t465);
-                                                                                                                                l12 = t466;
-                                                                                                                                const u64 t467 = load64(l14);
-                                                                                                                                const u64 t468 = l14;
-                                                                                                                                l14 = l12 + t467;
-                                                                                                                                store64(t468, l14);
-                                                                                                                                if (l10 <= l12) goto L450;
-                                                                                                                                const u64 t469 = load64(l17);
-                                                                                                                                if (l14 >= t469) goto L442;
+                                                                                                                                const u64 t464 = load64(l17);
+                                                                                                                                const u64 t465 = c_filling_put_characters(stack, l13 + 16ull, t462, t463, t464);
+                                                                                                                                l12 = t465;
+                                                                                                                                const u64 t466 = load64(l14);
+                                                                                                                                const u64 t467 = l14;
+                                                                                                                                l14 = l12 + t466;
+                                                                                                                                store64(t467, l14);
+                                                                                                                                if (l10 <= l12) goto L449;
+                                                                                                                                const u64 t468 = load64(l17);
+                                                                                                                                if (l14 >= t468) goto L441;
                                                                                                                                 l10 = (l11 + l12) - l18;
                                                                                                                                 l1 = (((l12 << 3) + l16) + l21) + 1ull;
-                                                                                                                                L470:;
+                                                                                                                                L469:;
                                                                                                                                 {
-                                                                                                                                    const u32 t471 = load8(l1);
-                                                                                                                                    l32 = t471;
+                                                                                                                                    const u32 t470 = load8(l1);
+                                                                                                                                    l32 = t470;
                                                                                                                                     {
-                                                                                                                                        const u64 t473 = load64(l2 + 8ull);
-                                                                                                                                        if (t473 > l14) {
-                                                                                                                                            const u64 t475 = load64(l2);
-                                                                                                                                            store8(t475 + l14, (u8)l32);
+                                                                                                                                        const u64 t472 = load64(l2 + 8ull);
+                                                                                                                                        if (t472 > l14) {
+                                                                                                                                            const u64 t474 = load64(l2);
+                                                                                                                                            store8(t474 + l14, (u8)l32);
                                                                                                                                             l14 = l2 + 16ull;
-                                                                                                                                            const u64 t476 = load64(l14);
-                                                                                                                                            const u64 t477 = l14;
-                                                                                                                                            l14 = t476 + 1ull;
-                                                                                                                                            store64(t477, l14);
-                                                                                                                                            goto L472;
+                                                                                                                                            const u64 t475 = load64(l14);
+                                                                                                                                            const u64 t476 = l14;
+                                                                                                                                            l14 = t475 + 1ull;
+                                                                                                                                            store64(t476, l14);
+                                                                                                                                            goto L471;
                                                                                                                                         }
                                                                                                                                         l11 = l2 + 24ull;
-                                                                                                                                        const u32 t478 = load8(l11);
-                                                                                                                                        if (t478 == 1u) goto L441;
+                                                                                                                                        const u32 t477 = load8(l11);
+                                                                                                                                        if (t477 == 1u) goto L440;
                                                                                                                                         store8(l2 + 25ull, (u8)l32);
                                                                                                                                         store8(l11, (u8)1u);
                                                                                                                                     }
-                                                                                                                                    L472:;
+                                                                                                                                    L471:;
                                                                                                                                     l1 = l1 + 8ull;
                                                                                                                                     l10 = l10 + 1ull;
-                                                                                                                                    if ((l10 == 0) == 0) goto L470;
+                                                                                                                                    if ((l10 == 0) == 0) goto L469;
                                                                                                                                 }
                                                                                                                             }
-                                                                                                                            L450:;
-                                                                                                                            v437 = 0u; goto L437;
+                                                                                                                            L449:;
+                                                                                                                            v436 = 0u; goto L436;
                                                                                                                         }
                                                                                                                         trap();
                                                                                                                     }
-                                                                                                                    L442:;
+                                                                                                                    L441:;
                                                                                                                     l14 = l2 + 24ull;
-                                                                                                                    const u32 t479 = load8(l14);
-                                                                                                                    if (t479 == 1u) goto L441;
-                                                                                                                    const u32 t480 = load8((l1 + (l12 << 3)) + 1ull);
-                                                                                                                    store8(l2 + 25ull, (u8)t480);
+                                                                                                                    const u32 t478 = load8(l14);
+                                                                                                                    if (t478 == 1u) goto L440;
+                                                                                                                    const u32 t479 = load8((l1 + (l12 << 3)) + 1ull);
+                                                                                                                    store8(l2 + 25ull, (u8)t479);
                                                                                                                     store8(l14, (u8)1u);
-                                                                                                                    if ((l12 + 1ull) == l10) { v437 = 0u; goto L437; }
+                                                                                                                    if ((l12 + 1ull) == l10) { v436 = 0u; goto L436; }
                                                                                                                 }
-                                                                                                                L441:;
+                                                                                                                L440:;
                                                                                                                 l2 = l2 + 32ull;
-                                                                                                                const u64 t481 = load64(l2);
-                                                                                                                store64(l2, t481 + 1ull);
-                                                                                                                goto L438;
+                                                                                                                const u64 t480 = load64(l2);
+                                                                                                                store64(l2, t480 + 1ull);
+                                                                                                                goto L437;
                                                                                                             }
-                                                                                                            L440:;
+                                                                                                            L439:;
                                                                                                             l14 = l2 + 24ull;
-                                                                                                            const u32 t482 = load8(l14);
-                                                                                                            if (t482 == 1u) goto L439;
-                                                                                                            const u32 t483 = load8(l1 + 1ull);
-                                                                                                            store8(l2 + 25ull, (u8)t483);
+                                                                                                            const u32 t481 = load8(l14);
+                                                                                                            if (t481 == 1u) goto L438;
+                                                                                                            const u32 t482 = load8(l1 + 1ull);
+                                                                                                            store8(l2 + 25ull, (u8)t482);
                                                                                                             store8(l14, (u8)1u);
-                                                                                                            if (l10 == 1ull) { v437 = 0u; goto L437; }
+                                                                                                            if (l10 == 1ull) { v436 = 0u; goto L436; }
                                                                                                         }
-                                                                                                        L439:;
+                                                                                                        L438:;
                                                                                                         l2 = l2 + 32ull;
-                                                                                                        const u64 t484 = load64(l2);
-                                                                                                        store64(l2, t484 + 1ull);
+                                                                                                        const u64 t483 = load64(l2);
+                                                                                                        store64(l2, t483 + 1ull);
                                                                                                     }
-                                                                                                    L438:;
+                                                                                                    L437:;
                                                                                                     l34 = 4u;
-                                                                                                    v437 = 5u;
+                                                                                                    v436 = 5u;
                                                                                                 }
-                                                                                                L437:;
-                                                                                                l32 = v437;
+                                                                                                L436:;
+                                                                                                l32 = v436;
                                                                                                 store8(l15, (u8)l34);
                                                                                                 store32(l15 + 4ull, 0u);
                                                                                                 store8(l15 + 1ull, (u8)l32);
                                                                                                 stack = l13 + 48ull;
-                                                                                                goto L430;
+                                                                                                goto L429;
                                                                                             }
-                                                                                            L433:;
+                                                                                            L432:;
                                                                                             store16(l27, (u16)0u);
                                                                                             store8(l27 + 2u, (u8)0u);
                                                                                             store8(l9 + 276u, (u8)l32);
@@ -23982,7 +23976,7 @@ static void engine_turn(u64 stack, u64 l0, u64 l1, u64 l2, u64 l3, u64 l4, u64 l
                                                                                             l13 = l9 + 72ull;
                                                                                             l2 = stack - 80ull;
                                                                                             stack = l2;
-                                                                                            u32 v485;
+                                                                                            u32 v484;
                                                                                             {
                                                                                                 {
                                                                                                     {
@@ -23990,161 +23984,161 @@ static void engine_turn(u64 stack, u64 l0, u64 l1, u64 l2, u64 l3, u64 l4, u64 l
                                                                                                             {
                                                                                                                 {
                                                                                                                     {
-                                                                                                                        const u64 t492 = load64(l10 + 8u);
-                                                                                                                        store64(l2 + 32u, t492);
-                                                                                                                        const u64 t493 = load64(l10);
-                                                                                                                        store64(l2 + 24u, t493);
+                                                                                                                        const u64 t491 = load64(l10 + 8u);
+                                                                                                                        store64(l2 + 32u, t491);
+                                                                                                                        const u64 t492 = load64(l10);
+                                                                                                                        store64(l2 + 24u, t492);
                                                                                                                         functions_arguments_Arguments_next(stack, l2 + 16ull, l2 + 24ull, l1);
-                                                                                                                        const u32 t494 = load32(l2 + 20u);
-                                                                                                                        l34 = t494;
-                                                                                                                        const u32 t495 = load32(l2 + 16u);
-                                                                                                                        l32 = t495;
+                                                                                                                        const u32 t493 = load32(l2 + 20u);
+                                                                                                                        l34 = t493;
+                                                                                                                        const u32 t494 = load32(l2 + 16u);
+                                                                                                                        l32 = t494;
                                                                                                                         store64(l2 + 72u, 0ull);
                                                                                                                         store64(l2 + 64u, 0ull);
                                                                                                                         store64(l2 + 56u, 0ull);
                                                                                                                         store64(l2 + 48u, 0ull);
                                                                                                                         store64(l2 + 40u, 0ull);
-                                                                                                                        u32 v496;
+                                                                                                                        u32 v495;
                                                                                                                         {
-                                                                                                                            const u32 t497 = load32(l1 + 40ull);
-                                                                                                                            l35 = t497;
+                                                                                                                            const u32 t496 = load32(l1 + 40ull);
+                                                                                                                            l35 = t496;
                                                                                                                             if (l35 >= 8u) {
                                                                                                                                 forms_work_Work_find_among_more(stack, l2, l1, l32, l34);
-                                                                                                                                const u32 t499 = load32(l2 + 4u);
-                                                                                                                                l32 = t499;
-                                                                                                                                const u32 t500 = load8(l2);
-                                                                                                                                v496 = t500; goto L496;
+                                                                                                                                const u32 t498 = load32(l2 + 4u);
+                                                                                                                                l32 = t498;
+                                                                                                                                const u32 t499 = load8(l2);
+                                                                                                                                v495 = t499; goto L495;
                                                                                                                             }
                                                                                                                             {
-                                                                                                                                if (l35 == 0) goto L501;
-                                                                                                                                const u64 t502 = load64(l1);
-                                                                                                                                l11 = t502;
-                                                                                                                                const u64 t503 = load32(l11 + 4ull);
-                                                                                                                                const u32 t504 = load32(l1 + 16ull);
-                                                                                                                                l35 = t504;
+                                                                                                                                if (l35 == 0) goto L500;
+                                                                                                                                const u64 t501 = load64(l1);
+                                                                                                                                l11 = t501;
+                                                                                                                                const u64 t502 = load32(l11 + 4ull);
+                                                                                                                                const u32 t503 = load32(l1 + 16ull);
+                                                                                                                                l35 = t503;
                                                                                                                                 l10 = (u64)(l35 + l34);
                                                                                                                                 l14 = (u64)(l32 + l35);
-                                                                                                                                if (t503 != (l10 - l14)) goto L501;
+                                                                                                                                if (t502 != (l10 - l14)) goto L500;
                                                                                                                                 l15 = 17ull - (l14 << 3);
                                                                                                                                 l14 = (l10 ^ 18446744073709551615ull) + l14;
                                                                                                                                 l10 = l11 + (l10 << 3);
-                                                                                                                                L505:;
+                                                                                                                                L504:;
                                                                                                                                 {
                                                                                                                                     l14 = l14 + 1ull;
-                                                                                                                                    if (l14 == 0) goto L490;
+                                                                                                                                    if (l14 == 0) goto L489;
                                                                                                                                     l11 = l10 - 7ull;
                                                                                                                                     l18 = l10 + l15;
                                                                                                                                     l10 = l10 - 8ull;
-                                                                                                                                    const u32 t506 = load8(l18);
-                                                                                                                                    const u32 t507 = load8(l11);
-                                                                                                                                    if (t506 == t507) goto L505;
+                                                                                                                                    const u32 t505 = load8(l18);
+                                                                                                                                    const u32 t506 = load8(l11);
+                                                                                                                                    if (t505 == t506) goto L504;
                                                                                                                                 }
                                                                                                                             }
-                                                                                                                            L501:;
+                                                                                                                            L500:;
                                                                                                                             forms_work_Work_find_among_few(stack, l2 + 8ull, l1, l32, l34);
-                                                                                                                            const u32 t508 = load32(l2 + 12u);
-                                                                                                                            l32 = t508;
-                                                                                                                            const u32 t509 = load8(l2 + 8u);
-                                                                                                                            v496 = t509;
+                                                                                                                            const u32 t507 = load32(l2 + 12u);
+                                                                                                                            l32 = t507;
+                                                                                                                            const u32 t508 = load8(l2 + 8u);
+                                                                                                                            v495 = t508;
                                                                                                                         }
-                                                                                                                        L496:;
-                                                                                                                        if ((v496 & 255u) != 1u) goto L488;
-                                                                                                                        goto L489;
+                                                                                                                        L495:;
+                                                                                                                        if ((v495 & 255u) != 1u) goto L487;
+                                                                                                                        goto L488;
                                                                                                                     }
                                                                                                                     trap();
                                                                                                                 }
-                                                                                                                L490:;
+                                                                                                                L489:;
                                                                                                                 store64(l1 + 44ull, 0ull);
                                                                                                                 l32 = 0u;
                                                                                                             }
-                                                                                                            L489:;
+                                                                                                            L488:;
                                                                                                             forms_work_Work_stored(stack, l2 + 40ull, l1, l32);
-                                                                                                            const u64 t510 = load64(l2 + 64u);
-                                                                                                            l10 = t510;
-                                                                                                            const u32 t511 = load32(l2 + 72u);
-                                                                                                            l34 = t511;
-                                                                                                            const u32 t512 = core_display_show_items2(stack, l2 + 40ull, 0u, l34, l13);
-                                                                                                            if (t512 & 255u) goto L486;
+                                                                                                            const u64 t509 = load64(l2 + 64u);
+                                                                                                            l10 = t509;
+                                                                                                            const u32 t510 = load32(l2 + 72u);
+                                                                                                            l34 = t510;
+                                                                                                            const u32 t511 = core_display_show_items2(stack, l2 + 40ull, 0u, l34, l13);
+                                                                                                            if (t511 & 255u) goto L485;
                                                                                                             l1 = l13 + 16ull;
-                                                                                                            const u64 t513 = load64(l1);
-                                                                                                            l14 = t513;
+                                                                                                            const u64 t512 = load64(l1);
+                                                                                                            l14 = t512;
                                                                                                             l11 = l13 + 8ull;
-                                                                                                            const u64 t514 = load64(l11);
-                                                                                                            if (l14 >= t514) {
+                                                                                                            const u64 t513 = load64(l11);
+                                                                                                            if (l14 >= t513) {
                                                                                                                 l10 = l13 + 24ull;
-                                                                                                                const u32 t516 = load8(l10);
-                                                                                                                if (t516 == 1u) goto L487;
+                                                                                                                const u32 t515 = load8(l10);
+                                                                                                                if (t515 == 1u) goto L486;
                                                                                                                 store16(l10, (u16)15361u);
-                                                                                                                goto L487;
+                                                                                                                goto L486;
                                                                                                             }
-                                                                                                            const u64 t517 = load64(l13);
-                                                                                                            store8(t517 + l14, (u8)60u);
-                                                                                                            const u64 t518 = load64(l1);
-                                                                                                            l14 = t518 + 1ull;
+                                                                                                            const u64 t516 = load64(l13);
+                                                                                                            store8(t516 + l14, (u8)60u);
+                                                                                                            const u64 t517 = load64(l1);
+                                                                                                            l14 = t517 + 1ull;
                                                                                                             store64(l1, l14);
                                                                                                             {
-                                                                                                                const u64 t520 = load64(l11);
-                                                                                                                l1 = t520;
+                                                                                                                const u64 t519 = load64(l11);
+                                                                                                                l1 = t519;
                                                                                                                 if (l1 <= l14) {
                                                                                                                     l11 = l13 + 24ull;
-                                                                                                                    const u32 t522 = load8(l11);
-                                                                                                                    if (t522 == 1u) goto L487;
+                                                                                                                    const u32 t521 = load8(l11);
+                                                                                                                    if (t521 == 1u) goto L486;
                                                                                                                     store16(l11, (u16)24065u);
-                                                                                                                    goto L519;
+                                                                                                                    goto L518;
                                                                                                                 }
-                                                                                                                const u64 t523 = load64(l13);
-                                                                                                                store8(t523 + l14, (u8)94u);
+                                                                                                                const u64 t522 = load64(l13);
+                                                                                                                store8(t522 + l14, (u8)94u);
                                                                                                                 l14 = l13 + 16ull;
-                                                                                                                const u64 t524 = load64(l14);
-                                                                                                                const u64 t525 = l14;
-                                                                                                                l14 = t524 + 1ull;
-                                                                                                                store64(t525, l14);
-                                                                                                                const u64 t526 = load64(l13 + 8ull);
-                                                                                                                l1 = t526;
+                                                                                                                const u64 t523 = load64(l14);
+                                                                                                                const u64 t524 = l14;
+                                                                                                                l14 = t523 + 1ull;
+                                                                                                                store64(t524, l14);
+                                                                                                                const u64 t525 = load64(l13 + 8ull);
+                                                                                                                l1 = t525;
                                                                                                             }
-                                                                                                            L519:;
+                                                                                                            L518:;
                                                                                                             {
                                                                                                                 if (l1 <= l14) {
                                                                                                                     l14 = l13 + 24ull;
-                                                                                                                    const u32 t529 = load8(l14);
-                                                                                                                    if (t529 == 1u) goto L487;
+                                                                                                                    const u32 t528 = load8(l14);
+                                                                                                                    if (t528 == 1u) goto L486;
                                                                                                                     store16(l14, (u16)15873u);
-                                                                                                                    goto L527;
+                                                                                                                    goto L526;
                                                                                                                 }
-                                                                                                                const u64 t530 = load64(l13);
-                                                                                                                store8(t530 + l14, (u8)62u);
+                                                                                                                const u64 t529 = load64(l13);
+                                                                                                                store8(t529 + l14, (u8)62u);
                                                                                                                 l14 = l13 + 16ull;
-                                                                                                                const u64 t531 = load64(l14);
-                                                                                                                store64(l14, t531 + 1ull);
+                                                                                                                const u64 t530 = load64(l14);
+                                                                                                                store64(l14, t530 + 1ull);
                                                                                                             }
-                                                                                                            L527:;
-                                                                                                            const u32 t532 = core_display_show_items2(stack, l2 + 40ull, l34, (u32)l10, l13);
-                                                                                                            if (t532 & 255u) goto L486;
+                                                                                                            L526:;
+                                                                                                            const u32 t531 = core_display_show_items2(stack, l2 + 40ull, l34, (u32)l10, l13);
+                                                                                                            if (t531 & 255u) goto L485;
                                                                                                         }
-                                                                                                        L488:;
+                                                                                                        L487:;
                                                                                                         l32 = 3u;
-                                                                                                        v485 = 0u; goto L485;
+                                                                                                        v484 = 0u; goto L484;
                                                                                                     }
-                                                                                                    L487:;
+                                                                                                    L486:;
                                                                                                     l10 = l13 + 32ull;
-                                                                                                    const u64 t533 = load64(l10);
-                                                                                                    store64(l10, t533 + 1ull);
+                                                                                                    const u64 t532 = load64(l10);
+                                                                                                    store64(l10, t532 + 1ull);
                                                                                                 }
-                                                                                                L486:;
+                                                                                                L485:;
                                                                                                 l32 = 4u;
-                                                                                                v485 = 5u;
+                                                                                                v484 = 5u;
                                                                                             }
-                                                                                            L485:;
-                                                                                            l34 = v485;
+                                                                                            L484:;
+                                                                                            l34 = v484;
                                                                                             store8(l12, (u8)l32);
                                                                                             store32(l12 + 4ull, 0u);
                                                                                             store8(l12 + 1ull, (u8)l34);
                                                                                             stack = l2 + 80ull;
-                                                                                            goto L430;
+                                                                                            goto L429;
                                                                                         }
-                                                                                        L432:;
-                                                                                        const u32 t534 = load8(l9 + 210u);
-                                                                                        l40 = t534;
+                                                                                        L431:;
+                                                                                        const u32 t533 = load8(l9 + 210u);
+                                                                                        l40 = t533;
                                                                                         l35 = 0u;
                                                                                         store16(l28, (u16)0u);
                                                                                         store8(l28 + 2u, (u8)0u);
@@ -24154,26 +24148,26 @@ static void engine_turn(u64 stack, u64 l0, u64 l1, u64 l2, u64 l3, u64 l4, u64 l
                                                                                         store32(l9 + 168u, l38);
                                                                                         store64(l9 + 288u, 0ull);
                                                                                         {
-                                                                                            if ((l34 - 5u) < 20u) goto L535;
+                                                                                            if ((l34 - 5u) < 20u) goto L534;
                                                                                             l32 = 0u;
                                                                                             {
                                                                                                 switch (l34 - 3u) {
-                                                                                                case 0: goto L535;
-                                                                                                case 1: goto L401;
-                                                                                                default: goto L536;
+                                                                                                case 0: goto L534;
+                                                                                                case 1: goto L400;
+                                                                                                default: goto L535;
                                                                                                 }
                                                                                             }
-                                                                                            L536:;
+                                                                                            L535:;
                                                                                             core_input_output_change_meta(stack, l9 + 288ull, l8, l9 + 168ull, l25);
-                                                                                            const u32 t537 = load32(l9 + 292u);
-                                                                                            l35 = t537;
-                                                                                            const u32 t538 = load8(l9 + 289u);
-                                                                                            l32 = t538;
-                                                                                            const u32 t539 = load8(l9 + 288u);
-                                                                                            l34 = t539;
-                                                                                            goto L401;
+                                                                                            const u32 t536 = load32(l9 + 292u);
+                                                                                            l35 = t536;
+                                                                                            const u32 t537 = load8(l9 + 289u);
+                                                                                            l32 = t537;
+                                                                                            const u32 t538 = load8(l9 + 288u);
+                                                                                            l34 = t538;
+                                                                                            goto L400;
                                                                                         }
-                                                                                        L535:;
+                                                                                        L534:;
                                                                                         store64(l9 + 296u, 0ull);
                                                                                         {
                                                                                             {
@@ -24196,477 +24190,477 @@ static void engine_turn(u64 stack, u64 l0, u64 l1, u64 l2, u64 l3, u64 l4, u64 l
                                                                                                                                                                 {
                                                                                                                                                                     {
                                                                                                                                                                         switch (l34 - 5u) {
-                                                                                                                                                                        case 0: goto L559;
-                                                                                                                                                                        case 1: goto L558;
-                                                                                                                                                                        case 2: goto L557;
-                                                                                                                                                                        case 3: goto L556;
-                                                                                                                                                                        case 4: goto L555;
-                                                                                                                                                                        case 6: goto L554;
-                                                                                                                                                                        case 7: goto L553;
-                                                                                                                                                                        case 8: goto L552;
-                                                                                                                                                                        case 9: goto L551;
-                                                                                                                                                                        case 10: goto L550;
-                                                                                                                                                                        case 11: goto L549;
-                                                                                                                                                                        case 12: goto L548;
-                                                                                                                                                                        case 13: goto L547;
-                                                                                                                                                                        case 14: goto L546;
-                                                                                                                                                                        case 15: goto L545;
-                                                                                                                                                                        case 16: goto L544;
-                                                                                                                                                                        case 17: goto L543;
-                                                                                                                                                                        case 18: goto L542;
-                                                                                                                                                                        case 19: goto L541;
-                                                                                                                                                                        default: goto L540;
+                                                                                                                                                                        case 0: goto L558;
+                                                                                                                                                                        case 1: goto L557;
+                                                                                                                                                                        case 2: goto L556;
+                                                                                                                                                                        case 3: goto L555;
+                                                                                                                                                                        case 4: goto L554;
+                                                                                                                                                                        case 6: goto L553;
+                                                                                                                                                                        case 7: goto L552;
+                                                                                                                                                                        case 8: goto L551;
+                                                                                                                                                                        case 9: goto L550;
+                                                                                                                                                                        case 10: goto L549;
+                                                                                                                                                                        case 11: goto L548;
+                                                                                                                                                                        case 12: goto L547;
+                                                                                                                                                                        case 13: goto L546;
+                                                                                                                                                                        case 14: goto L545;
+                                                                                                                                                                        case 15: goto L544;
+                                                                                                                                                                        case 16: goto L543;
+                                                                                                                                                                        case 17: goto L542;
+                                                                                                                                                                        case 18: goto L541;
+                                                                                                                                                                        case 19: goto L540;
+                                                                                                                                                                        default: goto L539;
                                                                                                                                                                         }
                                                                                                                                                                     }
-                                                                                                                                                                    L559:;
+                                                                                                                                                                    L558:;
                                                                                                                                                                     functions_form_calls_define_string(stack, l9 + 296ull, l8, l9 + 168ull);
-                                                                                                                                                                    goto L402;
+                                                                                                                                                                    goto L401;
                                                                                                                                                                 }
-                                                                                                                                                                L558:;
+                                                                                                                                                                L557:;
                                                                                                                                                                 functions_form_calls_segment_string(stack, l9 + 296ull, l8, l9 + 168ull);
-                                                                                                                                                                goto L402;
+                                                                                                                                                                goto L401;
                                                                                                                                                             }
-                                                                                                                                                            L557:;
+                                                                                                                                                            L556:;
                                                                                                                                                             functions_form_calls_delete_definition(stack, l9 + 296ull, l8, l9 + 168ull);
-                                                                                                                                                            goto L402;
+                                                                                                                                                            goto L401;
                                                                                                                                                         }
-                                                                                                                                                        L556:;
+                                                                                                                                                        L555:;
                                                                                                                                                         functions_form_calls_delete_all(stack, l9 + 296ull, l8);
-                                                                                                                                                        goto L402;
+                                                                                                                                                        goto L401;
                                                                                                                                                     }
-                                                                                                                                                    L555:;
+                                                                                                                                                    L554:;
                                                                                                                                                     functions_form_calls_list_names(stack, l9 + 296ull, l8, l9 + 168ull);
-                                                                                                                                                    goto L402;
+                                                                                                                                                    goto L401;
                                                                                                                                                 }
-                                                                                                                                                L554:;
-                                                                                                                                                const u64 t560 = load64(l9 + 176u);
-                                                                                                                                                store64(l9 + 216u, t560);
-                                                                                                                                                const u64 t561 = load64(l9 + 168u);
-                                                                                                                                                store64(l9 + 208u, t561);
-                                                                                                                                                const u32 t562 = load8(l9 + 220u);
-                                                                                                                                                l34 = t562;
+                                                                                                                                                L553:;
+                                                                                                                                                const u64 t559 = load64(l9 + 176u);
+                                                                                                                                                store64(l9 + 216u, t559);
+                                                                                                                                                const u64 t560 = load64(l9 + 168u);
+                                                                                                                                                store64(l9 + 208u, t560);
+                                                                                                                                                const u32 t561 = load8(l9 + 220u);
+                                                                                                                                                l34 = t561;
                                                                                                                                                 functions_arguments_Arguments_next(stack, l9 + 24ull, l9 + 208ull, l8);
-                                                                                                                                                const u32 t563 = load32(l9 + 28u);
-                                                                                                                                                l32 = t563;
-                                                                                                                                                const u32 t564 = load32(l9 + 24u);
-                                                                                                                                                l35 = t564;
-                                                                                                                                                u32 v565;
+                                                                                                                                                const u32 t562 = load32(l9 + 28u);
+                                                                                                                                                l32 = t562;
+                                                                                                                                                const u32 t563 = load32(l9 + 24u);
+                                                                                                                                                l35 = t563;
+                                                                                                                                                u32 v564;
                                                                                                                                                 {
-                                                                                                                                                    const u32 t566 = load32(l8 + 40ull);
-                                                                                                                                                    l39 = t566;
+                                                                                                                                                    const u32 t565 = load32(l8 + 40ull);
+                                                                                                                                                    l39 = t565;
                                                                                                                                                     if (l39 >= 8u) {
                                                                                                                                                         forms_work_Work_find_among_more(stack, l9 + 8ull, l8, l35, l32);
-                                                                                                                                                        const u32 t568 = load32(l9 + 12u);
-                                                                                                                                                        l35 = t568;
-                                                                                                                                                        const u32 t569 = load8(l9 + 8u);
-                                                                                                                                                        v565 = t569; goto L565;
+                                                                                                                                                        const u32 t567 = load32(l9 + 12u);
+                                                                                                                                                        l35 = t567;
+                                                                                                                                                        const u32 t568 = load8(l9 + 8u);
+                                                                                                                                                        v564 = t568; goto L564;
                                                                                                                                                     }
                                                                                                                                                     {
-                                                                                                                                                        if (l39 == 0) goto L570;
-                                                                                                                                                        const u64 t571 = load32(l12 + 4ull);
+                                                                                                                                                        if (l39 == 0) goto L569;
+                                                                                                                                                        const u64 t570 = load32(l12 + 4ull);
                                                                                                                                                         l16 = (u64)(l31 + l32);
                                                                                                                                                         l2 = (u64)(l31 + l35);
-                                                                                                                                                        if (t571 != (l16 - l2)) goto L570;
+                                                                                                                                                        if (t570 != (l16 - l2)) goto L569;
                                                                                                                                                         l14 = 17ull - (l2 << 3);
                                                                                                                                                         l2 = (l16 ^ 18446744073709551615ull) + l2;
                                                                                                                                                         l12 = l12 + (l16 << 3);
-                                                                                                                                                        L572:;
+                                                                                                                                                        L571:;
                                                                                                                                                         {
                                                                                                                                                             l2 = l2 + 1ull;
-                                                                                                                                                            if (l2 == 0) goto L405;
+                                                                                                                                                            if (l2 == 0) goto L404;
                                                                                                                                                             l16 = l12 - 7ull;
                                                                                                                                                             l1 = l12 + l14;
                                                                                                                                                             l12 = l12 - 8ull;
-                                                                                                                                                            const u32 t573 = load8(l1);
-                                                                                                                                                            const u32 t574 = load8(l16);
-                                                                                                                                                            if (t573 == t574) goto L572;
+                                                                                                                                                            const u32 t572 = load8(l1);
+                                                                                                                                                            const u32 t573 = load8(l16);
+                                                                                                                                                            if (t572 == t573) goto L571;
                                                                                                                                                         }
                                                                                                                                                     }
-                                                                                                                                                    L570:;
+                                                                                                                                                    L569:;
                                                                                                                                                     forms_work_Work_find_among_few(stack, l9 + 16ull, l8, l35, l32);
-                                                                                                                                                    const u32 t575 = load32(l9 + 20u);
-                                                                                                                                                    l35 = t575;
-                                                                                                                                                    const u32 t576 = load8(l9 + 16u);
-                                                                                                                                                    v565 = t576;
+                                                                                                                                                    const u32 t574 = load32(l9 + 20u);
+                                                                                                                                                    l35 = t574;
+                                                                                                                                                    const u32 t575 = load8(l9 + 16u);
+                                                                                                                                                    v564 = t575;
                                                                                                                                                 }
-                                                                                                                                                L565:;
-                                                                                                                                                if ((v565 & 255u) != 1u) goto L404;
-                                                                                                                                                goto L403;
+                                                                                                                                                L564:;
+                                                                                                                                                if ((v564 & 255u) != 1u) goto L403;
+                                                                                                                                                goto L402;
                                                                                                                                             }
-                                                                                                                                            L553:;
+                                                                                                                                            L552:;
                                                                                                                                             functions_form_parts_call_segment(stack, l9 + 296ull, l8, l9 + 168ull);
-                                                                                                                                            goto L402;
+                                                                                                                                            goto L401;
                                                                                                                                         }
-                                                                                                                                        L552:;
+                                                                                                                                        L551:;
                                                                                                                                         functions_form_parts_call_character(stack, l9 + 296ull, l8, l9 + 168ull);
-                                                                                                                                        goto L402;
+                                                                                                                                        goto L401;
                                                                                                                                     }
-                                                                                                                                    L551:;
+                                                                                                                                    L550:;
                                                                                                                                     functions_form_parts_call_number(stack, l9 + 296ull, l8, l9 + 168ull);
-                                                                                                                                    goto L402;
+                                                                                                                                    goto L401;
                                                                                                                                 }
-                                                                                                                                L550:;
+                                                                                                                                L549:;
                                                                                                                                 functions_form_parts_initial_part(stack, l9 + 296ull, l8, l9 + 168ull);
-                                                                                                                                goto L402;
+                                                                                                                                goto L401;
                                                                                                                             }
-                                                                                                                            L549:;
+                                                                                                                            L548:;
                                                                                                                             functions_form_parts_call_restore(stack, l9 + 296ull, l8, l9 + 168ull);
-                                                                                                                            goto L402;
+                                                                                                                            goto L401;
                                                                                                                         }
-                                                                                                                        L548:;
+                                                                                                                        L547:;
                                                                                                                         functions_comparing_equal(stack, l9 + 296ull, l8, l9 + 168ull);
-                                                                                                                        goto L402;
+                                                                                                                        goto L401;
                                                                                                                     }
-                                                                                                                    L547:;
+                                                                                                                    L546:;
                                                                                                                     functions_comparing_greater(stack, l9 + 296ull, l8, l9 + 168ull);
-                                                                                                                    goto L402;
+                                                                                                                    goto L401;
                                                                                                                 }
-                                                                                                                L546:;
+                                                                                                                L545:;
                                                                                                                 functions_arithmetic_arithmetic(stack, l9 + 296ull, l8, l40, l9 + 168ull);
-                                                                                                                goto L402;
+                                                                                                                goto L401;
                                                                                                             }
-                                                                                                            L545:;
+                                                                                                            L544:;
                                                                                                             functions_bit_strings_union(stack, l9 + 296ull, l8, l9 + 168ull);
-                                                                                                            goto L402;
+                                                                                                            goto L401;
                                                                                                         }
-                                                                                                        L544:;
+                                                                                                        L543:;
                                                                                                         functions_bit_strings_intersection(stack, l9 + 296ull, l8, l9 + 168ull);
-                                                                                                        goto L402;
+                                                                                                        goto L401;
                                                                                                     }
-                                                                                                    L543:;
+                                                                                                    L542:;
                                                                                                     functions_bit_strings_complement(stack, l9 + 296ull, l8, l9 + 168ull);
-                                                                                                    goto L402;
+                                                                                                    goto L401;
                                                                                                 }
-                                                                                                L542:;
+                                                                                                L541:;
                                                                                                 functions_bit_strings_shift(stack, l9 + 296ull, l8, l9 + 168ull);
-                                                                                                goto L402;
+                                                                                                goto L401;
                                                                                             }
-                                                                                            L541:;
+                                                                                            L540:;
                                                                                             functions_bit_strings_rotate(stack, l9 + 296ull, l8, l9 + 168ull);
-                                                                                            goto L402;
+                                                                                            goto L401;
                                                                                         }
-                                                                                        L540:;
+                                                                                        L539:;
                                                                                         store8(l9 + 296u, (u8)1u);
-                                                                                        goto L402;
+                                                                                        goto L401;
                                                                                     }
-                                                                                    L431:;
-                                                                                    const u32 t577 = load8(l8 + 56ull);
-                                                                                    core_input_output_read_string(stack, l9 + 280ull, l8, t577, l9 + 112ull);
+                                                                                    L430:;
+                                                                                    const u32 t576 = load8(l8 + 56ull);
+                                                                                    core_input_output_read_string(stack, l9 + 280ull, l8, t576, l9 + 112ull);
                                                                                 }
-                                                                                L430:;
-                                                                                const u32 t578 = load32(l9 + 284u);
-                                                                                l35 = t578;
-                                                                                const u32 t579 = load8(l9 + 281u);
-                                                                                l32 = t579;
-                                                                                const u32 t580 = load8(l9 + 280u);
-                                                                                l34 = t580;
-                                                                                goto L401;
+                                                                                L429:;
+                                                                                const u32 t577 = load32(l9 + 284u);
+                                                                                l35 = t577;
+                                                                                const u32 t578 = load8(l9 + 281u);
+                                                                                l32 = t578;
+                                                                                const u32 t579 = load8(l9 + 280u);
+                                                                                l34 = t579;
+                                                                                goto L400;
                                                                             }
-                                                                            L426:;
+                                                                            L425:;
                                                                             l35 = 0u;
-                                                                            goto L400;
+                                                                            goto L399;
                                                                         }
-                                                                        const u32 t581 = load32(l12);
-                                                                        store32(l5, t581);
+                                                                        const u32 t580 = load32(l12);
+                                                                        store32(l5, t580);
                                                                         l12 = l8 + 72ull;
-                                                                        const u64 t582 = load64(l12);
-                                                                        store64(l12, t582 + 1ull);
+                                                                        const u64 t581 = load64(l12);
+                                                                        store64(l12, t581 + 1ull);
                                                                         l12 = l8 + 80ull;
                                                                         l31 = (l32 + l33) + l31;
-                                                                        const u32 t583 = load32(l12);
-                                                                        l32 = t583;
+                                                                        const u32 t582 = load32(l12);
+                                                                        l32 = t582;
                                                                         store32(l12, (l31 > l32) ? l31 : l32);
                                                                         l32 = 0u;
                                                                         l31 = 0u;
-                                                                        goto L385;
+                                                                        goto L384;
                                                                     }
-                                                                    L405:;
+                                                                    L404:;
                                                                     store64(l8 + 44ull, 0ull);
                                                                     l35 = 0u;
-                                                                    goto L403;
+                                                                    goto L402;
                                                                 }
-                                                                L404:;
+                                                                L403:;
                                                                 store32(l9 + 300u, 0u);
                                                                 store16(l9 + 296u, (u16)1u);
-                                                                goto L402;
+                                                                goto L401;
                                                             }
-                                                            L403:;
-                                                            const u32 t584 = load32(l9 + 212u);
-                                                            l32 = t584;
-                                                            const u32 t585 = load32(l9 + 208u);
-                                                            l39 = t585;
+                                                            L402:;
+                                                            const u32 t583 = load32(l9 + 212u);
+                                                            l32 = t583;
+                                                            const u32 t584 = load32(l9 + 208u);
+                                                            l39 = t584;
                                                             {
                                                                 {
                                                                     {
                                                                         {
                                                                             {
-                                                                                if ((l34 & 1u) == 0) goto L590;
-                                                                                if (l32 >= l39) goto L590;
-                                                                                const u32 t591 = forms_work_Work_place_of(stack, l8, l35);
-                                                                                l38 = t591;
-                                                                                const u64 t592 = load64(l8);
-                                                                                l16 = t592;
+                                                                                if ((l34 & 1u) == 0) goto L589;
+                                                                                if (l32 >= l39) goto L589;
+                                                                                const u32 t590 = forms_work_Work_place_of(stack, l8, l35);
+                                                                                l38 = t590;
+                                                                                const u64 t591 = load64(l8);
+                                                                                l16 = t591;
                                                                                 l12 = l16 + ((u64)l38 << 3);
-                                                                                const u32 t593 = load32(l12 + 12ull);
-                                                                                l44 = t593;
-                                                                                const u32 t594 = load32(l12 + 20ull);
-                                                                                l40 = t594;
+                                                                                const u32 t592 = load32(l12 + 12ull);
+                                                                                l44 = t592;
+                                                                                const u32 t593 = load32(l12 + 20ull);
+                                                                                l40 = t593;
                                                                                 l34 = l44 - l40;
                                                                                 if (l34 == 0) {
                                                                                     l34 = 0u;
-                                                                                    goto L586;
+                                                                                    goto L585;
                                                                                 }
-                                                                                const u32 t596 = load32(l12 + 4ull);
-                                                                                l45 = (l38 + t596) + 3u;
+                                                                                const u32 t595 = load32(l12 + 4ull);
+                                                                                l45 = (l38 + t595) + 3u;
                                                                                 l38 = l40 + l45;
                                                                                 {
-                                                                                    const u32 t598 = load32(l8 + 28ull);
-                                                                                    l40 = t598;
-                                                                                    const u32 t599 = load32(l8 + 20ull);
-                                                                                    const u32 t600 = load32(l8 + 24ull);
-                                                                                    l41 = t600;
-                                                                                    const u32 t601 = load32(l8 + 16ull);
-                                                                                    if (l34 <= (l40 - (t599 + (l41 + t601)))) {
+                                                                                    const u32 t597 = load32(l8 + 28ull);
+                                                                                    l40 = t597;
+                                                                                    const u32 t598 = load32(l8 + 20ull);
+                                                                                    const u32 t599 = load32(l8 + 24ull);
+                                                                                    l41 = t599;
+                                                                                    const u32 t600 = load32(l8 + 16ull);
+                                                                                    if (l34 <= (l40 - (t598 + (l41 + t600)))) {
                                                                                         l1 = (u64)l34;
                                                                                         l14 = (u64)l38;
                                                                                         {
                                                                                             {
                                                                                                 if (l34 >= 8u) {
-                                                                                                    if (l34 == 8u) goto L603;
+                                                                                                    if (l34 == 8u) goto L602;
                                                                                                     l12 = l16 + (l14 << 3);
                                                                                                     l2 = l1;
-                                                                                                    goto L604;
+                                                                                                    goto L603;
                                                                                                 }
                                                                                                 if (l34 >= 4u) {
                                                                                                     l12 = l16 + (l14 << 3);
-                                                                                                    const u32 t607 = load8(l12 + 24ull);
-                                                                                                    const u32 t608 = load8(l12 + 16ull);
-                                                                                                    const u32 t609 = load8(l12 + 8ull);
-                                                                                                    const u32 t610 = load8(l12);
-                                                                                                    if (((t607 + t608) | (t609 + t610)) & 255u) goto L590;
+                                                                                                    const u32 t606 = load8(l12 + 24ull);
+                                                                                                    const u32 t607 = load8(l12 + 16ull);
+                                                                                                    const u32 t608 = load8(l12 + 8ull);
+                                                                                                    const u32 t609 = load8(l12);
+                                                                                                    if (((t606 + t607) | (t608 + t609)) & 255u) goto L589;
                                                                                                     l2 = l16 + ((l1 + l14) << 3);
-                                                                                                    const u32 t611 = load8(l2 - 8ull);
-                                                                                                    const u32 t612 = load8(l2 - 16ull);
-                                                                                                    const u32 t613 = load8(l2 - 24ull);
+                                                                                                    const u32 t610 = load8(l2 - 8ull);
+                                                                                                    const u32 t611 = load8(l2 - 16ull);
+                                                                                                    const u32 t612 = load8(l2 - 24ull);
                                                                                                     l2 = l2 - 32ull;
-                                                                                                    const u32 t614 = load8(l2);
-                                                                                                    if (((t611 + t612) | (t613 + t614)) & 255u) goto L590;
+                                                                                                    const u32 t613 = load8(l2);
+                                                                                                    if (((t610 + t611) | (t612 + t613)) & 255u) goto L589;
                                                                                                     l32 = l34 + l41;
                                                                                                     l14 = (u64)(l40 - l32);
                                                                                                     core_slice_edits_slice_T_copy_from_slice(stack, l16 + (l14 << 3), l12, 4ull);
                                                                                                     core_slice_edits_slice_T_copy_from_slice(stack, (((l1 + l14) << 3) + l16) - 32ull, l2, 4ull);
-                                                                                                    goto L587;
+                                                                                                    goto L586;
                                                                                                 }
                                                                                                 l12 = l16 + (l14 << 3);
-                                                                                                const u32 t615 = load8(l12);
-                                                                                                l38 = t615;
-                                                                                                if (l34 == 1u) goto L597;
-                                                                                                const u32 t616 = load8(l12 + 8ull);
-                                                                                                if (t616 | (l38 & 255u)) goto L590;
+                                                                                                const u32 t614 = load8(l12);
+                                                                                                l38 = t614;
+                                                                                                if (l34 == 1u) goto L596;
+                                                                                                const u32 t615 = load8(l12 + 8ull);
+                                                                                                if (t615 | (l38 & 255u)) goto L589;
                                                                                                 l2 = l16 + ((l1 + l14) << 3);
-                                                                                                const u32 t617 = load8(l2 - 8ull);
+                                                                                                const u32 t616 = load8(l2 - 8ull);
                                                                                                 l2 = l2 - 16ull;
-                                                                                                const u32 t618 = load8(l2);
-                                                                                                if (t617 | t618) goto L590;
+                                                                                                const u32 t617 = load8(l2);
+                                                                                                if (t616 | t617) goto L589;
                                                                                                 l32 = l34 + l41;
                                                                                                 l14 = (u64)(l40 - l32);
                                                                                                 core_slice_edits_slice_T_copy_from_slice(stack, l16 + (l14 << 3), l12, 2ull);
                                                                                                 core_slice_edits_slice_T_copy_from_slice(stack, (((l1 + l14) << 3) + l16) - 16ull, l2, 2ull);
-                                                                                                goto L587;
+                                                                                                goto L586;
                                                                                             }
-                                                                                            L604:;
-                                                                                            L619:;
+                                                                                            L603:;
+                                                                                            L618:;
                                                                                             {
-                                                                                                const u32 t620 = load8(l12 + 56ull);
-                                                                                                const u32 t621 = load8(l12 + 48ull);
-                                                                                                const u32 t622 = load8(l12 + 40ull);
-                                                                                                const u32 t623 = load8(l12 + 32ull);
-                                                                                                const u32 t624 = load8(l12 + 24ull);
-                                                                                                const u32 t625 = load8(l12 + 16ull);
-                                                                                                const u32 t626 = load8(l12 + 8ull);
-                                                                                                const u32 t627 = load8(l12);
-                                                                                                if (t620 | ((t621 + (t622 + (t623 + (t624 + (t625 + (t626 + t627)))))) & 255u)) goto L590;
+                                                                                                const u32 t619 = load8(l12 + 56ull);
+                                                                                                const u32 t620 = load8(l12 + 48ull);
+                                                                                                const u32 t621 = load8(l12 + 40ull);
+                                                                                                const u32 t622 = load8(l12 + 32ull);
+                                                                                                const u32 t623 = load8(l12 + 24ull);
+                                                                                                const u32 t624 = load8(l12 + 16ull);
+                                                                                                const u32 t625 = load8(l12 + 8ull);
+                                                                                                const u32 t626 = load8(l12);
+                                                                                                if (t619 | ((t620 + (t621 + (t622 + (t623 + (t624 + (t625 + t626)))))) & 255u)) goto L589;
                                                                                                 l12 = l12 + 64ull;
                                                                                                 l2 = l2 - 8ull;
-                                                                                                if (l2 >= 9ull) goto L619;
+                                                                                                if (l2 >= 9ull) goto L618;
                                                                                             }
                                                                                         }
-                                                                                        L603:;
+                                                                                        L602:;
                                                                                         l2 = l1 + l14;
                                                                                         l12 = l16 + (l2 << 3);
-                                                                                        const u32 t628 = load8(l12 - 56ull);
-                                                                                        const u32 t629 = load8(l12 - 64ull);
-                                                                                        const u32 t630 = load8(l12 - 48ull);
-                                                                                        const u32 t631 = load8(l12 - 40ull);
-                                                                                        const u32 t632 = load8(l12 - 32ull);
-                                                                                        const u32 t633 = load8(l12 - 24ull);
-                                                                                        const u32 t634 = load8(l12 - 16ull);
-                                                                                        const u32 t635 = load8(l12 - 8ull);
-                                                                                        if ((((((((t628 + t629) + t630) + t631) + t632) + t633) + t634) & 255u) | t635) goto L590;
+                                                                                        const u32 t627 = load8(l12 - 56ull);
+                                                                                        const u32 t628 = load8(l12 - 64ull);
+                                                                                        const u32 t629 = load8(l12 - 48ull);
+                                                                                        const u32 t630 = load8(l12 - 40ull);
+                                                                                        const u32 t631 = load8(l12 - 32ull);
+                                                                                        const u32 t632 = load8(l12 - 24ull);
+                                                                                        const u32 t633 = load8(l12 - 16ull);
+                                                                                        const u32 t634 = load8(l12 - 8ull);
+                                                                                        if ((((((((t627 + t628) + t629) + t630) + t631) + t632) + t633) & 255u) | t634) goto L589;
                                                                                         l32 = l34 + l41;
                                                                                         l10 = (u64)(l40 - l32);
-                                                                                        if (l34 > 24u) goto L589;
+                                                                                        if (l34 > 24u) goto L588;
                                                                                         if (l34 != 8u) {
                                                                                             l13 = l16 - 64ull;
                                                                                             l12 = l13 + (l2 << 3);
                                                                                             l2 = l13 + ((l1 + l10) << 3);
-                                                                                            L637:;
+                                                                                            L636:;
                                                                                             {
                                                                                                 core_slice_edits_slice_T_copy_from_slice(stack, l2, l12, 8ull);
                                                                                                 l12 = l12 - 64ull;
                                                                                                 l2 = l2 - 64ull;
                                                                                                 l1 = l1 - 8ull;
-                                                                                                if (l1 > 8ull) goto L637;
+                                                                                                if (l1 > 8ull) goto L636;
                                                                                             }
                                                                                         }
                                                                                         core_slice_edits_slice_T_copy_from_slice(stack, l16 + (l10 << 3), l16 + (l14 << 3), 8ull);
                                                                                         store32(l8 + 24ull, l32);
-                                                                                        goto L586;
+                                                                                        goto L585;
                                                                                     }
                                                                                     store_item_copies_load_items_over_spare(stack, l9, l8, l38, l44 + l45);
-                                                                                    const u32 t638 = load8(l9);
-                                                                                    if (t638 != 1u) goto L590;
-                                                                                    const u32 t639 = load32(l9 + 4u);
-                                                                                    l34 = t639;
-                                                                                    goto L586;
+                                                                                    const u32 t637 = load8(l9);
+                                                                                    if (t637 != 1u) goto L589;
+                                                                                    const u32 t638 = load32(l9 + 4u);
+                                                                                    l34 = t638;
+                                                                                    goto L585;
                                                                                 }
-                                                                                L597:;
-                                                                                if ((l38 & 255u) == 0) goto L588;
+                                                                                L596:;
+                                                                                if ((l38 & 255u) == 0) goto L587;
                                                                             }
-                                                                            L590:;
-                                                                            const u32 t640 = forms_work_Work_fill_body(stack, l8, l35, l39, l32);
-                                                                            l32 = t640;
+                                                                            L589:;
+                                                                            const u32 t639 = forms_work_Work_fill_body(stack, l8, l35, l39, l32);
+                                                                            l32 = t639;
                                                                             store32(l9 + 300u, 0u);
                                                                             store8(l9 + 297u, (u8)0u);
                                                                             store8(l9 + 296u, (u8)l32);
-                                                                            goto L402;
+                                                                            goto L401;
                                                                         }
-                                                                        L589:;
+                                                                        L588:;
                                                                         space_copies_copy_long(stack, l16, l14, l2, l10);
-                                                                        goto L587;
+                                                                        goto L586;
                                                                     }
-                                                                    L588:;
+                                                                    L587:;
                                                                     l32 = l41 + 1u;
                                                                     l2 = l16 + ((u64)(l40 - l32) << 3);
                                                                     store8(l2, (u8)0u);
-                                                                    const u32 t641 = load32(l12 + 4ull);
-                                                                    store32(l2 + 4ull, t641);
-                                                                    const u32 t642 = load8(l12 + 1ull);
-                                                                    store8(l2 + 1ull, (u8)t642);
+                                                                    const u32 t640 = load32(l12 + 4ull);
+                                                                    store32(l2 + 4ull, t640);
+                                                                    const u32 t641 = load8(l12 + 1ull);
+                                                                    store8(l2 + 1ull, (u8)t641);
                                                                 }
-                                                                L587:;
+                                                                L586:;
                                                                 store32(l8 + 24ull, l32);
                                                             }
-                                                            L586:;
+                                                            L585:;
                                                             store32(l9 + 300u, l34);
                                                             store16(l9 + 296u, (u16)2u);
                                                         }
-                                                        L402:;
-                                                        const u32 t643 = load32(l9 + 300u);
-                                                        l35 = t643;
-                                                        const u32 t644 = load8(l9 + 297u);
-                                                        l32 = t644;
-                                                        const u32 t645 = load8(l9 + 296u);
-                                                        l34 = t645;
+                                                        L401:;
+                                                        const u32 t642 = load32(l9 + 300u);
+                                                        l35 = t642;
+                                                        const u32 t643 = load8(l9 + 297u);
+                                                        l32 = t643;
+                                                        const u32 t644 = load8(l9 + 296u);
+                                                        l34 = t644;
                                                     }
-                                                    L401:;
+                                                    L400:;
                                                     {
                                                         switch ((u32)(((u64)l34 & 255ull)) - 1u) {
-                                                        case 0: goto L646;
-                                                        case 1: goto L400;
-                                                        case 2: goto L400;
-                                                        case 3: goto L397;
-                                                        default: goto L398;
+                                                        case 0: goto L645;
+                                                        case 1: goto L399;
+                                                        case 2: goto L399;
+                                                        case 3: goto L396;
+                                                        default: goto L397;
                                                         }
                                                     }
-                                                    L646:;
+                                                    L645:;
                                                     l12 = l8 + 20ull;
-                                                    const u32 t647 = load32(l12);
-                                                    l32 = t647;
+                                                    const u32 t646 = load32(l12);
+                                                    l32 = t646;
                                                     core_delivery_deliver(stack, l8, l33, l36);
-                                                    const u32 t648 = load32(l12);
-                                                    l33 = t648;
-                                                    v399 = l32 + (l31 + l42); goto L399;
+                                                    const u32 t647 = load32(l12);
+                                                    l33 = t647;
+                                                    v398 = l32 + (l31 + l42); goto L398;
                                                 }
-                                                L400:;
+                                                L399:;
                                                 l36 = l42 + l43;
-                                                const u64 t649 = load64(l8);
-                                                const u64 t650 = load32(l8 + 16ull);
-                                                l12 = t649 + (t650 << 3);
+                                                const u64 t648 = load64(l8);
+                                                const u64 t649 = load32(l8 + 16ull);
+                                                l12 = t648 + (t649 << 3);
                                                 {
-                                                    const u32 t652 = load32(l8 + 32ull);
-                                                    l31 = t652;
+                                                    const u32 t651 = load32(l8 + 32ull);
+                                                    l31 = t651;
                                                     if (l37 == l31) {
-                                                        const u32 t654 = load32((l12 + ((l5 << 3) & 34359738360ull)) + 4ull);
-                                                        l31 = t654;
+                                                        const u32 t653 = load32((l12 + ((l5 << 3) & 34359738360ull)) + 4ull);
+                                                        l31 = t653;
                                                         l32 = l31 ? (l37 - l31) : 0u;
-                                                        goto L651;
+                                                        goto L650;
                                                     }
                                                     if (l31 <= l33) {
                                                         l32 = l31;
-                                                        goto L651;
+                                                        goto L650;
                                                     }
-                                                    L656:;
+                                                    L655:;
                                                     {
-                                                        const u32 t657 = load32((l12 + ((u64)(l31 - 1u) << 3)) + 4ull);
-                                                        l32 = t657;
+                                                        const u32 t656 = load32((l12 + ((u64)(l31 - 1u) << 3)) + 4ull);
+                                                        l32 = t656;
                                                         l31 = l31 - l32;
                                                         l32 = l32 ? l31 : 0u;
-                                                        if (l32 > l33) goto L656;
+                                                        if (l32 > l33) goto L655;
                                                     }
                                                 }
-                                                L651:;
+                                                L650:;
                                                 store32(l8 + 20ull, l33);
                                                 store32(l8 + 32ull, l32);
-                                                v399 = l35 + l36;
+                                                v398 = l35 + l36;
                                             }
-                                            L399:;
-                                            l31 = v399;
+                                            L398:;
+                                            l31 = v398;
                                             store32(l8 + 60ull, l33);
                                             l33 = 0u;
                                             l32 = 0u;
-                                            goto L396;
+                                            goto L395;
                                         }
-                                        L398:;
-                                        const u32 t658 = load32(l8 + 20ull);
-                                        store32(l8 + 60ull, t658);
+                                        L397:;
+                                        const u32 t657 = load32(l8 + 20ull);
+                                        store32(l8 + 60ull, t657);
                                         l32 = 2u;
-                                        goto L395;
+                                        goto L394;
                                     }
-                                    L397:;
-                                    const u32 t659 = load32(l8 + 20ull);
-                                    l31 = t659;
+                                    L396:;
+                                    const u32 t658 = load32(l8 + 20ull);
+                                    l31 = t658;
                                     store32(l8 + 60ull, l31);
-                                    const u32 t660 = load32(l8 + 24ull);
-                                    const u32 t661 = load32(l8 + 16ull);
-                                    l31 = t660 + (l31 + t661);
+                                    const u32 t659 = load32(l8 + 24ull);
+                                    const u32 t660 = load32(l8 + 16ull);
+                                    l31 = t659 + (l31 + t660);
                                     l33 = 1u;
                                     l37 = 1u << (l32 & 31);
-                                    if (l37 & 3u) goto L396;
-                                    if (l37 & 12u) goto L395;
+                                    if (l37 & 3u) goto L395;
+                                    if (l37 & 12u) goto L394;
                                     l12 = l8 + 80ull;
-                                    const u32 t662 = load32(l12);
-                                    l33 = t662;
+                                    const u32 t661 = load32(l12);
+                                    l33 = t661;
                                     store32(l12, (l31 > l33) ? l31 : l33);
-                                    goto L395;
+                                    goto L394;
                                 }
-                                L396:;
+                                L395:;
                                 l12 = l8 + 72ull;
-                                const u64 t663 = load64(l12);
-                                store64(l12, t663 + 1ull);
+                                const u64 t662 = load64(l12);
+                                store64(l12, t662 + 1ull);
                                 l12 = l8 + 80ull;
-                                const u32 t664 = load32(l12);
-                                l37 = t664;
+                                const u32 t663 = load32(l12);
+                                l37 = t663;
                                 store32(l12, (l31 > l37) ? l31 : l37);
                                 l31 = 0u;
-                                if (l33 == 0) goto L385;
+                                if (l33 == 0) goto L384;
                             }
-                            L395:;
+                            L394:;
                             store8(l8 + 85ull, (u8)l32);
                             l31 = 1u;
                             store8(l8 + 84ull, (u8)1u);
                         }
-                        L385:;
+                        L384:;
                         if ((l31 & 255u) == 0) {
                             l4 = l4 + 1ull;
                             if (l4 < l7) goto L5;
@@ -24679,14 +24673,14 @@ static void engine_turn(u64 stack, u64 l0, u64 l1, u64 l2, u64 l3, u64 l4, u64 l
                 l5 = 0ull;
             }
             L3:;
-            const u32 t666 = load32(l8 + 80ull);
-            l31 = t666;
-            const u64 t667 = load64(l8 + 72ull);
-            l8 = t667;
-            const u64 t668 = load64(l9 + 88u);
-            l7 = t668;
-            const u64 t669 = load64(l9 + 120u);
-            l4 = t669;
+            const u32 t665 = load32(l8 + 80ull);
+            l31 = t665;
+            const u64 t666 = load64(l8 + 72ull);
+            l8 = t666;
+            const u64 t667 = load64(l9 + 88u);
+            l7 = t667;
+            const u64 t668 = load64(l9 + 120u);
+            l4 = t668;
             store64(l0 + 32u, l5);
             l4 = l3 - l4;
             store64(l0 + 24u, (l3 < l4) ? 0ull : l4);

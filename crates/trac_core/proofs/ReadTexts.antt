@@ -4,7 +4,7 @@ use Rattle.std.proofs.lemmas.List.Folds.{list_any-append}
 use Rattle.trac_space.specs.declared.cell.Cell.TheVariants.{Byte as ByteCell}
 use Rattle.trac_devices.specs.declared.device.Next.TheVariants.{Byte, End, Failed}
 use Rattle.trac_devices.specs.Devices.{Gives}
-use Rattle.trac_core.specs.declared.text_io.ReadEnd.TheVariants as ended
+use Rattle.trac_core.specs.declared.streaming.ReadEnd.TheVariants as ended
 use Rattle.trac_core.specs.ReadTexts.{StreamsTo}
 
 -- one text after another was read

@@ -4,8 +4,8 @@ use Rattle.trac_language.specs.Text.{Text}
 use Rattle.trac_devices.specs.Devices.{Stream, has_byte}
 use Rattle.trac_devices.specs.HeldBytes.{ReadsInto}
 use Rattle.trac_forms.specs.Contents.{Contents, Appended}
-use Rattle.trac_core.specs.declared.text_io.ReadEnd.{ReadEnd}
-use Rattle.trac_core.specs.declared.text_io.ReadEnd.TheVariants.{Meta, Ended, Failed, Full}
+use Rattle.trac_core.specs.declared.streaming.ReadEnd.{ReadEnd}
+use Rattle.trac_core.specs.declared.streaming.ReadEnd.TheVariants.{Meta, Ended, Failed, Full}
 
 -- a text without the meta character was put at the end of the neutral string
 abbrev pub Reads : ℕ → Contents → Contents → Text → Type 0

@@ -10,7 +10,7 @@ ghost use Rattle.trac_core.specs.Attempts.{scene, HasArguments, AnswersCall, Sta
 ghost use Rattle.trac_core.specs.Attempts.{LeavesSink};
 ghost use Rattle.trac_core.specs.Display.{display_named, shown};
 
-use crate::text_io::print_bytes;
+use crate::streaming::print_bytes;
 use itoa::Buffer;
 use trac_devices::{Sink, SinkFailed};
 use trac_forms::{StoredForm, Work};

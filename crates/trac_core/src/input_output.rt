@@ -10,7 +10,7 @@ ghost use Rattle.trac_core.specs.Attempts.{scene, IsCall, HasArguments, AnswersC
 ghost use Rattle.trac_core.specs.Attempts.{TakesFrom, fate_after, LeavesSource, LeavesSink};
 ghost use Rattle.trac_functions.specs.Calls.{KeepsRoom};
 
-use crate::text_io::{ReadEnd, print_text, read_text};
+use crate::streaming::{ReadEnd, print_text, read_text};
 use trac_devices::{Characters, Next, Sink, Source};
 use trac_forms::Work;
 use trac_functions::arguments::{Arguments, CallResult, text};

@@ -10,7 +10,7 @@ mod machine;
 mod rules;
 mod runs;
 mod scan;
-mod text_io;
+mod streaming;
 
 pub use display::{display_len, show_form};
 pub use machine::{Awaits, CallMark, Machine, OpenCall, Progress};

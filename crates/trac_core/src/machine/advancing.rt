@@ -1,5 +1,5 @@
 //! Steps that need no device, as many as follow one another.
-ghost use Rattle.std.specs.Prelude.{◌≡◌, ◌+◌, ◌<◌, ◌≤◌, ◌^◌, None, IsSome};
+ghost use Rattle.std.specs.Prelude.{◌≡◌, ◌+◌, ◌<◌, ◌≤◌, ◌^◌, None, Some, IsSome};
 ghost use Rattle.trac_forms.specs.Contents.{IsSound};
 ghost use Rattle.trac_functions.specs.Calls.{KeepsRoom};
 ghost use Rattle.trac_core.specs.Machine.{KeepsLimits};
@@ -11,7 +11,7 @@ use super::{Counters, Machine, ended};
 use crate::call::perform_pending_alone;
 use crate::scan::{IDLING_STEPS, Pending, begin_idling, may_begin_idling, scan_steps};
 use trac_forms::Work;
-use trac_language::{Fate, Function};
+use trac_language::{Fate, Function, Report};
 
 /// What `advance` did.
 #[derive(Clone, Copy)]
@@ -120,16 +120,7 @@ fn go_alone(work: &mut Work, meta: &mut u8, plain: u32, at: Counters, most: u64)
                 };
                 if let Some(fate) = last.fate {
                     let report = ended(fate, last.need, at.steps + (reach - left), peak);
-                    return Advance {
-                        progress: Progress {
-                            done: reach - left,
-                            next: None,
-                        },
-                        plain: work.neutral_len(),
-                        steps: report.steps,
-                        peak: report.peak,
-                        fate: Some(report.fate),
-                    };
+                    return over(reach - left, work.neutral_len(), report);
                 }
                 left -= 1;
                 peak = peak.max(last.need);
@@ -140,6 +131,25 @@ fn go_alone(work: &mut Work, meta: &mut u8, plain: u32, at: Counters, most: u64)
         }
     }
     going(reach, None, plain, at.steps, peak)
+}
+
+/// `done` steps, behind which the run is over with this report.
+fn over(done: u64, plain: u32, report: Report) -> Advance
+    ensures { result ≡ record {
+      progress = record { done = done; next = None };
+      plain = plain;
+      steps = report.steps;
+      peak = report.peak;
+      fate = Some report.fate;
+    } }
+{
+    Advance {
+        progress: Progress { done, next: None },
+        plain,
+        steps: report.steps,
+        peak: report.peak,
+        fate: Some(report.fate),
+    }
 }
 
 /// `done` steps after `steps` others, with this peak, and what the next one performs; the run goes

@@ -67,7 +67,7 @@ returns-in-Some-clause-advanced c =
     let counts = c.ended-report.ensures.counts (running w c.loop-left.meta at) (memory_of c.perform_pending_alone.new.meta c.perform_pending_alone.new.work) refl refl in
     alone-ends start w c.perform_pending_alone.new.work c.loop-left.meta c.args.at done c.loop-left.peak
     c.args.most c.perform_pending_alone.new.meta c.in-Ok-perform_pending_alone.last.need c.neutral_len.result c.in-Some.fate _ h.keeps.room (omega (arith, i.allowed, i.few, c.loop-left-test.true)) (omega (arith, i.wanted, i.few, c.loop-left-test.true)) tried
-    (ap (λ report. record { progress = record { done = done; next = None }; plain = c.neutral_len.result; steps = report.steps; peak = report.peak; fate = Some report.fate }) counts) goes
+    (c.over.ensures ∙ ap (λ report. record { progress = record { done = done; next = None }; plain = c.neutral_len.result; steps = report.steps; peak = report.peak; fate = Some report.fate }) counts) goes
 
 pub loop-left-preserved : goal.loop-left-preserved
 loop-left-preserved c =

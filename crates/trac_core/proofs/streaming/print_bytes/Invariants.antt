@@ -1,5 +1,5 @@
 use Rattle.trac_core.proofs.Imports.{◌≡◌, ◌++◌, take}
-use Rattle.trac_core.proofs.text_io.print_bytes.Given as goal
+use Rattle.trac_core.proofs.streaming.print_bytes.Given as goal
 
 -- the bytes so far were written
 abbrev pub invariant-loop-byte : goal.invariant-loop-byte

@@ -1,6 +1,6 @@
 use Rattle.trac_core.proofs.Imports.{◌≡◌, ◌++◌, [], ◌∷◌, eqb, false, arith, ◌∙◌, ap, eqb-true, false_from_ne_true}
 use Rattle.trac_core.proofs.ReadTexts.{reads-more, reads-on, streams-byte, streams-more, streams-full, streams-end, streams-failed}
-use Rattle.trac_core.proofs.text_io.read_text.Goals as goal
+use Rattle.trac_core.proofs.streaming.read_text.Goals as goal
 
 pub loop-byte-preserved : goal.loop-byte-preserved
 loop-byte-preserved g c =

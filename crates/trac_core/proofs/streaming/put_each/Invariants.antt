@@ -1,5 +1,5 @@
 use Rattle.trac_core.proofs.Imports.{◌≡◌, ◌++◌, take}
-use Rattle.trac_core.proofs.text_io.put_each.Given as goal
+use Rattle.trac_core.proofs.streaming.put_each.Given as goal
 
 -- the characters so far were written
 abbrev pub invariant-loop-i : goal.invariant-loop-i

@@ -1,5 +1,5 @@
 use Rattle.trac_core.proofs.Imports.{◌≡◌, ◌-◌, List, ℕ, used, IsSound, Streams, Reads}
-use Rattle.trac_core.proofs.text_io.read_text.Given as goal
+use Rattle.trac_core.proofs.streaming.read_text.Given as goal
 
 -- a text was read so far, and no failure came
 abbrev pub invariant-loop-byte : goal.invariant-loop-byte
