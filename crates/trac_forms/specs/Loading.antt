@@ -1,6 +1,5 @@
--- Bodies without gaps, copied to the front of the active string, and characters taken one by one.
-use Rattle.std.specs.Prelude.{◌≡◌, ℕ, true, ◌+◌, ◌<◌, ◌≤◌, List, ◌++◌, length, slice_range}
-use Rattle.trac_language.specs.declared.item.Item.{Item}
+-- Texts that are put before the active string, and characters taken one by one.
+use Rattle.std.specs.Prelude.{◌≡◌, ℕ, true, ◌+◌, ◌<◌, ◌≤◌, ◌++◌, length, slice_range}
 use Rattle.trac_language.specs.Form.{text_of}
 use Rattle.trac_space.specs.Texts.{flat_text}
 use Rattle.trac_language.specs.Text.{Text}
@@ -9,12 +8,11 @@ use Rattle.trac_forms.specs.Contents.{Contents, used, body_at, pointer_at}
 -- what a call goes through
 pub use Rattle.trac_store.specs.Loading.{called_part, AreCharacters}
 
--- the items are n characters that fit, and were copied to the front of active
-pub record IsLoaded (old new : Contents) (items : List Item) (n : ℕ) : Type 0 where
-  pub characters : AreCharacters items
-  pub size : length items ≡ n
+-- the text has `n` characters, which fit and stand before the active string
+pub record IsLoaded (old new : Contents) (text : Text) (n : ℕ) : Type 0 where
+  pub size : length text ≡ n
   pub fits : used old + n ≤ old.room
-  pub stands : new ≡ record old { active = flat_text (text_of items) ++ old.active }
+  pub stands : new ≡ record old { active = flat_text text ++ old.active }
 
 -- the text of the item at the pointer of the form at place k, if that is a character
 abbrev pub next_text : Contents → ℕ → Text

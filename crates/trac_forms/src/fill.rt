@@ -1,5 +1,5 @@
-//! Copies the rest of a form: with its gaps filled to the end of neutral, or to the front of active if it
-//! has no gap (Mooers 1966). Takes the character at the pointer.
+//! Copies the rest of a form with its gaps filled, to the front of active or to the end of neutral (Mooers
+//! 1966). Takes the character at the pointer.
 ghost use Rattle.std.specs.Prelude.{◌≡◌, ◌+◌, ◌≤◌, ◌<◌, ◌↔◌, ◌++◌};
 ghost use Rattle.std.specs.Prelude.{◌∷◌, [], length, map, slice_range, slice_index_or, set, IsTrue};
 ghost use Rattle.std.specs.Prelude.{MatchOption};
@@ -18,7 +18,7 @@ ghost use Rattle.trac_store.specs.Stored.{item_of, IsLocated};
 use crate::item::FormId;
 use crate::work::Work;
 use trac_space::{Cell, Part, Space};
-use trac_store::{Located, fill_items, heads_of, load_items};
+use trac_store::{Located, fill_items, heads_of};
 
 impl<'a> Work<'a> {
     /// Copies the form's body from its pointer on to the end of neutral, each gap k replaced by argument k:
@@ -36,40 +36,34 @@ impl<'a> Work<'a> {
         ensures full { OnFalse result (self.new ≡ self.old) }
         ensures sound { IsSound self.new }
     {
-        if self.last.number != form.0 {
-            return self.fill_other(form, first, end);
+        match self.load_filled(form, first, end) {
+            Some(size) => {
+                self.active_to_neutral(size);
+                true
+            }
+            None => false,
         }
-        let texts = Part {
-            from: first,
-            to: end,
-        };
-        let here = Located {
-            number: form.0,
-            start: self.last.start,
-        };
-        self.fill_located(here, texts)
     }
 
-    // Does what `fill_body` does for a form that isn't the one used last.
-    #[inline(never)]
-    fn fill_other(&mut self, form: FormId, first: u32, end: u32) -> bool
-        requires known { form.0 < length self.old.forms }
+    /// Copies the form's body from its pointer on to the front of active, its gaps replaced as by `fill_body`,
+    /// and gives how many characters these are. None, with nothing changed, if the copy doesn't fit.
+    #[inline(always)]
+    pub fn load_filled(&mut self, form: FormId, first: u32, end: u32) -> Option<u32>
+        requires known { form_place form < length self.old.forms }
         requires arguments { AreParted self.old.neutral first end }
-        ensures put { let text = filled_body self.old form.0 first end in
-            IsTrue result ↔ (used self.old + length text ≤ self.old.room) }
-        ensures last { let text = filled_body self.old form.0 first end in
-            OnTrue result (self.new ≡ record self.old {
-              neutral = self.old.neutral ++ flat_text text;
-            }) }
-        ensures full { OnFalse result (self.new ≡ self.old) }
+        ensures loaded { let text = filled_body self.old (form_place form) first end in
+            MatchOption result
+            ((self.new ≡ self.old) × (self.old.room < used self.old + length text))
+            (λ n. IsLoaded self.old self.new text n) }
         ensures sound { IsSound self.new }
     {
+        let at = self.locate(form);
+        let items = self.called_place(at);
         let texts = Part {
             from: first,
             to: end,
         };
-        let at = self.locate(form);
-        self.fill_located(at, texts)
+        fill_items(&mut self.space, items, texts)
     }
 
     // The part of the store that a call of the form copies: its body from its pointer on.
@@ -87,41 +81,6 @@ impl<'a> Work<'a> {
             from: place + heads.pointer,
             to: place + heads.body,
         }
-    }
-
-    // Does what `fill_body` does for a form whose place is known.
-    #[inline(always)]
-    fn fill_located(&mut self, form: Located, texts: Part) -> bool
-        requires form { IsLocated self.old.forms form.number form.start }
-        requires arguments { AreParted self.old.neutral texts.from texts.to }
-        ensures put { let text = filled_body self.old form.number texts.from texts.to in
-            IsTrue result ↔ (used self.old + length text ≤ self.old.room) }
-        ensures last { let text = filled_body self.old form.number texts.from texts.to in
-            OnTrue result (self.new ≡ record self.old {
-              neutral = self.old.neutral ++ flat_text text;
-            }) }
-        ensures full { OnFalse result (self.new ≡ self.old) }
-        ensures sound { IsSound self.new }
-    {
-        let items = self.called_place(form);
-        fill_items(&mut self.space, items, texts)
-    }
-}
-
-impl<'a> Work<'a> {
-    /// Copies the form's body from its pointer on to the front of active if it has no gap there and fits, and
-    /// gives how many characters these are. None, with nothing changed, if it didn't copy them.
-    #[inline(always)]
-    pub fn load_body(&mut self, form: FormId) -> Option<u32>
-        requires known { form_place form < length self.old.forms }
-        ensures loaded { let body = called_part self.old.forms (form_place form) in
-            MatchOption result (self.new ≡ self.old)
-            (λ n. IsLoaded self.old self.new body n) }
-        ensures sound { IsSound self.new }
-    {
-        let at = self.locate(form);
-        let items = self.called_place(at);
-        load_items(&mut self.space, items)
     }
 }
 

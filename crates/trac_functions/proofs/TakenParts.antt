@@ -39,7 +39,7 @@ module _ (f : Function) (args : List Text) (name : Text) (part : Form → Option
               record {
                 valued = subst (λ fs. Valued f args old.forms z true fs) (sym forms) (valued-of f args old.forms old.forms z true (means-at None e) built_is);
                 goes = refl;
-                long = takes.long;
+                long = takes.size;
                 fits = takes.fits;
                 stands = takes.stands ∙ ap (λ fs. record old { forms = fs; active = flat_text z ++ old.active }) (sym forms);
               },

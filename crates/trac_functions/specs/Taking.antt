@@ -7,6 +7,7 @@ use Rattle.trac_language.specs.Part.{Part}
 use Rattle.trac_space.specs.declared.part.Part.{Part as CellPart}
 use Rattle.trac_space.specs.Texts.{flat_text}
 use Rattle.trac_forms.specs.Contents.{Contents, used, part_text, form_at}
+use Rattle.trac_forms.specs.Loading.{IsLoaded}
 use Rattle.trac_forms.specs.Search.{NonePasses}
 use Rattle.trac_functions.specs.declared.arguments.CallResult.{CallResult}
 use Rattle.trac_functions.specs.declared.arguments.CallResult.TheVariants.{Full, AtEnd, InFront, Null}
@@ -26,17 +27,11 @@ pub record Puts (old new : Contents) (forms : List Form) (text : Text) : Type 0 
   pub fits : used old + length text ≤ old.room
   pub stands : new ≡ record old { forms = forms; neutral = old.neutral ++ flat_text text }
 
--- a text of so many characters stands before active
-pub record Loads (old new : Contents) (text : Text) (size : ℕ) : Type 0 where
-  pub long : length text ≡ size
-  pub fits : used old + size ≤ old.room
-  pub stands : new ≡ record old { active = flat_text text ++ old.active }
-
 -- the part of the form at place k is the value, and its
 -- pointer is moved; or z is the value; or that doesn't fit
 abbrev pub TakesPart : Option Part → Text → ℕ → Contents → CallResult → Contents → Type 0
 TakesPart part z k old Full new = old.room < used old + length (part_value part z)
-TakesPart None z k old (InFront size) new = Loads old new z size
+TakesPart None z k old (InFront size) new = IsLoaded old new z size
 TakesPart (Some part) z k old AtEnd new = Puts old new (moved old.forms k part.pointer) part.text
 TakesPart None z k old AtEnd new = ⊥
 TakesPart (Some part) z k old (InFront size) new = ⊥

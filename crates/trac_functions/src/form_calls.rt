@@ -14,7 +14,6 @@ ghost use Rattle.trac_language.specs.State.{argument};
 ghost use Rattle.trac_space.specs.Texts.{flat_text};
 ghost use Rattle.trac_forms.specs.Contents.{used, name_at, part_text, IsTextPart, IsNamedAt};
 ghost use Rattle.trac_forms.specs.Contents.{IsSound, form_place};
-ghost use Rattle.trac_forms.specs.Loading.{called_part, IsLoaded};
 ghost use Rattle.trac_functions.specs.Calls.{AreArguments, texts, Makes, Performs};
 ghost use Rattle.trac_functions.specs.Calls.{KeepsRoom};
 
@@ -156,30 +155,17 @@ pub fn call_form(work: &mut Work, mut arguments: Arguments) -> CallResult
     let Some(form) = next_form(work, &mut arguments) else {
         return CallResult::AtEnd;
     };
-    // a form that is called without arguments mostly has no gaps
-    if let Some(size) = place_body(work, form, scanned && arguments.is_empty()) {
-        return CallResult::InFront(size);
+    if scanned {
+        return match work.load_filled(form, arguments.from, arguments.end) {
+            Some(size) => CallResult::InFront(size),
+            None => CallResult::Full,
+        };
     }
     if work.fill_body(form, arguments.from, arguments.end) {
         CallResult::AtEnd
     } else {
         CallResult::Full
     }
-}
-
-/// The characters of the form's body from its pointer on are placed before the active string, where
-/// that is asked for, no gap stands among them and they fit. Gives how many they are; None where they
-/// are not placed.
-#[inline(always)]
-fn place_body(work: &mut Work, form: FormId, asked: bool) -> Option<u32>
-    requires known { form_place form < length work.old.forms }
-    requires sound { IsSound work.old }
-    ensures placed { let body = called_part work.old.forms (form_place form) in
-        MatchOption result (work.new ≡ work.old)
-        (λ n. (asked ≡ true) × IsLoaded work.old work.new body n) }
-    ensures sound { IsSound work.new }
-{
-    if asked { work.load_body(form) } else { None }
 }
 
 /// The form that the next argument names, None where no form has the name.

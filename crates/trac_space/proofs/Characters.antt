@@ -1,6 +1,6 @@
 -- Characters that are put once more at a place behind, one after the other.
 use Rattle.trac_space.proofs.Imports.{◌≡◌, ◌↔◌, ℕ, ◌+◌, ◌<◌, ◌≤◌, true, false, IsTrue, nat_eq, All, List, [], ◌∷◌, ◌++◌, length, take, drop, map, get_or, slice_range, sum_by, refl, sym, ◌-◌, ap, ◌∙◌, subst, ⊎_elim, arith, rules, places, same_lists, length-drop, length-take-le, get_or-take}
-use Rattle.trac_space.proofs.Imports.{get_or-map, get_or-drop, take_more, take-map, drop-map, drop-drop, take-add, cases_lt, All-append, All-push, All-map, All-cons, All-head, All-tail, sum_by-cons, Cell, Byte, Call, Comma, seen, IsNoCall, NoCall, IsByte, is_byte_cell, byte_cell_at}
+use Rattle.trac_space.proofs.Imports.{get_or-map, get_or-drop, take_more, drop_more, suc, take-map, drop-map, drop-drop, take-add, cases_lt, All-append, All-push, All-map, All-cons, All-head, All-tail, sum_by-cons, Cell, Byte, Call, Comma, seen, IsNoCall, NoCall, IsByte, is_byte_cell, byte_cell_at}
 use Rattle.trac_space.proofs.Imports.{kind_number, paste}
 
 -- the cells before that place are as they were
@@ -27,6 +27,24 @@ up-to-next cells start most count room less done is = record {
   within = omega (arith, less);
   bytes = bytes-more cells start count (Byte 0) (omega (arith, room, less)) done.bytes (tested-byte (get_or cells (start + count) (Byte 0)) is);
 }
+
+-- the `count` cells right before a place are characters, at most eight
+pub record AreBefore (cells : List Cell) (at count : ℕ) : Type 0 where
+  pub within : count ≤ 8
+  pub bytes : All IsByte (take count (drop (at - count) cells))
+
+-- the cell before them is one too
+pub before-next : (cells : List Cell) (at count : ℕ) → at ≤ length cells → 8 ≤ at → count < 8 → AreBefore cells at count → is_byte_cell (get_or cells (at - count - 1) (Byte 0)) ≡ true → AreBefore cells at (count + 1)
+before-next cells at count inside behind less done is =
+    let here : at - (count + 1) ≡ at - count - 1 = omega arith in
+    let next : at - count - 1 + 1 ≡ at - count = omega (arith, behind, less) in
+    let whole : drop (at - (count + 1)) cells ≡ get_or cells (at - count - 1) (Byte 0) ∷ drop (at - count) cells =
+    ap (λ i. drop i cells) here ∙ drop_more cells (at - count - 1) (Byte 0) (omega (arith, behind, less, inside)) ∙ ap (λ i. get_or cells (at - count - 1) (Byte 0) ∷ drop i cells) next in
+    let one : count + 1 ≡ suc count = omega arith in
+    record {
+      within = omega (arith, less);
+      bytes = rw (whole, one) (All-cons IsByte (get_or cells (at - count - 1) (Byte 0)) (take count (drop (at - count) cells)) (tested-byte (get_or cells (at - count - 1) (Byte 0)) is) done.bytes);
+    }
 
 -- characters, and others behind them
 pub bytes-join : (cells : List Cell) (start k j : ℕ) → All IsByte (take k (drop start cells)) → All IsByte (take j (drop (start + k) cells)) → All IsByte (take (k + j) (drop start cells))

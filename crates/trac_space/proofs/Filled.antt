@@ -1,8 +1,10 @@
--- Cells that are put at the end of neutral with their gaps filled, one after the other.
+-- Cells that are put before active with their gaps filled, the last one first.
 use Rattle.trac_space.proofs.Imports.{Bool, cond, map, ◌≡◌, ℕ, zero, suc, ◌+◌, ◌-◌, ◌<◌, ◌≤◌, true, false, All, List, [], ◌∷◌, ◌++◌, length, take, drop, get_or, slice_range, Option, Some, None, refl, sym, ap, ◌∙◌, arith, rules, append_assoc, subst, copy_within, places, same_lists}
 use Rattle.trac_space.proofs.BlockChanges.{reads}
 use Rattle.std.proofs.lemmas.List.Edits.{get_or-between}
 use Rattle.std.proofs.lemmas.List.{take-append-drop}
+use Rattle.std.proofs.Math.Seq.{drop-append_seam}
+use Rattle.std.proofs.lemmas.List.Elements.{All-drop}
 use Rattle.trac_space.proofs.Imports.{⊎_elim, ◌⊎◌, put_mid, drop_all, get_or_default, take-map, drop-map, drop-drop, map-append, take-take, append-nil, length-append, length-map, length-take-le, drop_more, get_or-take, All-head, All-tail, length-between, Cell, Byte, Comma, IsByte, is_byte_cell, is_comma}
 use Rattle.trac_space.proofs.Imports.{filling, filled, ordinal_of, IsPut, HaveCommas, parts_at, numbered_part, part_between}
 use Rattle.trac_space.specs.Overlay.{has_number, under, over}
@@ -10,11 +12,14 @@ use Rattle.std.proofs.lemmas.List.{get_or_past}
 
 -- what a copy to a place behind leaves
 module _ (now new : List Cell) (start to n : ℕ) (apart : start + n ≤ to) (within : to + n ≤ length now) (is : new ≡ copy_within now start (start + n) to) where
-  pub copied-front : (r : ℕ) → r ≤ n → take (to + r) new ≡ take to now ++ slice_range now start (start + r)
-  copied-front r few = rw is (same_lists _ _ (search (rules, places)) (λ i d less. grind (arith, places)))
+  pub copied-low : (low : ℕ) → low ≤ to → take low new ≡ take low now
+  copied-low low before = rw is (same_lists _ _ (search (rules, places)) (λ i d less. grind (arith, places)))
 
-  pub copied-behind : (last : ℕ) → to + n ≤ last → drop last new ≡ drop last now
-  copied-behind last past = rw is (same_lists _ _ (search (rules, places)) (λ i d less. grind (arith, places)))
+  pub copied-last : (r : ℕ) → r ≤ n → drop (to + n - r) new ≡ slice_range now (start + n - r) (start + n) ++ drop (to + n) now
+  copied-last r few = rw is (same_lists _ _ (search (rules, places)) (λ i d less. grind (arith, places)))
+
+  pub copied-all : drop to new ≡ slice_range now start (start + n) ++ drop (to + n) now
+  copied-all = rw is (same_lists _ _ (search (rules, places)) (λ i d less. grind (arith, places)))
 
   pub copied-source : (a r : ℕ) → a + r ≤ to → take r (drop a new) ≡ slice_range now a (a + r)
   copied-source a r before = rw is (same_lists _ _ (search (rules, places)) (λ i d less. grind (arith, places)))
@@ -22,145 +27,164 @@ module _ (now new : List Cell) (start to n : ℕ) (apart : start + n ≤ to) (wi
 part-front : (cells : List Cell) (a b n : ℕ) → b ≤ n → n ≤ length cells → slice_range (take n cells) a b ≡ slice_range cells a b
 part-front cells a b n within long = same_lists _ _ (search (rules, places)) (λ i d less. grind (arith, places))
 
+parts-meet : (cells : List Cell) (a b c : ℕ) → a ≤ b → b ≤ c → c ≤ length cells → slice_range cells a c ≡ slice_range cells a b ++ slice_range cells b c
+parts-meet cells a b c order up within = same_lists _ _ (search (rules, places)) (λ i d less. grind (arith, places))
+
 module _ (given : List Cell) where
   -- characters stand for themselves
-  filled-run : (cells : List Cell) (n : ℕ) → All IsByte (take n cells) → filled given cells ≡ take n cells ++ filled given (drop n cells)
-  filled-run cells zero h = refl
-  filled-run [] (suc n) h = refl
-  filled-run (Byte c ∷ cells) (suc n) h = ap (λ more. Byte c ∷ more) (filled-run cells n (All-tail IsByte (Byte c) (take n cells) h))
-  filled-run (cell ∷ cells) (suc n) h = absurd (All-head IsByte cell (take n cells) h)
+  filled-plain : (cells : List Cell) → All IsByte cells → filled given cells ≡ cells
+  filled-plain [] h = refl
+  filled-plain (Byte c ∷ cells) h = ap (λ more. Byte c ∷ more) (filled-plain cells (All-tail IsByte (Byte c) cells h))
+  filled-plain (cell ∷ cells) h = absurd (All-head IsByte cell cells h)
 
--- the cells up to a place stand, filled, and these are left
-pub record FilledSoFar (old now given : List Cell) (from stop first at to last : ℕ) : Type 0 where
+  filled-append : (cells more : List Cell) → filled given (cells ++ more) ≡ filled given cells ++ filled given more
+  filled-append [] more = refl
+  filled-append (cell ∷ cells) more =
+      ap (λ l. filling given cell ++ l) (filled-append cells more) ∙ sym (append_assoc (filling given cell) (filled given cells) (filled given more))
+
+-- the last of characters that stand right before a place
+pub last-bytes : (cells : List Cell) (at n r : ℕ) → r ≤ n → n ≤ at → All IsByte (take n (drop (at - n) cells)) → All IsByte (take r (drop (at - r) cells))
+last-bytes cells at n r few within bytes =
+    let is : take r (drop (at - r) cells) ≡ drop (n - r) (take n (drop (at - n) cells)) = same_lists _ _ (search (rules, places)) (λ i d less. grind (arith, places)) in
+    subst (All IsByte) (sym is) (All-drop IsByte (n - r) (take n (drop (at - n) cells)) bytes)
+
+-- the cells from a place on stand, filled, and those before it are left
+pub record FilledFrom (old now given : List Cell) (from stop low last at to : ℕ) : Type 0 where
   pub done : List Cell
-  pub order : at ≤ stop
-  pub within : to ≤ last
-  pub long : first + length done ≡ to
+  pub order : from ≤ at
+  pub within : at ≤ stop
+  pub room : low ≤ to
+  pub long : to + length done ≡ last
   pub size : length now ≡ length old
-  pub front : take to now ≡ take first old ++ done
-  pub split : filled given (slice_range old from stop) ≡ done ++ filled given (slice_range old at stop)
-  pub behind : drop last now ≡ drop last old
+  pub behind : drop to now ≡ done ++ drop last old
+  pub split : filled given (slice_range old from stop) ≡ filled given (slice_range old from at) ++ done
+  pub front : take low now ≡ take low old
 
-module _ (old given : List Cell) (from stop first last : ℕ) (before : stop ≤ first) (inside : last ≤ length old) where
-  pub along-start : from ≤ stop → first ≤ last → FilledSoFar old old given from stop first from first last
+module _ (old given : List Cell) (from stop low last : ℕ) (before : stop ≤ low) (inside : last ≤ length old) where
+  pub along-start : from ≤ stop → low ≤ last → FilledFrom old old given from stop low last stop last
   along-start order room = record {
     done = [];
     order = order;
-    within = room;
+    within = omega arith;
+    room = room;
     long = omega arith;
     size = refl;
-    front = sym (append-nil (take first old));
-    split = refl;
     behind = refl;
+    split = sym (append-nil (filled given (slice_range old from stop)));
+    front = refl;
   }
 
-  module _ (now : List Cell) (at to : ℕ) (h : FilledSoFar old now given from stop first at to last) where
-    pub along-front : take first now ≡ take first old
-    along-front =
-        let long = h.long in
-        let within = h.within in
-        let size : length (take first old) ≡ first = length-take-le first old (omega (arith, inside)) in
-        let all : take first (take first old ++ h.done) ≡ take first old = same_lists _ _ (search (rules, places)) (λ i d less. grind (arith, places)) in
-        sym (take-take first to now (omega (arith, long))) ∙ ap (take first) h.front ∙ all
+  module _ (now : List Cell) (at to : ℕ) (h : FilledFrom old now given from stop low last at to) where
+    low-inside : low ≤ length old
+    low-inside = let room = h.room in let long = h.long in omega (arith, inside, room, long)
 
-    pub same-part : (a b : ℕ) → b ≤ first → slice_range now a b ≡ slice_range old a b
+    pub same-part : (a b : ℕ) → b ≤ low → slice_range now a b ≡ slice_range old a b
     same-part a b within =
-        let long = h.long in
-        let room = h.within in
-        sym (part-front now a b first within (omega (arith, inside, h.size))) ∙ ap (λ cells. slice_range cells a b) along-front ∙ part-front old a b first within (omega (arith, inside))
+        sym (part-front now a b low within (omega (arith, low-inside, h.size))) ∙ ap (λ cells. slice_range cells a b) h.front ∙ part-front old a b low within low-inside
 
-    pub same-cell : (i : ℕ) (d : Cell) → i < first → get_or now i d ≡ get_or old i d
+    pub same-cell : (i : ℕ) (d : Cell) → i < low → get_or now i d ≡ get_or old i d
     same-cell i d less =
-        sym (get_or-take first now i d less) ∙ ap (λ cells. get_or cells i d) along-front ∙ get_or-take first old i d less
+        sym (get_or-take low now i d less) ∙ ap (λ cells. get_or cells i d) h.front ∙ get_or-take low old i d less
 
-    pub commas-now : (start end commas : ℕ) → end ≤ first → HaveCommas (slice_range old start end) commas → HaveCommas (slice_range now start end) commas
+    pub commas-now : (start end commas : ℕ) → end ≤ low → HaveCommas (slice_range old start end) commas → HaveCommas (slice_range now start end) commas
     commas-now start end commas within have = subst (λ cells. HaveCommas cells commas) (sym (same-part start end within)) have
 
-    -- more cells that stand for what is next
-    along-more : (new more : List Cell) (on n : ℕ) → on ≤ stop → to + n ≤ last → length more ≡ n → length new ≡ length now → take (to + n) new ≡ take to now ++ more → drop last new ≡ drop last now → filled given (slice_range old at stop) ≡ more ++ filled given (slice_range old on stop) → FilledSoFar old new given from stop first on (to + n) last
-    along-more new more on n order room is_long same front behind next = record {
-      done = h.done ++ more;
-      order = order;
-      within = room;
-      long = omega (arith, length-append h.done more, is_long, h.long);
-      size = same ∙ h.size;
-      front = front ∙ ap (λ cells. cells ++ more) h.front ∙ append_assoc (take first old) h.done more;
-      split = h.split ∙ ap (λ cells. h.done ++ cells) next ∙ sym (append_assoc h.done more (filled given (slice_range old on stop)));
-      behind = behind ∙ h.behind;
-    }
+    -- more cells that stand for those before
+    along-more : (new more : List Cell) (on lower n : ℕ) → from ≤ on → on ≤ at → low ≤ lower → lower + n ≡ to → length more ≡ n → length new ≡ length now → drop lower new ≡ more ++ drop to now → take low new ≡ take low now → filled given (slice_range old on at) ≡ more → FilledFrom old new given from stop low last on lower
+    along-more new more on lower n order up room is is_long same behind front next =
+        let within = h.within in
+        let meet = parts-meet old from on at order up (omega (arith, before, within, low-inside)) in
+        record {
+          done = more ++ h.done;
+          order = order;
+          within = omega (arith, up, within);
+          room = room;
+          long = omega (arith, length-append more h.done, is_long, h.long, is);
+          size = same ∙ h.size;
+          behind = behind ∙ ap (λ cells. more ++ cells) h.behind ∙ sym (append_assoc more h.done (drop last old));
+          split = h.split
+              ∙ ap (λ cells. filled given cells ++ h.done) meet
+              ∙ ap (λ cells. cells ++ h.done) (filled-append given (slice_range old from on) (slice_range old on at) ∙ ap (λ cells. filled given (slice_range old from on) ++ cells) next)
+              ∙ append_assoc (filled given (slice_range old from on)) more h.done;
+          front = front ∙ h.front;
+        }
 
-    pub along-run : (new : List Cell) (r : ℕ) → at + r ≤ stop → to + r ≤ last → All IsByte (slice_range old at (at + r)) → length new ≡ length now → take (to + r) new ≡ take to now ++ slice_range old at (at + r) → drop last new ≡ drop last now → FilledSoFar old new given from stop first (at + r) (to + r) last
-    along-run new r order room bytes same front behind =
-        let whole = slice_range old at stop in
-        let run = slice_range old at (at + r) in
-        let room_first = h.within in
+    -- a block is copied, whose last `r` cells are characters
+    pub block-run : (new : List Cell) (start lower r : ℕ) → start + 8 ≡ at → lower + 8 ≡ to → low ≤ lower → new ≡ copy_within now start (start + 8) lower → length new ≡ length now → r ≤ 8 → from + r ≤ at → All IsByte (take r (drop (at - r) new)) → FilledFrom old new given from stop low last (at - r) (to - r)
+    block-run new start lower r start_is lower_is room is same few order bytes =
+        let within = h.within in
+        let apart : start + 8 ≤ lower = omega (arith, start_is, before, within, room) in
         let long = h.long in
-        let size : length run ≡ r = omega (arith, length-between old at (at + r) (omega (arith, before, inside, order, room_first, long))) in
-        let begins : take r whole ≡ run = same_lists _ _ (search (rules, places)) (λ i d less. grind (arith, places)) in
-        let rest : drop r whole ≡ slice_range old (at + r) stop = same_lists _ _ (search (rules, places)) (λ i d less. grind (arith, places)) in
-        let next = filled-run given whole r (subst (All IsByte) (sym begins) bytes) in
-        along-more new run (at + r) r order room size same front behind (next ∙ ap (λ cells. cells ++ filled given (drop r whole)) begins ∙ ap (λ cells. run ++ filled given cells) rest)
+        let reach : lower + 8 ≤ length now = omega (arith, lower_is, inside, h.size, long) in
+        let end : at - r + r ≡ at = omega (arith, order) in
+        let source : take r (drop (at - r) new) ≡ slice_range old (at - r) at =
+        copied-source now new start lower 8 apart reach is (at - r) r (omega (arith, end, start_is, apart))
+        ∙ ap (slice_range now (at - r)) end
+        ∙ same-part (at - r) at (omega (arith, before, within)) in
+        let from_is : start + 8 - r ≡ at - r = ap (λ i. i - r) start_is in
+        let to_is : lower + 8 - r ≡ to - r = ap (λ i. i - r) lower_is in
+        let behind : drop (to - r) new ≡ slice_range old (at - r) at ++ drop to now =
+        ap (λ i. drop i new) (sym to_is)
+        ∙ copied-last now new start lower 8 apart reach is r few
+        ∙ ap (λ i. slice_range now i (start + 8) ++ drop (lower + 8) now) from_is
+        ∙ ap (λ i. slice_range now (at - r) i ++ drop (lower + 8) now) start_is
+        ∙ ap (λ i. slice_range now (at - r) at ++ drop i now) lower_is
+        ∙ ap (λ cells. cells ++ drop to now) (same-part (at - r) at (omega (arith, before, within))) in
+        let size : length (slice_range old (at - r) at) ≡ r = omega (arith, end, length-between old (at - r) at (omega (arith, before, within, low-inside))) in
+        along-more new (slice_range old (at - r) at) (at - r) (to - r) r (omega (arith, order)) (omega arith) (omega (arith, few, room, lower_is)) (omega (arith, few, lower_is)) size same behind (copied-low now new start lower 8 apart reach is low room) (filled-plain given (slice_range old (at - r) at) (subst (All IsByte) source bytes))
 
-    module _ (less : at < stop) where
-      next-cell : slice_range old at stop ≡ get_or old at Comma ∷ slice_range old (at + 1) stop
-      next-cell =
-          let split : stop - at ≡ suc (stop - (at + 1)) = omega (arith, less) in
+    module _ (on : ℕ) (next : on + 1 ≡ at) (order : from ≤ on) where
+      last-cell : filled given (slice_range old on at) ≡ filling given (get_or old on Comma)
+      last-cell =
           let within = h.within in
-          let long = h.long in
-          ap (λ k. take k (drop at old)) split ∙ ap (take (suc (stop - (at + 1)))) (drop_more old at Comma (omega (arith, less, before, inside, within, long)))
+          let one : at - on ≡ 1 = omega (arith, next) in
+          let is : slice_range old on at ≡ get_or old on Comma ∷ [] = ap (λ k. take k (drop on old)) one ∙ ap (take 1) (drop_more old on Comma (omega (arith, next, within, before, low-inside))) in
+          ap (filled given) is ∙ append-nil (filling given (get_or old on Comma))
 
-      pub along-cell : (new : List Cell) (n : ℕ) → to + n ≤ last → length (filling given (get_or old at Comma)) ≡ n → length new ≡ length now → take (to + n) new ≡ take to now ++ filling given (get_or old at Comma) → drop last new ≡ drop last now → FilledSoFar old new given from stop first (at + 1) (to + n) last
-      along-cell new n room size same front behind =
-          along-more new (filling given (get_or old at Comma)) (at + 1) n (omega (arith, less)) room size same front behind (ap (filled given) next-cell)
+      -- where the cells that fill the last one don't fit the whole doesn't
+      pub cell-full : (cells : List Cell) (n : ℕ) → length cells ≡ n → map under cells ≡ filling given (get_or old on Comma) → to < low + n → last < low + length (filled given (slice_range old from stop))
+      cell-full cells n size are full =
+          let within = h.within in
+          let meet = parts-meet old from on at order (omega (arith, next)) (omega (arith, before, within, low-inside)) in
+          let here = ap length h.split ∙ length-append (filled given (slice_range old from at)) h.done in
+          let split = ap (λ l. length (filled given l)) meet ∙ ap length (filled-append given (slice_range old from on) (slice_range old on at)) ∙ length-append (filled given (slice_range old from on)) (filled given (slice_range old on at)) in
+          let this : length (filled given (slice_range old on at)) ≡ n = ap length last-cell ∙ ap length (sym are) ∙ length-map cells under ∙ size in
+          omega (arith, full, here, split, this, h.long)
 
-      -- where that doesn't fit the whole doesn't
-      pub along-full : last < to + length (filling given (get_or old at Comma)) → last < first + length (filled given (slice_range old from stop))
-      along-full full =
-          let here = ap length h.split ∙ length-append h.done (filled given (slice_range old at stop)) in
-          let next = ap (λ cells. length (filled given cells)) next-cell ∙ length-append (filling given (get_or old at Comma)) (filled given (slice_range old (at + 1) stop)) in
-          omega (arith, full, here, next, h.long)
-
-    -- a block is copied, of which so many cells are characters
-    pub block-run : (new : List Cell) (r : ℕ) → at + 8 ≤ to → to + 8 ≤ last → new ≡ copy_within now at (at + 8) to → length new ≡ length now → r ≤ 8 → at + r ≤ stop → All IsByte (take r (drop at new)) → FilledSoFar old new given from stop first (at + r) (to + r) last
-    block-run new r apart room is same few order bytes =
-        let within : to + 8 ≤ length now = omega (arith, room, inside, h.size) in
-        let source : take r (drop at new) ≡ slice_range old at (at + r) = copied-source now new at to 8 apart within is at r (omega (arith, few, apart)) ∙ same-part at (at + r) (omega (arith, order, before)) in
-        let front = copied-front now new at to 8 apart within is r few ∙ ap (λ cells. take to now ++ cells) (same-part at (at + r) (omega (arith, order, before))) in
-        along-run new r order (omega (arith, few, room)) (subst (All IsByte) source bytes) same front (copied-behind now new at to 8 apart within is last room)
-
-    -- where the cells that fill the next one don't fit the whole doesn't
-    pub cell-full : (cells : List Cell) (n : ℕ) → at < stop → length cells ≡ n → map under cells ≡ filling given (get_or old at Comma) → last < to + n → last < first + length (filled given (slice_range old from stop))
-    cell-full cells n less size are full =
-        along-full less (omega (arith, full, sym (ap length are), length-map cells under, size))
-
-    -- they are put
-    pub cell-put : (new cells : List Cell) (n : ℕ) → at < stop → length cells ≡ n → map under cells ≡ filling given (get_or old at Comma) → to + n ≤ last → length new ≡ length now → take (to + n) new ≡ take to now ++ map under cells → drop (to + n) new ≡ drop (to + n) now → FilledSoFar old new given from stop first (at + 1) (to + n) last
-    cell-put new cells n less size are room same front behind =
-        along-cell less new n room (sym (ap length are) ∙ length-map cells under ∙ size) same (front ∙ ap (λ l. take to now ++ l) are) (behind-more new n room behind)
-      where
-        behind-more : (new : List Cell) (n : ℕ) → to + n ≤ last → drop (to + n) new ≡ drop (to + n) now → drop last new ≡ drop last now
-        behind-more new n room behind =
-            let e : to + n + (last - (to + n)) ≡ last = omega (arith, room) in
-            ap (λ i. drop i new) (sym e) ∙ sym (drop-drop (last - (to + n)) (to + n) new) ∙ ap (drop (last - (to + n))) behind ∙ drop-drop (last - (to + n)) (to + n) now ∙ ap (λ i. drop i now) e
+      -- they are put
+      pub cell-put : (new cells : List Cell) (lower n : ℕ) → length cells ≡ n → map under cells ≡ filling given (get_or old on Comma) → low ≤ lower → lower + n ≡ to → length new ≡ length now → take lower new ≡ take lower now → drop lower new ≡ map under cells ++ drop (lower + n) now → FilledFrom old new given from stop low last on lower
+      cell-put new cells lower n size are room is same front behind =
+          along-more new (map under cells) on lower n order (omega (arith, next)) room is (length-map cells under ∙ size) same
+          (behind ∙ ap (λ i. map under cells ++ drop i now) is)
+          (sym (take-take low lower new room) ∙ ap (take low) front ∙ take-take low lower now room)
+          (last-cell ∙ sym are)
 
     -- nothing is left
-    pub along-end : at ≡ stop → IsPut old now first last (filled given (slice_range old from stop)) (Some to)
+    pub along-end : at ≡ from → IsPut old now low last (filled given (slice_range old from stop)) (Some to)
     along-end end =
-        let none : stop - at ≡ 0 = omega (arith, end) in
-        let last_none : filled given (slice_range old at stop) ≡ [] = ap (λ k. filled given (take k (drop at old))) none in
-        let all : filled given (slice_range old from stop) ≡ h.done = h.split ∙ ap (λ cells. h.done ++ cells) last_none ∙ append-nil h.done in
-        (omega (arith, h.long, ap length all), h.within, h.front ∙ ap (λ cells. take first old ++ cells) (sym all))
+        let none : at - from ≡ 0 = omega (arith, end) in
+        let all : filled given (slice_range old from stop) ≡ h.done = h.split ∙ ap (λ k. filled given (take k (drop from old)) ++ h.done) none in
+        (omega (arith, h.long, ap length all), h.room, h.behind ∙ ap (λ cells. cells ++ drop last old) (sym all))
 
     -- the others are put by a further call
-    pub along-rest : (new : List Cell) (result : Option ℕ) → IsPut now new to last (filled given (slice_range old at stop)) result → IsPut old new first last (filled given (slice_range old from stop)) result
+    pub along-rest : (new : List Cell) (result : Option ℕ) → IsPut now new low to (filled given (slice_range old from at)) result → IsPut old new low last (filled given (slice_range old from stop)) result
     along-rest new None put =
-        omega (arith, put, h.long, ap length h.split, length-append h.done (filled given (slice_range old at stop)))
-    along-rest new (Some end) put =
-        let rest = filled given (slice_range old at stop) in (
-          omega (arith, put.0, h.long, ap length h.split, length-append h.done rest),
+        omega (arith, put, h.long, ap length h.split, length-append (filled given (slice_range old from at)) h.done)
+    along-rest new (Some start) put =
+        let rest = filled given (slice_range old from at) in (
+          omega (arith, put.0, h.long, ap length h.split, length-append rest h.done),
           put.1,
-          put.2 ∙ ap (λ cells. cells ++ rest) h.front ∙ append_assoc (take first old) h.done rest ∙ ap (λ cells. take first old ++ cells) (sym h.split),
+          put.2 ∙ ap (λ cells. rest ++ cells) h.behind ∙ sym (append_assoc rest h.done (drop last old)) ∙ ap (λ cells. cells ++ drop last old) (sym h.split),
         )
+
+    -- what stands behind the last place stays
+    pub along-behind : drop last now ≡ drop last old
+    along-behind =
+        let long = h.long in
+        let e : to + (last - to) ≡ last = omega (arith, long) in
+        let d : last - to ≡ length h.done = omega (arith, long) in
+        ap (λ i. drop i now) (sym e) ∙ sym (drop-drop (last - to) to now) ∙ ap (drop (last - to)) h.behind
+        ∙ ap (λ k. drop k (h.done ++ drop last old)) d ∙ drop-append_seam h.done (drop last old)
 
 -- what fills a cell that is no character
 pub filling-gap : (given : List Cell) (cell : Cell) → is_byte_cell cell ≡ false → filling given cell ≡ part_between given (ordinal_of cell)
@@ -255,7 +279,7 @@ part-stands cells start len from end order within inside =
     ap (map under) is ∙ sym (take-map under (end - from) (drop from (slice_range cells start (start + len)))) ∙ ap (take (end - from)) (sym (drop-map under from (slice_range cells start (start + len))))
 
 -- cells are copied, and the numbers over the first of them are taken off
-pub put-lifted : (now mid new lifted : List Cell) (start to n m : ℕ) → start + n ≤ to → to + n ≤ length now → m ≤ n → mid ≡ copy_within now start (start + n) to → lifted ≡ map under (take (to + m - to) (drop to mid)) → new ≡ put_mid to (to + m - to) mid lifted → map under (drop m (slice_range now start (start + n))) ≡ drop m (slice_range now start (start + n)) → (take (to + n) new ≡ take to now ++ map under (slice_range now start (start + n))) × (drop (to + n) new ≡ drop (to + n) now)
+pub put-lifted : (now mid new lifted : List Cell) (start to n m : ℕ) → start + n ≤ to → to + n ≤ length now → m ≤ n → mid ≡ copy_within now start (start + n) to → lifted ≡ map under (take (to + m - to) (drop to mid)) → new ≡ put_mid to (to + m - to) mid lifted → map under (drop m (slice_range now start (start + n))) ≡ drop m (slice_range now start (start + n)) → (take to new ≡ take to now) × (drop to new ≡ map under (slice_range now start (start + n)) ++ drop (to + n) now)
 put-lifted now mid new lifted start to n m apart room few mid_is lifted_is new_is others =
     let part = slice_range now start (start + n) in
     let size : to + m - to ≡ m = omega arith in
@@ -263,9 +287,9 @@ put-lifted now mid new lifted start to n m apart room few mid_is lifted_is new_i
     let lifted_to : lifted ≡ map under (take m part) = lifted_is ∙ ap (map under) source in
     let long : length lifted ≡ m = ap length lifted_to ∙ length-map (take m part) under ∙ length-take-le m part (omega (arith, few, length-between now start (start + n) (omega (arith, apart, room)))) in
     let whole : map under part ≡ lifted ++ drop m part = ap (map under) (sym (take-append-drop m part)) ∙ map-append under (take m part) (drop m part) ∙ ap (λ l. map under (take m part) ++ l) others ∙ ap (λ l. l ++ drop m part) (sym lifted_to) in
-    let front : take (to + n) new ≡ take to now ++ (lifted ++ drop m part) = rw (new_is, mid_is) (same_lists _ _ (search (rules, places)) (λ i d less. grind (arith, reads))) in
-    let behind : drop (to + n) new ≡ drop (to + n) now = rw (new_is, mid_is) (same_lists _ _ (search (rules, places)) (λ i d less. grind (arith, reads))) in
-    (front ∙ ap (λ l. take to now ++ l) (sym whole), behind)
+    let front : take to new ≡ take to now = rw (new_is, mid_is) (same_lists _ _ (search (rules, places)) (λ i d less. grind (arith, reads))) in
+    let behind : drop to new ≡ (lifted ++ drop m part) ++ drop (to + n) now = rw (new_is, mid_is) (same_lists _ _ (search (rules, places)) (λ i d less. grind (arith, reads))) in
+    (front, behind ∙ ap (λ l. l ++ drop (to + n) now) (sym whole))
 
 -- where no more than those have numbers
 pub others-less : (part : List Cell) (n k m : ℕ) → length part ≡ n → ((m ≡ k) ⊎ (m ≡ n)) → map under (drop k part) ≡ drop k part → map under (drop m part) ≡ drop m part

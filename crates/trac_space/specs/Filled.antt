@@ -50,9 +50,10 @@ pub record HaveCommas (cells : List Cell) (count : ℕ) : Type 0 where
   pub ends : (k : ℕ) → k < count →
       over (slice_index_or cells k Comma) ≡ (numbered_part (parts_at 0 0 (map under cells)) (suc k)).1
 
--- more cells were put from place `to` on, and their end is the result; or they would pass place `last`
+-- more cells were put right before place `to`, and the result is where they begin; or they would begin before
+-- place `low`
 abbrev pub IsPut : List Cell → List Cell → ℕ → ℕ → List Cell → Option ℕ → Type 0
-IsPut was now to last more result =
+IsPut was now low to more result =
     MatchOption result
-    (last < to + length more)
-    (λ end. (end ≡ to + length more) × (end ≤ last) × (take end now ≡ take to was ++ more))
+    (to < low + length more)
+    (λ start. (start + length more ≡ to) × (low ≤ start) × (drop start now ≡ more ++ drop to was))

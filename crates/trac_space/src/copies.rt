@@ -280,6 +280,22 @@ fn characters_each(cells: &[Cell], start: usize, most: usize) -> usize
     count
 }
 
+// How many characters stand in a row right before place `at`; counts up to eight.
+#[inline]
+pub(crate) fn characters_before(cells: &[Cell], at: usize) -> usize
+    requires behind { 8 ≤ at }
+    requires within { at ≤ length cells.now }
+    ensures few { result ≤ 8 }
+    ensures bytes { All IsByte (take result (drop (at - result) cells.now)) }
+    ensures stop { result < 8 → byte_cell_at cells.now (at - result - 1) ≡ false }
+{
+    let mut count = 0;
+    while count < BLOCK && is_character(&cells[at - count - 1]) {
+        count += 1;
+    }
+    count
+}
+
 // How many of the eight cells from place `at` on stand before the first that is no character.
 #[inline]
 pub(crate) fn characters_in_block(cells: &[Cell], at: usize) -> usize

@@ -1,4 +1,4 @@
-//! Copies cells of the store to the end of neutral, and fills their gaps with what stands between comma
+//! Copies cells of the store to the front of active, and fills their gaps with what stands between comma
 //! marks. Meanwhile the places of the comma marks lie over the first cells that they part.
 ghost use Rattle.std.specs.Prelude.{◌≡◌, ◌+◌, ◌-◌, ◌≤◌, ◌<◌, ◌++◌, IsTrue, All, length, take, drop};
 ghost use Rattle.std.specs.Prelude.{map, slice_range, slice_index_or, suc};
@@ -9,7 +9,7 @@ ghost use Rattle.trac_space.specs.Filled.{IsPut, parts_at, numbered_part};
 ghost use Rattle.trac_space.specs.Overlay.{takes_number, under};
 
 use crate::cell::{Cell, is_character, is_comma};
-use crate::copies::{BLOCK, characters_in_block, copy_at_once_higher, copy_short_higher};
+use crate::copies::{BLOCK, characters_before, copy_at_once_higher, copy_short_higher};
 use crate::overlay::{cell_under, laid, lift, number_over_laid};
 
 // The cells whose parts fill the gaps: where they begin in the block, how many they are, and how many
@@ -39,56 +39,56 @@ pub(crate) fn lay_commas(cells: &mut [Cell]) -> usize
     count
 }
 
-// Copies the cells from place `from` up to `stop` to the higher place `to`: a character as it is, and
-// the part of a gap's ordinal in place of the gap. Gives the end of the copy. None if it would pass
-// `last`; then the cells from `to` up to `last` are unspecified.
+// Copies the cells from place `from` up to `stop` to a higher place, so that the copy ends before place
+// `to`: a character as it is, and the part of a gap's ordinal in place of the gap. The last cells are copied
+// first. Gives where the copy begins. None if it would begin before `low`; then the cells from `low` up to
+// `to` are unspecified.
 #[inline(always)]
 pub(crate) fn fill_cells(
     cells: &mut [Cell],
     from: usize,
     stop: usize,
+    low: usize,
     to: usize,
-    last: usize,
     given: Given,
 ) -> Option<usize>
     requires order { from ≤ stop }
     requires before { stop ≤ given.start }
-    requires behind { given.start + given.len ≤ to }
-    requires room { to ≤ last }
-    requires inside { last ≤ length cells.old }
+    requires behind { given.start + given.len ≤ low }
+    requires room { low ≤ to }
+    requires inside { to ≤ length cells.old }
     requires bounded { length cells.old ≤ 16777216 }
     requires commas { let parts = slice_range cells.old given.start (given.start + given.len) in
         HaveCommas parts given.commas }
     ensures put { let parts = map under (slice_range cells.old given.start (given.start + given.len)) in
         let more = filled parts (slice_range cells.old from stop) in
-        IsPut cells.old cells.new to last more result }
+        IsPut cells.old cells.new low to more result }
     ensures len { length cells.new ≡ length cells.old }
-    ensures front { take to cells.new ≡ take to cells.old }
-    ensures behind { drop last cells.new ≡ drop last cells.old }
+    ensures front { take low cells.new ≡ take low cells.old }
+    ensures behind { drop to cells.new ≡ drop to cells.old }
 {
-    let mut at = from;
+    let mut at = stop;
     let mut to = to;
-    while to + BLOCK <= last && distance(at, to) >= BLOCK {
-        copy_at_once_higher(cells, at, distance(at, to), BLOCK);
-        let run = characters_in_block(cells, at);
-        let gap = at + run;
-        if gap >= stop {
-            return Some(to + (stop - at));
+    while at >= BLOCK && distance(low, to) >= BLOCK {
+        copy_at_once_higher(cells, at - BLOCK, distance(at, to), BLOCK);
+        let run = characters_before(cells, at);
+        if at - from <= run {
+            return Some(to - (at - from));
         }
-        at = gap;
-        to += run;
+        at -= run;
+        to -= run;
         if run == BLOCK {
             continue;
         }
+        at -= 1;
         let (start, n) = part_numbered(cells, ordinal_in(cells[at]), given);
-        if n > last - to {
+        if n > to - low {
             return None;
         }
+        to -= n;
         put_lifted(cells, start, to, n, given);
-        at += 1;
-        to += n;
     }
-    fill_each(cells, at, stop, to, last, given)
+    fill_each(cells, from, at, low, to, given)
 }
 
 // Does what `fill_cells` does, cell by cell.
@@ -97,33 +97,35 @@ fn fill_each(
     cells: &mut [Cell],
     from: usize,
     stop: usize,
+    low: usize,
     to: usize,
-    last: usize,
     given: Given,
 ) -> Option<usize>
     requires order { from ≤ stop }
     requires before { stop ≤ given.start }
-    requires behind { given.start + given.len ≤ to }
-    requires room { to ≤ last }
-    requires inside { last ≤ length cells.old }
+    requires behind { given.start + given.len ≤ low }
+    requires room { low ≤ to }
+    requires inside { to ≤ length cells.old }
     requires bounded { length cells.old ≤ 16777216 }
     requires commas { let parts = slice_range cells.old given.start (given.start + given.len) in
         HaveCommas parts given.commas }
     ensures put { let parts = map under (slice_range cells.old given.start (given.start + given.len)) in
         let more = filled parts (slice_range cells.old from stop) in
-        IsPut cells.old cells.new to last more result }
+        IsPut cells.old cells.new low to more result }
     ensures len { length cells.new ≡ length cells.old }
-    ensures front { take to cells.new ≡ take to cells.old }
-    ensures behind { drop last cells.new ≡ drop last cells.old }
+    ensures front { take low cells.new ≡ take low cells.old }
+    ensures behind { drop to cells.new ≡ drop to cells.old }
 {
+    let mut at = stop;
     let mut to = to;
-    for at in from..stop {
+    while from < at {
+        at -= 1;
         let (start, n) = filling_of(cells, at, given);
-        if n > last - to {
+        if n > to - low {
             return None;
         }
+        to -= n;
         put_lifted(cells, start, to, n, given);
-        to += n;
     }
     Some(to)
 }
@@ -138,8 +140,9 @@ fn put_lifted(cells: &mut [Cell], start: usize, to: usize, n: usize, given: Give
     requires others { let rest = drop (given.start + given.commas - start) (slice_range cells.old start (start + n)) in
         map under rest ≡ rest }
     ensures len { length cells.new ≡ length cells.old }
-    ensures front { take (to + n) cells.new ≡ take to cells.old ++ map under (slice_range cells.old start (start + n)) }
-    ensures behind { drop (to + n) cells.new ≡ drop (to + n) cells.old }
+    ensures front { take to cells.new ≡ take to cells.old }
+    ensures put { let more = map under (slice_range cells.old start (start + n)) in
+        drop to cells.new ≡ more ++ drop (to + n) cells.old }
 {
     let laid = given.start + given.commas;
     if start >= laid {

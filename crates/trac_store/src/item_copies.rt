@@ -1,5 +1,4 @@
-//! Copies bodies of forms: to the end of neutral with their gaps filled, and to the front of active if
-//! they have no gap.
+//! Copies bodies of forms to the front of active, with their gaps filled.
 ghost use Rattle.std.specs.Prelude.{◌≡◌, ◌+◌, ◌≤◌, ◌<◌, ◌↔◌, ◌++◌};
 ghost use Rattle.std.specs.Prelude.{length, map, slice_range, All, IsTrue, MatchOption};
 ghost use Rattle.std.specs.Bool.{OnTrue, OnFalse};
@@ -13,10 +12,40 @@ ghost use Rattle.trac_store.specs.Index.{IsKept};
 
 use trac_space::{Part, Space};
 
-/// Copies items of the store to the front of active if all of them are characters and fit, and gives how
-/// many they are. None, with nothing changed, if it didn't copy them.
+/// Copies items of the store to the front of active, each gap k replaced by argument k: the k-th, from 1,
+/// of the texts between the comma marks of a part of neutral, or nothing if there is no such text (Mooers
+/// 1966). Gives how many characters the copy has. None if it doesn't fit; then at most the spare list has
+/// been dropped.
 #[inline(always)]
-pub fn load_items(space: &mut Space, items: Part) -> Option<u32>
+pub fn fill_items(space: &mut Space, items: Part, texts: Part) -> Option<u32>
+    requires order { items.from ≤ items.to }
+    requires within { items.to ≤ length space.old.store }
+    requires arguments { AreParted space.old.neutral texts.from texts.to }
+    ensures filled { let text = filled_cells space.old items.from items.to texts.from texts.to in
+        MatchOption result
+        ((space.new ≡ record space.old { spare = space.new.spare })
+        × (space.old.room < cells_used space.old + length text))
+        (λ n. (length text ≡ n) × (cells_used space.old + n ≤ space.old.room)
+        × (space.new ≡ record space.old {
+          active = flat_text text ++ space.old.active;
+          spare = space.new.spare;
+        })) }
+    ensures kept { IsKept space.old.spare space.new.spare }
+{
+    // A form that is called without arguments mostly has no gaps.
+    if texts.to < texts.from {
+        let loaded = load_items(space, items);
+        if loaded.is_some() {
+            return loaded;
+        }
+    }
+    fill_gaps(space, items, texts)
+}
+
+// Copies items of the store to the front of active if all of them are characters and fit, and gives how
+// many they are. None, with nothing changed, if it didn't copy them.
+#[inline(always)]
+fn load_items(space: &mut Space, items: Part) -> Option<u32>
     requires order { items.from ≤ items.to }
     requires within { items.to ≤ length space.old.store }
     ensures { let cells = slice_range space.old.store items.from items.to in
@@ -59,53 +88,22 @@ fn load_items_over_spare(space: &mut Space, items: Part) -> Option<u32>
     Some(size)
 }
 
-/// Copies items of the store to the end of neutral, each gap k replaced by argument k: the k-th, from 1,
-/// of the texts between the comma marks of a part of neutral, or nothing if there is no such text (Mooers
-/// 1966). False if the copy doesn't fit; then at most the spare list has been dropped.
-#[inline(always)]
-pub fn fill_items(space: &mut Space, items: Part, texts: Part) -> bool
-    requires order { items.from ≤ items.to }
-    requires within { items.to ≤ length space.old.store }
-    requires bounded { length space.old.store ≤ 16777216 }
-    requires arguments { AreParted space.old.neutral texts.from texts.to }
-    ensures put { let text = filled_cells space.old items.from items.to texts.from texts.to in
-        IsTrue result ↔ (cells_used space.old + length text ≤ space.old.room) }
-    ensures last { let text = filled_cells space.old items.from items.to texts.from texts.to in
-        OnTrue result (space.new ≡ record space.old {
-          neutral = space.old.neutral ++ flat_text text;
-          spare = space.new.spare;
-        }) }
-    ensures full { OnFalse result (space.new ≡ record space.old { spare = space.new.spare }) }
-    ensures kept { IsKept space.old.spare space.new.spare }
-{
-    // The lists fit in the block.
-    prove!(space.free_beside_spare() <= space.room());
-    if items.from == items.to {
-        return true;
-    }
-    let gap = items.from + space.characters_from(items.from, items.to);
-    if gap == items.to {
-        return space.copy_store_inline(items.from, items.to);
-    }
-    fill_gaps(space, items, texts)
-}
-
 // Does what `fill_items` does where gaps may be among the items. Meanwhile the places of the comma marks
 // lie over the texts.
-#[inline(always)]
-fn fill_gaps(space: &mut Space, items: Part, texts: Part) -> bool
+#[inline(never)]
+fn fill_gaps(space: &mut Space, items: Part, texts: Part) -> Option<u32>
     requires order { items.from ≤ items.to }
     requires within { items.to ≤ length space.old.store }
-    requires bounded { length space.old.store ≤ 16777216 }
     requires arguments { AreParted space.old.neutral texts.from texts.to }
-    ensures put { let text = filled_cells space.old items.from items.to texts.from texts.to in
-        IsTrue result ↔ (cells_used space.old + length text ≤ space.old.room) }
-    ensures last { let text = filled_cells space.old items.from items.to texts.from texts.to in
-        OnTrue result (space.new ≡ record space.old {
-          neutral = space.old.neutral ++ flat_text text;
+    ensures filled { let text = filled_cells space.old items.from items.to texts.from texts.to in
+        MatchOption result
+        ((space.new ≡ record space.old { spare = space.new.spare })
+        × (space.old.room < cells_used space.old + length text))
+        (λ n. (length text ≡ n) × (cells_used space.old + n ≤ space.old.room)
+        × (space.new ≡ record space.old {
+          active = flat_text text ++ space.old.active;
           spare = space.new.spare;
-        }) }
-    ensures full { OnFalse result (space.new ≡ record space.old { spare = space.new.spare }) }
+        })) }
     ensures kept { IsKept space.old.spare space.new.spare }
 {
     let first = texts.from.min(texts.to);
@@ -114,38 +112,37 @@ fn fill_gaps(space: &mut Space, items: Part, texts: Part) -> bool
         from: first,
         to: texts.to,
     };
-    let filled = put_filled(space, items, given, commas);
+    let loaded = load_filled(space, items, given, commas);
     space.lift_neutral(first, first + commas);
-    filled
+    loaded
 }
 
-// Copies items of the store to the end of neutral, each gap k replaced by argument k: the k-th part, from
-// 1, of the given cells of neutral, over which the places of their `commas` comma marks lie. False if the
-// copy doesn't fit. Drops the spare list if the copy fits only without it.
+// Copies items of the store to the front of active, each gap k replaced by argument k: the k-th part, from
+// 1, of the given cells of neutral, over which the places of their `commas` comma marks lie. Gives how many
+// cells the copy has, None if it doesn't fit. Drops the spare list if the copy doesn't fit beside it.
 #[inline(always)]
-fn put_filled(space: &mut Space, items: Part, given: Part, commas: u32) -> bool
+fn load_filled(space: &mut Space, items: Part, given: Part, commas: u32) -> Option<u32>
     requires order { items.from ≤ items.to }
     requires within { items.to ≤ length space.old.store }
     requires given_order { given.from ≤ given.to }
     requires given_within { given.to ≤ length space.old.neutral }
     requires commas { HaveCommas (slice_range space.old.neutral given.from given.to) commas }
-    requires no_call { let texts = map under (slice_range space.old.neutral given.from given.to) in
-        NoCall (filled texts (slice_range space.old.store items.from items.to)) }
-    ensures put { let texts = map under (slice_range space.old.neutral given.from given.to) in
+    ensures filled { let texts = map under (slice_range space.old.neutral given.from given.to) in
         let more = filled texts (slice_range space.old.store items.from items.to) in
-        IsTrue result ↔ (cells_used space.old + length more ≤ space.old.room) }
-    ensures last { let texts = map under (slice_range space.old.neutral given.from given.to) in
-        let more = filled texts (slice_range space.old.store items.from items.to) in
-        OnTrue result (space.new ≡ record space.old {
-          neutral = space.old.neutral ++ more;
+        MatchOption result
+        ((space.new ≡ record space.old { spare = space.new.spare })
+        × (space.old.room < cells_used space.old + length more))
+        (λ n. (length more ≡ n) × (cells_used space.old + n ≤ space.old.room)
+        × (space.new ≡ record space.old {
+          active = more ++ space.old.active;
           spare = space.new.spare;
-        }) }
-    ensures full { OnFalse result (space.new ≡ record space.old { spare = space.new.spare }) }
+        })) }
     ensures kept { IsKept space.old.spare space.new.spare }
 {
-    if space.put_filled(items.from, items.to, given.from, given.to, commas) {
-        return true;
+    let loaded = space.load_filled(items.from, items.to, given.from, given.to, commas);
+    if loaded.is_some() {
+        return loaded;
     }
     space.drop_spare();
-    space.put_filled(items.from, items.to, given.from, given.to, commas)
+    space.load_filled(items.from, items.to, given.from, given.to, commas)
 }

@@ -28,7 +28,7 @@ pub use form_heads::{
 };
 pub use gap_making::segment_store;
 pub use indexed_forms::{IndexedForms, hash, open_slot};
-pub use item_copies::{fill_items, load_items};
+pub use item_copies::fill_items;
 pub use item_search::{find_text, first_character, first_gap, last_character};
 pub use located::{FIRST_FORM, Located};
 pub use trac_language::Item;

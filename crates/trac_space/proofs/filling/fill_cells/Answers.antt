@@ -1,56 +1,66 @@
-use Rattle.trac_space.proofs.Imports.{◌≡◌, ◌+◌, ◌-◌, ◌≤◌, ◌<◌, ◌∙◌, All, length, take, drop, map, slice_range, slice_index_or, sym, ap, subst, arith, take-take, get_or_default, length-between, All-take, Byte, Comma, IsByte, is_byte_cell, filling, part_between, ordinal_of}
+use Rattle.trac_space.proofs.Imports.{ℕ, ◌≡◌, ◌+◌, ◌-◌, ◌≤◌, ◌<◌, ◌∙◌, All, length, take, drop, map, slice_range, slice_index_or, sym, ap, subst, arith, drop-drop, get_or_default, length-between, Byte, Comma, IsByte, is_byte_cell, filling, part_between, ordinal_of}
 use Rattle.trac_space.specs.Overlay.{under}
-use Rattle.trac_space.proofs.Filled.{FilledSoFar, along-start, along-front, along-end, along-rest, commas-now, same-part, same-cell, block-run, cell-put, cell-full, filling-gap}
+use Rattle.trac_space.proofs.Filled.{FilledFrom, along-start, along-behind, along-end, along-rest, commas-now, same-part, same-cell, block-run, cell-put, cell-full, filling-gap, last-bytes}
 use Rattle.trac_space.proofs.filling.fill_cells.Goals as goal
-use Rattle.trac_space.proofs.filling.fill_cells.Goals.{After-characters_in_block-run, After-part_numbered-start}
+use Rattle.trac_space.proofs.filling.fill_cells.Goals.{After-characters_before-run, After-part_numbered-start}
 
--- a block is copied, of which so many cells are characters
-ran : (c : After-characters_in_block-run) → c.loop-to.at + c.characters_in_block-run.result ≤ c.args.stop → FilledSoFar c.args.cells.now c.copy_at_once_higher.new.cells (map under (slice_range c.args.cells.now c.args.given.start (c.args.given.start + c.args.given.len))) c.args.from c.args.stop c.args.to (c.loop-to.at + c.characters_in_block-run.result) (c.loop-to.to + c.characters_in_block-run.result) c.args.last
-ran c order =
-    block-run c.args.cells.now _ c.args.from c.args.stop c.args.to c.args.last (omega (arith, c.requires.before, c.requires.behind)) c.requires.inside c.loop-to.cells c.loop-to.at c.loop-to.to c.loop-to.invariant c.copy_at_once_higher.new.cells c.characters_in_block-run.result (omega (arith, c.if-distance-ge-BLOCK.true, c.distance.ensures)) (omega (arith, c.loop-to-test.true)) (c.copy_at_once_higher.ensures.after _ (sym c.distance-in-loop-to.ensures)) c.copy_at_once_higher.ensures.len c.characters_in_block-run.ensures.few order c.characters_in_block-run.ensures.bytes
+-- a block is copied, whose last `r` cells are characters
+ran : (c : After-characters_before-run) → (r : ℕ) → r ≤ c.characters_before-run.result → c.args.from + r ≤ c.loop-at.at → FilledFrom c.args.cells.now c.copy_at_once_higher.new.cells (map under (slice_range c.args.cells.now c.args.given.start (c.args.given.start + c.args.given.len))) c.args.from c.args.stop c.args.low c.args.to (c.loop-at.at - r) (c.loop-at.to - r)
+ran c r few order =
+    let start : c.loop-at.at - 8 + 8 ≡ c.loop-at.at = omega (arith, c.loop-at-test.true) in
+    let lower : c.loop-at.to - 8 + 8 ≡ c.loop-at.to = omega (arith, c.if-distance-ge-BLOCK.true, c.distance.ensures) in
+    let to : c.loop-at.to - 8 ≡ c.loop-at.at - 8 + c.distance-in-loop-at.result = omega (arith, start, lower, c.distance-in-loop-at.ensures) in
+    let apart : c.args.low ≤ c.loop-at.to - 8 = omega (arith, lower, c.if-distance-ge-BLOCK.true, c.distance.ensures) in
+    block-run c.args.cells.now _ c.args.from c.args.stop c.args.low c.args.to (omega (arith, c.requires.before, c.requires.behind)) c.requires.inside c.loop-at.cells c.loop-at.at c.loop-at.to c.loop-at.invariant c.copy_at_once_higher.new.cells (c.loop-at.at - 8) (c.loop-at.to - 8) r start lower apart (c.copy_at_once_higher.ensures.after (c.loop-at.to - 8) to) c.copy_at_once_higher.ensures.len (omega (arith, few, c.characters_before-run.ensures.few)) order (last-bytes c.copy_at_once_higher.new.cells c.loop-at.at c.characters_before-run.result r few (omega (arith, c.characters_before-run.ensures.few, c.loop-at-test.true)) c.characters_before-run.ensures.bytes)
 
--- where they end the cells, they are all that is left
-ended : (c : After-characters_in_block-run) → c.args.stop - c.loop-to.at ≤ c.characters_in_block-run.result → FilledSoFar c.args.cells.now c.copy_at_once_higher.new.cells (map under (slice_range c.args.cells.now c.args.given.start (c.args.given.start + c.args.given.len))) c.args.from c.args.stop c.args.to (c.loop-to.at + (c.args.stop - c.loop-to.at)) (c.loop-to.to + (c.args.stop - c.loop-to.at)) c.args.last
-ended c all =
-    let n = c.args.stop - c.loop-to.at in
-    let order = c.loop-to.invariant.order in
-    let few = c.characters_in_block-run.ensures.few in
-    let bytes : All IsByte (take n (drop c.loop-to.at c.copy_at_once_higher.new.cells)) =
-    subst (All IsByte) (take-take n c.characters_in_block-run.result (drop c.loop-to.at c.copy_at_once_higher.new.cells) all) (All-take IsByte n (take c.characters_in_block-run.result (drop c.loop-to.at c.copy_at_once_higher.new.cells)) c.characters_in_block-run.ensures.bytes) in
-    block-run c.args.cells.now _ c.args.from c.args.stop c.args.to c.args.last (omega (arith, c.requires.before, c.requires.behind)) c.requires.inside c.loop-to.cells c.loop-to.at c.loop-to.to c.loop-to.invariant c.copy_at_once_higher.new.cells n (omega (arith, c.if-distance-ge-BLOCK.true, c.distance.ensures)) (omega (arith, c.loop-to-test.true)) (c.copy_at_once_higher.ensures.after _ (sym c.distance-in-loop-to.ensures)) c.copy_at_once_higher.ensures.len (omega (arith, all, few)) (omega (arith, order)) bytes
+pub loop-at-init : goal.loop-at-init
+loop-at-init c =
+    along-start c.args.cells.now _ c.args.from c.args.stop c.args.low c.args.to (omega (arith, c.requires.before, c.requires.behind)) c.requires.inside c.requires.order c.requires.room
 
-pub loop-to-init : goal.loop-to-init
-loop-to-init c =
-    along-start c.args.cells.now _ c.args.from c.args.stop c.args.to c.args.last (omega (arith, c.requires.before, c.requires.behind)) c.requires.inside c.requires.order c.requires.room
+-- where they begin the cells, they are all that is left
+ended : (c : After-characters_before-run) → c.loop-at.at - c.args.from ≤ c.characters_before-run.result → FilledFrom c.args.cells.now c.copy_at_once_higher.new.cells (map under (slice_range c.args.cells.now c.args.given.start (c.args.given.start + c.args.given.len))) c.args.from c.args.stop c.args.low c.args.to (c.loop-at.at - (c.loop-at.at - c.args.from)) (c.loop-at.to - (c.loop-at.at - c.args.from))
+ended c all = let order = c.loop-at.invariant.order in ran c (c.loop-at.at - c.args.from) all (omega (arith, order))
 
-pub returns-then-gap-stop-clause-put : goal.returns-then-gap-stop-clause-put
-returns-then-gap-stop-clause-put c =
-    let k = (goal.at.returns-then-gap-stop-clause-put c).After-characters_in_block-run in
-    along-end c.args.cells.now _ c.args.from c.args.stop c.args.to c.args.last (omega (arith, c.requires.before, c.requires.behind)) c.requires.inside c.copy_at_once_higher.new.cells _ _ (ended k (omega (arith, c.if-gap-stop.true))) (omega (arith, c.loop-to.invariant.order))
+pub returns-then-at-from-clause-put : goal.returns-then-at-from-clause-put
+returns-then-at-from-clause-put c =
+    let order = c.loop-at.invariant.order in
+    along-end c.args.cells.now _ c.args.from c.args.stop c.args.low c.args.to (omega (arith, c.requires.before, c.requires.behind)) c.requires.inside c.copy_at_once_higher.new.cells _ _ (ended (goal.at.returns-then-at-from-clause-put c).After-characters_before-run c.if-at-from.true) (omega (arith, order))
 
-pub returns-then-gap-stop-clause-behind : goal.returns-then-gap-stop-clause-behind
-returns-then-gap-stop-clause-behind c = (ended (goal.at.returns-then-gap-stop-clause-behind c).After-characters_in_block-run (omega (arith, c.if-gap-stop.true))).behind
+pub returns-then-at-from-clause-front : goal.returns-then-at-from-clause-front
+returns-then-at-from-clause-front c = (ended (goal.at.returns-then-at-from-clause-front c).After-characters_before-run c.if-at-from.true).front
 
-pub loop-to-preserved-then-run-eq-BLOCK : goal.loop-to-preserved-then-run-eq-BLOCK
-loop-to-preserved-then-run-eq-BLOCK c = ran (goal.at.loop-to-preserved-then-run-eq-BLOCK c).After-characters_in_block-run (omega (arith, c.if-gap-stop.false))
+pub returns-then-at-from-clause-behind : goal.returns-then-at-from-clause-behind
+returns-then-at-from-clause-behind c =
+    along-behind c.args.cells.now _ c.args.from c.args.stop c.args.low c.args.to (omega (arith, c.requires.before, c.requires.behind)) c.requires.inside c.copy_at_once_higher.new.cells _ _ (ended (goal.at.returns-then-at-from-clause-behind c).After-characters_before-run c.if-at-from.true)
+
+-- more cells are left
+some : (c : After-characters_before-run) → c.characters_before-run.result < c.loop-at.at - c.args.from → FilledFrom c.args.cells.now c.copy_at_once_higher.new.cells (map under (slice_range c.args.cells.now c.args.given.start (c.args.given.start + c.args.given.len))) c.args.from c.args.stop c.args.low c.args.to (c.loop-at.at - c.characters_before-run.result) (c.loop-at.to - c.characters_before-run.result)
+some c less = ran c c.characters_before-run.result (omega arith) (omega (arith, less))
+
+pub loop-at-preserved-then-run-eq-BLOCK : goal.loop-at-preserved-then-run-eq-BLOCK
+loop-at-preserved-then-run-eq-BLOCK c = some (goal.at.loop-at-preserved-then-run-eq-BLOCK c).After-characters_before-run (omega (arith, c.if-at-from.false))
 
 pub part_numbered-start-requires-clause-commas : goal.part_numbered-start-requires-clause-commas
 part_numbered-start-requires-clause-commas c =
-    let k = (goal.at.part_numbered-start-requires-clause-commas c).After-characters_in_block-run in
-    commas-now c.args.cells.now _ c.args.from c.args.stop c.args.to c.args.last (omega (arith, c.requires.before, c.requires.behind)) c.requires.inside c.copy_at_once_higher.new.cells _ _ (ran k (omega (arith, c.if-gap-stop.false))) c.args.given.start (c.args.given.start + c.args.given.len) c.args.given.commas c.requires.behind c.requires.commas
+    let k = (goal.at.part_numbered-start-requires-clause-commas c).After-characters_before-run in
+    commas-now c.args.cells.now _ c.args.from c.args.stop c.args.low c.args.to (omega (arith, c.requires.before, c.requires.behind)) c.requires.inside c.copy_at_once_higher.new.cells _ _ (some k (omega (arith, c.if-at-from.false))) c.args.given.start (c.args.given.start + c.args.given.len) c.args.given.commas c.requires.behind c.requires.commas
 
--- the cells that are to be put are those that fill the gap behind the run
-are : (c : After-part_numbered-start) → (k : After-characters_in_block-run) → FilledSoFar c.args.cells.now c.copy_at_once_higher.new.cells (map under (slice_range c.args.cells.now c.args.given.start (c.args.given.start + c.args.given.len))) c.args.from c.args.stop c.args.to (c.loop-to.at + c.characters_in_block-run.result) (c.loop-to.to + c.characters_in_block-run.result) c.args.last → map under (slice_range c.copy_at_once_higher.new.cells c.part_numbered-start.result.0 (c.part_numbered-start.result.0 + c.part_numbered-start.result.1)) ≡ filling (map under (slice_range c.args.cells.now c.args.given.start (c.args.given.start + c.args.given.len))) (slice_index_or c.args.cells.now (c.loop-to.at + c.characters_in_block-run.result) Comma)
+-- the cells that are to be put are those that fill the gap before the run
+are : (c : After-part_numbered-start) → (k : After-characters_before-run) → FilledFrom c.args.cells.now c.copy_at_once_higher.new.cells (map under (slice_range c.args.cells.now c.args.given.start (c.args.given.start + c.args.given.len))) c.args.from c.args.stop c.args.low c.args.to (c.loop-at.at - c.characters_before-run.result) (c.loop-at.to - c.characters_before-run.result) → map under (slice_range c.copy_at_once_higher.new.cells c.part_numbered-start.result.0 (c.part_numbered-start.result.0 + c.part_numbered-start.result.1)) ≡ filling (map under (slice_range c.args.cells.now c.args.given.start (c.args.given.start + c.args.given.len))) (slice_index_or c.args.cells.now (c.loop-at.at - c.characters_before-run.result - 1) Comma)
 are c k i =
     let old = c.args.cells.now in
     let now = c.copy_at_once_higher.new.cells in
-    let at = c.loop-to.at + c.characters_in_block-run.result in
-    let less : at < c.args.stop = omega (arith, c.if-gap-stop.false) in
-    let before : c.args.stop ≤ c.args.to = omega (arith, c.requires.before, c.requires.behind) in
-    let part = same-part old _ c.args.from c.args.stop c.args.to c.args.last before c.requires.inside now at _ i c.args.given.start (c.args.given.start + c.args.given.len) c.requires.behind in
-    let cell = same-cell old _ c.args.from c.args.stop c.args.to c.args.last before c.requires.inside now at _ i at Comma (omega (arith, less, before)) in
-    let stop = sym (ap is_byte_cell cell) ∙ c.characters_in_block-run.ensures.stop (omega (arith, c.if-run-eq-BLOCK.false, c.characters_in_block-run.ensures.few)) in
-    let number = c.ordinal_in.ensures ∙ ap ordinal_of (get_or_default now at (Byte 0) Comma (omega (arith, less, before, i.size, i.long, i.within, c.requires.inside)) ∙ cell) in
+    let at = c.loop-at.at - c.characters_before-run.result - 1 in
+    let within = c.loop-at.invariant.within in
+    let room = c.loop-at.invariant.room in
+    let long = c.loop-at.invariant.long in
+    let less : at < c.args.low = omega (arith, c.if-at-from.false, c.requires.before, c.requires.behind, within) in
+    let before : c.args.stop ≤ c.args.low = omega (arith, c.requires.before, c.requires.behind) in
+    let part = same-part old _ c.args.from c.args.stop c.args.low c.args.to before c.requires.inside now _ _ i c.args.given.start (c.args.given.start + c.args.given.len) c.requires.behind in
+    let cell = same-cell old _ c.args.from c.args.stop c.args.low c.args.to before c.requires.inside now _ _ i at Comma less in
+    let inside : at < length now = omega (arith, less, i.size, room, long, c.requires.inside) in
+    let stop = sym (ap is_byte_cell cell) ∙ c.characters_before-run.ensures.stop (omega (arith, c.if-run-eq-BLOCK.false, c.characters_before-run.ensures.few)) in
+    let number = c.ordinal_in.ensures ∙ ap ordinal_of (get_or_default now at (Byte 0) Comma inside ∙ cell) in
     c.part_numbered-start.ensures.cells
     ∙ ap (λ cells. part_between (map under cells) c.ordinal_in.result) part
     ∙ ap (part_between (map under (slice_range c.args.cells.now c.args.given.start (c.args.given.start + c.args.given.len)))) number
@@ -60,39 +70,45 @@ long : (c : After-part_numbered-start) → length c.copy_at_once_higher.new.cell
 long c size =
     omega (arith, length-between c.copy_at_once_higher.new.cells c.part_numbered-start.result.0 (c.part_numbered-start.result.0 + c.part_numbered-start.result.1) (omega (arith, c.part_numbered-start.ensures.within, c.requires.behind, c.requires.room, c.requires.inside, size)))
 
-pub returns-then-n-last-clause-put : goal.returns-then-n-last-clause-put
-returns-then-n-last-clause-put c =
-    let at = goal.at.returns-then-n-last-clause-put c in
-    let k = at.After-characters_in_block-run in
-    let i = ran k (omega (arith, c.if-gap-stop.false)) in
-    cell-full c.args.cells.now _ c.args.from c.args.stop c.args.to c.args.last (omega (arith, c.requires.before, c.requires.behind)) c.requires.inside c.copy_at_once_higher.new.cells _ _ i _ c.part_numbered-start.result.1 (omega (arith, c.if-gap-stop.false)) (long at.After-part_numbered-start i.size) (are at.After-part_numbered-start k i) (omega (arith, c.if-n-last.true, i.within))
+pub returns-then-n-to-clause-put : goal.returns-then-n-to-clause-put
+returns-then-n-to-clause-put c =
+    let at = goal.at.returns-then-n-to-clause-put c in
+    let k = at.After-characters_before-run in
+    let i = some k (omega (arith, c.if-at-from.false)) in
+    cell-full c.args.cells.now _ c.args.from c.args.stop c.args.low c.args.to (omega (arith, c.requires.before, c.requires.behind)) c.requires.inside c.copy_at_once_higher.new.cells _ _ i (c.loop-at.at - c.characters_before-run.result - 1) (omega (arith, c.if-at-from.false)) (omega (arith, c.if-at-from.false)) _ c.part_numbered-start.result.1 (long at.After-part_numbered-start i.size) (are at.After-part_numbered-start k i) (omega (arith, c.if-n-to.true))
 
-pub returns-then-n-last-clause-behind : goal.returns-then-n-last-clause-behind
-returns-then-n-last-clause-behind c = (ran (goal.at.returns-then-n-last-clause-behind c).After-characters_in_block-run (omega (arith, c.if-gap-stop.false))).behind
+pub returns-then-n-to-clause-front : goal.returns-then-n-to-clause-front
+returns-then-n-to-clause-front c = (some (goal.at.returns-then-n-to-clause-front c).After-characters_before-run (omega (arith, c.if-at-from.false))).front
 
-pub loop-to-preserved : goal.loop-to-preserved
-loop-to-preserved c =
-    let at = goal.at.loop-to-preserved c in
-    let k = at.After-characters_in_block-run in
-    let i = ran k (omega (arith, c.if-gap-stop.false)) in
-    cell-put c.args.cells.now _ c.args.from c.args.stop c.args.to c.args.last (omega (arith, c.requires.before, c.requires.behind)) c.requires.inside c.copy_at_once_higher.new.cells _ _ i c.put_lifted.new.cells _ c.part_numbered-start.result.1 (omega (arith, c.if-gap-stop.false)) (long at.After-part_numbered-start i.size) (are at.After-part_numbered-start k i) (omega (arith, c.if-n-last.false, i.within)) c.put_lifted.ensures.len c.put_lifted.ensures.front c.put_lifted.ensures.behind
+pub returns-then-n-to-clause-behind : goal.returns-then-n-to-clause-behind
+returns-then-n-to-clause-behind c =
+    along-behind c.args.cells.now _ c.args.from c.args.stop c.args.low c.args.to (omega (arith, c.requires.before, c.requires.behind)) c.requires.inside c.copy_at_once_higher.new.cells _ _ (some (goal.at.returns-then-n-to-clause-behind c).After-characters_before-run (omega (arith, c.if-at-from.false)))
+
+pub loop-at-preserved : goal.loop-at-preserved
+loop-at-preserved c =
+    let at = goal.at.loop-at-preserved c in
+    let k = at.After-characters_before-run in
+    let i = some k (omega (arith, c.if-at-from.false)) in
+    cell-put c.args.cells.now _ c.args.from c.args.stop c.args.low c.args.to (omega (arith, c.requires.before, c.requires.behind)) c.requires.inside c.copy_at_once_higher.new.cells _ _ i (c.loop-at.at - c.characters_before-run.result - 1) (omega (arith, c.if-at-from.false)) (omega (arith, c.if-at-from.false)) c.put_lifted.new.cells _ _ c.part_numbered-start.result.1 (long at.After-part_numbered-start i.size) (are at.After-part_numbered-start k i) (omega (arith, c.if-n-to.false)) (omega (arith, c.if-n-to.false)) c.put_lifted.ensures.len c.put_lifted.ensures.front c.put_lifted.ensures.put
 
 pub fill_each-requires-clause-commas : goal.fill_each-requires-clause-commas
 fill_each-requires-clause-commas c =
-    commas-now c.args.cells.now _ c.args.from c.args.stop c.args.to c.args.last (omega (arith, c.requires.before, c.requires.behind)) c.requires.inside c.loop-to.cells _ _ c.loop-to.invariant c.args.given.start (c.args.given.start + c.args.given.len) c.args.given.commas c.requires.behind c.requires.commas
+    commas-now c.args.cells.now _ c.args.from c.args.stop c.args.low c.args.to (omega (arith, c.requires.before, c.requires.behind)) c.requires.inside c.loop-at.cells _ _ c.loop-at.invariant c.args.given.start (c.args.given.start + c.args.given.len) c.args.given.commas c.requires.behind c.requires.commas
 
 pub returns-clause-put : goal.returns-clause-put
 returns-clause-put c =
     let old = c.args.cells.now in
-    let i = c.loop-to.invariant in
-    let now = c.loop-to.cells in
-    let before : c.args.stop ≤ c.args.to = omega (arith, c.requires.before, c.requires.behind) in
-    let part = same-part old _ c.args.from c.args.stop c.args.to c.args.last before c.requires.inside now _ _ i c.args.given.start (c.args.given.start + c.args.given.len) c.requires.behind in
-    let items = same-part old _ c.args.from c.args.stop c.args.to c.args.last before c.requires.inside now _ _ i c.loop-to.at c.args.stop before in
-    along-rest old _ c.args.from c.args.stop c.args.to c.args.last before c.requires.inside now _ _ i c.fill_each.new.cells c.fill_each.result (rw (part, items) at c.fill_each.ensures.put)
+    let i = c.loop-at.invariant in
+    let now = c.loop-at.cells in
+    let within = i.within in
+    let before : c.args.stop ≤ c.args.low = omega (arith, c.requires.before, c.requires.behind) in
+    let part = same-part old _ c.args.from c.args.stop c.args.low c.args.to before c.requires.inside now _ _ i c.args.given.start (c.args.given.start + c.args.given.len) c.requires.behind in
+    let items = same-part old _ c.args.from c.args.stop c.args.low c.args.to before c.requires.inside now _ _ i c.args.from c.loop-at.at (omega (arith, within, before)) in
+    along-rest old _ c.args.from c.args.stop c.args.low c.args.to before c.requires.inside now _ _ i c.fill_each.new.cells c.fill_each.result (rw (part, items) at c.fill_each.ensures.put)
 
-pub returns-clause-front : goal.returns-clause-front
-returns-clause-front c =
-    let long = c.loop-to.invariant.long in
-    let front = along-front c.args.cells.now _ c.args.from c.args.stop c.args.to c.args.last (omega (arith, c.requires.before, c.requires.behind)) c.requires.inside c.loop-to.cells _ _ c.loop-to.invariant in
-    sym (take-take c.args.to c.loop-to.to c.fill_each.new.cells (omega (arith, long))) ∙ ap (take c.args.to) c.fill_each.ensures.front ∙ take-take c.args.to c.loop-to.to c.loop-to.cells (omega (arith, long)) ∙ front
+pub returns-clause-behind : goal.returns-clause-behind
+returns-clause-behind c =
+    let long = c.loop-at.invariant.long in
+    let e : c.loop-at.to + (c.args.to - c.loop-at.to) ≡ c.args.to = omega (arith, long) in
+    let last = along-behind c.args.cells.now _ c.args.from c.args.stop c.args.low c.args.to (omega (arith, c.requires.before, c.requires.behind)) c.requires.inside c.loop-at.cells _ _ c.loop-at.invariant in
+    ap (λ i. drop i c.fill_each.new.cells) (sym e) ∙ sym (drop-drop (c.args.to - c.loop-at.to) c.loop-at.to c.fill_each.new.cells) ∙ ap (drop (c.args.to - c.loop-at.to)) c.fill_each.ensures.behind ∙ drop-drop (c.args.to - c.loop-at.to) c.loop-at.to c.loop-at.cells ∙ ap (λ i. drop i c.loop-at.cells) e ∙ last

@@ -1,6 +1,6 @@
 use Rattle.trac_space.proofs.Imports.{ℕ, drop, ◌≤◌, List, Cell, put_mid, ◌≡◌, ◌⊎◌, ◌+◌, ◌-◌, ◌∙◌, ap, sym, arith, refl, inl, inr, length, map, take, ◌++◌, slice_range, length-between, ⊎_elim, cases_lt, copy_within}
 use Rattle.trac_space.specs.Overlay.{under}
-use Rattle.trac_space.proofs.Filled.{copied-front, copied-behind, put-lifted, others-less}
+use Rattle.trac_space.proofs.Filled.{copied-low, copied-all, put-lifted, others-less}
 use Rattle.trac_space.proofs.filling.put_lifted.Goals as goal
 use Rattle.trac_space.proofs.filling.put_lifted.Goals.{After-copy_short_higher}
 
@@ -8,7 +8,7 @@ copied : (c : After-copy_short_higher) → c.copy_short_higher.new.cells ≡ cop
 copied c = c.copy_short_higher.ensures.after c.args.to (sym c.distance.ensures)
 
 -- the first of them are lifted, and the others have no numbers
-both : (c : After-copy_short_higher) (m : ℕ) → (m ≡ c.args.given.start + c.args.given.commas - c.args.start) ⊎ (m ≡ c.args.n) → m ≤ c.args.n → (lifted : List Cell) → lifted ≡ map under (take (c.args.to + m - c.args.to) (drop c.args.to c.copy_short_higher.new.cells)) → (take (c.args.to + c.args.n) (put_mid c.args.to (c.args.to + m - c.args.to) c.copy_short_higher.new.cells lifted) ≡ take c.args.to c.args.cells.now ++ map under (slice_range c.args.cells.now c.args.start (c.args.start + c.args.n))) × (drop (c.args.to + c.args.n) (put_mid c.args.to (c.args.to + m - c.args.to) c.copy_short_higher.new.cells lifted) ≡ drop (c.args.to + c.args.n) c.args.cells.now)
+both : (c : After-copy_short_higher) (m : ℕ) → (m ≡ c.args.given.start + c.args.given.commas - c.args.start) ⊎ (m ≡ c.args.n) → m ≤ c.args.n → (lifted : List Cell) → lifted ≡ map under (take (c.args.to + m - c.args.to) (drop c.args.to c.copy_short_higher.new.cells)) → (take c.args.to (put_mid c.args.to (c.args.to + m - c.args.to) c.copy_short_higher.new.cells lifted) ≡ take c.args.to c.args.cells.now) × (drop c.args.to (put_mid c.args.to (c.args.to + m - c.args.to) c.copy_short_higher.new.cells lifted) ≡ map under (slice_range c.args.cells.now c.args.start (c.args.start + c.args.n)) ++ drop (c.args.to + c.args.n) c.args.cells.now)
 both c m which few lifted is =
     let long : length (slice_range c.args.cells.now c.args.start (c.args.start + c.args.n)) ≡ c.args.n = omega (arith, length-between c.args.cells.now c.args.start (c.args.start + c.args.n) (omega (arith, c.requires.apart, c.requires.room))) in
     let others = others-less _ c.args.n (c.args.given.start + c.args.given.commas - c.args.start) m long which c.requires.others in
@@ -21,9 +21,9 @@ returns-clause-front c =
     let which : (c.min.result ≡ laid) ⊎ (c.min.result ≡ c.args.n) = ⊎_elim (λ less. inr (omega (arith, c.min.ensures, less))) (λ more. inl (omega (arith, c.min.ensures, more))) (cases_lt c.args.n laid) in
     (both k c.min.result which (omega (arith, c.min.ensures)) c.lift.new.cells c.lift.ensures).0
 
-pub returns-clause-behind : goal.returns-clause-behind
-returns-clause-behind c =
-    let k = (goal.at.returns-clause-behind c).After-copy_short_higher in
+pub returns-clause-put : goal.returns-clause-put
+returns-clause-put c =
+    let k = (goal.at.returns-clause-put c).After-copy_short_higher in
     let laid = c.args.given.start + c.args.given.commas - c.args.start in
     let which : (c.min.result ≡ laid) ⊎ (c.min.result ≡ c.args.n) = ⊎_elim (λ less. inr (omega (arith, c.min.ensures, less))) (λ more. inl (omega (arith, c.min.ensures, more))) (cases_lt c.args.n laid) in
     (both k c.min.result which (omega (arith, c.min.ensures)) c.lift.new.cells c.lift.ensures).1
@@ -31,10 +31,10 @@ returns-clause-behind c =
 -- no number lies over them
 pub returns-then-start-laid-clause-front : goal.returns-then-start-laid-clause-front
 returns-then-start-laid-clause-front c =
+    copied-low c.args.cells.now c.put_plain.new.cells c.args.start c.args.to c.args.n c.requires.apart c.requires.room c.put_plain.ensures.after c.args.to (omega arith)
+
+pub returns-then-start-laid-clause-put : goal.returns-then-start-laid-clause-put
+returns-then-start-laid-clause-put c =
     let none : c.args.given.start + c.args.given.commas - c.args.start ≡ 0 = omega (arith, c.if-start-laid.true) in
     let plain : map under (slice_range c.args.cells.now c.args.start (c.args.start + c.args.n)) ≡ slice_range c.args.cells.now c.args.start (c.args.start + c.args.n) = rw none at c.requires.others in
-    copied-front c.args.cells.now c.put_plain.new.cells c.args.start c.args.to c.args.n c.requires.apart c.requires.room c.put_plain.ensures.after c.args.n (omega arith) ∙ ap (λ l. take c.args.to c.args.cells.now ++ l) (sym plain)
-
-pub returns-then-start-laid-clause-behind : goal.returns-then-start-laid-clause-behind
-returns-then-start-laid-clause-behind c =
-    copied-behind c.args.cells.now c.put_plain.new.cells c.args.start c.args.to c.args.n c.requires.apart c.requires.room c.put_plain.ensures.after (c.args.to + c.args.n) (omega arith)
+    copied-all c.args.cells.now c.put_plain.new.cells c.args.start c.args.to c.args.n c.requires.apart c.requires.room c.put_plain.ensures.after ∙ ap (λ l. l ++ drop (c.args.to + c.args.n) c.args.cells.now) (sym plain)

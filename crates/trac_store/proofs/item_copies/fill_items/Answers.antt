@@ -1,20 +1,30 @@
-use Rattle.trac_store.proofs.Imports.{All, slice_range, subst, rules, IsByte, texts_between}
+use Rattle.trac_store.proofs.Imports.{◌≡◌, ℕ, ◌+◌, ◌≤◌, ◌<◌, ◌++◌, true, false≢true, length, slice_range, Option, Some, None, MatchOption, All, sym, ap, ◌∙◌, arith, IsByte, Lists, used, claimed, flat_text, texts_between, filled_cells}
+use Rattle.std.specs.Option.{is_some}
 use Rattle.trac_store.proofs.Filling.{plain-flat, plain-length}
 use Rattle.trac_store.proofs.item_copies.fill_items.Goals as goal
-use Rattle.trac_store.proofs.item_copies.fill_items.Goals.{Then-gap-items}
 
--- the items are characters
-plain : (c : Then-gap-items) → All IsByte (slice_range c.args.space.now.store c.args.items.from c.args.items.to)
-plain c = subst (λ end. All IsByte (slice_range c.args.space.now.store c.args.items.from end)) c.if-gap-items.true c.characters_from.ensures.bytes
+-- characters are filled by no text
+plain : (result : Option ℕ) (old new : Lists) (from stop first end : ℕ) → stop ≤ length old.store → is_some result ≡ true
+    → MatchOption result (new ≡ old)
+      (λ n. All IsByte (slice_range old.store from stop) × (from + n ≡ stop) × (used old + n ≤ old.room) × (new ≡ record (claimed n old) { active = slice_range old.store from stop ++ old.active }))
+    → MatchOption result
+      ((new ≡ record old { spare = new.spare }) × (old.room < used old + length (filled_cells old from stop first end)))
+      (λ n. (length (filled_cells old from stop first end) ≡ n) × (used old + n ≤ old.room) × (new ≡ record old { active = flat_text (filled_cells old from stop first end) ++ old.active; spare = new.spare }))
+plain None old new from stop first end within some h = absurd (false≢true some)
+plain (Some n) old new from stop first end within some h =
+    let texts = texts_between old.neutral first end in
+    let text = filled_cells old from stop first end in
+    let flat = plain-flat texts (slice_range old.store from stop) h.0 in
+    let size = plain-length texts old.store from stop within h.0 in
+    let stands = h.3 in
+    let spare : new.spare ≡ (claimed n old).spare = ap (λ (l : Lists). l.spare) stands in (
+      omega (arith, size, h.1),
+      h.2,
+      stands
+      ∙ ap (λ cells. record (claimed n old) { active = cells ++ old.active }) (sym flat)
+      ∙ ap (λ cells. record old { active = flat_text text ++ old.active; spare = cells }) (sym spare),
+    )
 
-pub returns-then-gap-items-clause-put : goal.returns-then-gap-items-clause-put
-returns-then-gap-items-clause-put c =
-    let k = (goal.at.returns-then-gap-items-clause-put c).Then-gap-items in
-    let size = plain-length (texts_between c.args.space.now.neutral c.args.texts.from c.args.texts.to) c.args.space.now.store c.args.items.from c.args.items.to c.requires.within (plain k) in
-    rw size c.copy_store_inline.ensures.copied
-
-pub returns-then-gap-items-clause-last : goal.returns-then-gap-items-clause-last
-returns-then-gap-items-clause-last c =
-    let k = (goal.at.returns-then-gap-items-clause-last c).Then-gap-items in
-    let flat = plain-flat (texts_between c.args.space.now.neutral c.args.texts.from c.args.texts.to) (slice_range c.args.space.now.store c.args.items.from c.args.items.to) (plain k) in
-    rw flat (search (rules, c.copy_store_inline.ensures.last))
+pub returns-then-is_some-clause-filled : goal.returns-then-is_some-clause-filled
+returns-then-is_some-clause-filled c =
+    plain c.load_items-loaded.result c.args.space.now c.load_items-loaded.new.space c.args.items.from c.args.items.to c.args.texts.from c.args.texts.to c.requires.within (sym c.is_some.ensures ∙ c.if-is_some.true) c.load_items-loaded.ensures

@@ -1,10 +1,11 @@
-use Rattle.trac_space.proofs.Imports.{◌≡◌, ◌+◌, ◌-◌, ◌++◌, List, length, map, slice_range, refl, sym, ap, ◌∙◌, subst, arith, false≢true, length-map, map-append, take-map, drop-map, Cell, lists, seen, NoCall, filled, Lists}
+use Rattle.trac_space.proofs.Imports.{◌≡◌, ◌+◌, ◌-◌, ◌++◌, List, length, map, take, slice_range, refl, sym, ap, ◌∙◌, arith, length-map, take-map, drop-map, Cell, lists, seen, seen_lists, filled, Lists}
 use Rattle.trac_space.specs.Overlay.{under}
-use Rattle.trac_space.proofs.BlockChanges.{sizes, shown, laid-more, laid, parts-more-to, parts-kept, neutral-part, store-part}
+use Rattle.trac_space.proofs.BlockChanges.{sizes, shown, laid, parts_of, parts-more, parts-kept, neutral-part, store-part}
 use Rattle.trac_space.proofs.Lifted.{seen-under}
+use Rattle.trac_space.proofs.Seen.{seen-more_active}
 use Rattle.trac_space.proofs.SeenParts.{commas-from-seen, filled-seen}
-use Rattle.trac_space.proofs.space.Space.put_filled.Goals as goal
-use Rattle.trac_space.proofs.space.Space.put_filled.Goals.{After-fill_cells, After-self}
+use Rattle.trac_space.proofs.space.Space.load_filled.Goals as goal
+use Rattle.trac_space.proofs.space.Space.load_filled.Goals.{After-fill_cells, After-self}
 
 -- the cells that are given, as they stand in the block, and as they are seen
 abbrev given : After-self → List Cell
@@ -55,54 +56,61 @@ is_seen c shown_given =
 long : (c : After-fill_cells) → map seen (more c) ≡ filled (map under (slice_range c.args.self.now.neutral c.args.first c.args.end)) (slice_range c.args.self.now.store c.args.a c.args.b) → length (filled (map under (slice_range c.args.self.now.neutral c.args.first c.args.end)) (slice_range c.args.self.now.store c.args.a c.args.b)) ≡ length (more c)
 long c is = sym (ap length is) ∙ length-map (more c) seen
 
-pub returns-in-Some-clause-put : goal.returns-in-Some-clause-put
-returns-in-Some-clause-put c =
-    let at = goal.at.returns-in-Some-clause-put c in
-    let k = at.After-fill_cells in
-    let size = sizes c.self.invariant c.self.view_is in
-    let put = c.in-Some.ensures.put in
-    let all = long k (is_seen k (given_seen at.After-self)) in
-    (λ e. omega (arith, put.0, put.1, all, size.store, size.neutral, size.active, size.spare, size.room, c.self.invariant.fits, c.self.invariant.behind), λ fits. refl)
-
-pub returns-in-None-clause-put : goal.returns-in-None-clause-put
-returns-in-None-clause-put c =
-    let at = goal.at.returns-in-None-clause-put c in
-    let k = at.After-fill_cells in
-    let size = sizes c.self.invariant c.self.view_is in
-    let all = long k (is_seen k (given_seen at.After-self)) in
-    (λ e. absurd (false≢true e), λ fits. absurd (omega (arith, fits, c.in-None.ensures.put, all, size.store, size.neutral, size.active, size.spare, size.room, c.self.invariant.fits, c.self.invariant.behind)))
-
-pub returns-in-Some-clause-last : goal.returns-in-Some-clause-last
-returns-in-Some-clause-last c =
-    let at = goal.at.returns-in-Some-clause-last c in
+pub returns-in-Some : goal.returns-in-Some
+returns-in-Some c =
+    let at = goal.at.returns-in-Some c in
     let k = at.After-fill_cells in
     let s = c.self.inside in
+    let h = c.self.invariant in
+    let size = sizes h c.self.view_is in
     let put = c.in-Some.ensures in
-    let moved = parts-more-to c.self.invariant (more k) c.fill_cells.new.cells c.in-Some.end (s.end - s.active) put.put.0 (omega (arith, c.self.invariant.fits)) put.put.1 put.len put.put.2 put.behind in
-    shown s.active moved
-    ∙ simp map-append refl
-    ∙ ap (λ (cells : List Cell). record (lists s) { neutral = (lists s).neutral ++ cells }) (is_seen k (given_seen at.After-self))
-    ∙ ap (λ (l : Lists). record l { neutral = l.neutral ++ filled (map under (slice_range c.args.self.now.neutral c.args.first c.args.end)) (slice_range c.args.self.now.store c.args.a c.args.b) }) c.self.view_is
+    let start = put.put.0 in
+    let low = put.put.1 in
+    let n = s.end - s.active - c.in-Some.start in
+    let is = is_seen k (given_seen at.After-self) in
+    let n_is : length (more k) ≡ n = omega (arith, start) in
+    let moved = parts-more h (more k) c.fill_cells.new.cells n c.in-Some.start n_is (omega (arith, start, h.fits)) low put.len put.front put.put.2 in
+    let put_is = filled (map under (slice_range c.args.self.now.neutral c.args.first c.args.end)) (slice_range c.args.self.now.store c.args.a c.args.b) in (
+      long k is ∙ n_is,
+      omega (arith, low, n_is, start, size.store, size.neutral, size.active, size.spare, size.room, h.fits, h.behind),
+      shown (s.active + n) moved
+      ∙ seen-more_active (parts_of s) s.active n (more k) n_is
+      ∙ ap (λ (cells : List Cell). record (lists s) { active = cells ++ (lists s).active }) is
+      ∙ ap (λ (l : Lists). record l { active = put_is ++ l.active }) c.self.view_is,
+    )
 
-pub returns-in-None-clause-full : goal.returns-in-None-clause-full
-returns-in-None-clause-full c =
+pub returns-in-None : goal.returns-in-None
+returns-in-None c =
+    let at = goal.at.returns-in-None c in
+    let k = at.After-fill_cells in
     let s = c.self.inside in
+    let h = c.self.invariant in
+    let size = sizes h c.self.view_is in
     let put = c.in-None.ensures in
-    shown s.active (parts-kept c.self.invariant c.fill_cells.new.cells (s.end - s.active) (omega (arith, c.self.invariant.fits)) put.len put.front put.behind) ∙ c.self.view_is
+    let past = put.put in
+    let all = long k (is_seen k (given_seen at.After-self)) in (
+      shown s.active (parts-kept h c.fill_cells.new.cells put.len put.front put.behind) ∙ c.self.view_is,
+      omega (arith, past, all, size.store, size.neutral, size.active, size.spare, size.room, h.fits, h.behind),
+    )
 
 pub invariant_of-self : goal.invariant_of-self
 invariant_of-self c =
-    let at = goal.at.invariant_of-self c in
-    let k = at.After-fill_cells in
+    let k = (goal.at.invariant_of-self c).After-fill_cells in
+    let s = c.self.inside in
     let h = c.self.invariant in
     let fits = h.fits in
+    let behind = h.behind in
     let put = c.in-Some.ensures in
-    let moved = parts-more-to h (more k) c.fill_cells.new.cells c.in-Some.end (c.self.inside.end - c.self.inside.active) put.put.0 (omega (arith, fits)) put.put.1 put.len put.put.2 put.behind in
-    laid-more _ h moved refl (omega (arith, fits, put.put.0, put.put.1)) (omega (arith, h.behind)) (more k) refl refl (subst NoCall (sym (is_seen k (given_seen at.After-self))) c.requires.no_call)
+    let start = put.put.0 in
+    let low = put.put.1 in
+    let n = s.end - s.active - c.in-Some.start in
+    let n_is : length (more k) ≡ n = omega (arith, start) in
+    let moved = parts-more h (more k) c.fill_cells.new.cells n c.in-Some.start n_is (omega (arith, start, fits)) low put.len put.front put.put.2 in
+    laid _ h moved refl (omega (arith, fits, low, start, n_is)) (omega (arith, behind)) h.calls h.linked
 
 pub invariant_of-self-in-None : goal.invariant_of-self-in-None
 invariant_of-self-in-None c =
     let h = c.self.invariant in
     let fits = h.fits in
     let put = c.in-None.ensures in
-    laid _ h (parts-kept h c.fill_cells.new.cells (c.self.inside.end - c.self.inside.active) (omega (arith, fits)) put.len put.front put.behind) refl (omega (arith, fits)) (omega (arith, h.behind)) h.calls h.linked
+    laid _ h (parts-kept h c.fill_cells.new.cells put.len put.front put.behind) refl (omega (arith, fits)) (omega (arith, h.behind)) h.calls h.linked
