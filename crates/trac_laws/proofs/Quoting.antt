@@ -210,7 +210,7 @@ end_need output = refl
 
 -- ---- from the last step back to the first
 
--- a run that prints the text in so many steps, with no greater peak than reading it needs
+-- a run that prints the text t in `steps` steps, with no greater peak than reading the text needs
 record Prints (t : Text) (steps : ℕ) (r : Run) : Type 0 where
   peak : ℕ
   bound : peak ≤ 16 + length t

@@ -8,7 +8,7 @@ use Rattle.trac_laws.proofs.Imports.{last_characters, segment_from, next_segment
 
 -- ---- the parts that calls take lie within the body
 
--- the pointer of a part is a place of a body of so many items
+-- the pointer of a part is a place of a body of n items
 abbrev pub Fits : ℕ → Option Part → Type 0
 Fits n None = Unit {0}
 Fits n (Some part) = part.pointer ≤ n

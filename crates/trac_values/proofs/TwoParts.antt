@@ -107,7 +107,7 @@ module _ (cells : List Cell) (n : ℕ) (few : n ≤ length cells) where
         ∙ ap (λ k. digits_value 10 (digits front) * 10 ^ k + digits_value 10 back) long
         ∙ ap (λ t. digits_value 10 (digits front) * 10 ^ size + digits_value 10 t) (sym all-digits)
 
--- fewer than so many digits
+-- a number of at most 19 digits is below 10 ^ 19
 pub below-power : (v k : ℕ) → k ≤ 19 → v < 10 ^ k → v < 10 ^ 19
 below-power v k few below =
     let base : 0 < 10 = omega arith in
