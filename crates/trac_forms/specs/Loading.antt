@@ -6,10 +6,10 @@ use Rattle.trac_space.specs.Texts.{flat_text}
 use Rattle.trac_language.specs.Text.{Text}
 use Rattle.trac_store.specs.Search.{character_at}
 use Rattle.trac_forms.specs.Contents.{Contents, used, body_at, pointer_at}
--- what a call goes through
+-- what a call of a form goes through, as the store's crate defines it
 pub use Rattle.trac_store.specs.Loading.{called_part, AreCharacters}
 
--- the items are n characters that fit, and were copied to the front of active
+-- the items are n characters that fit, and were copied to the front of the active string
 pub record IsLoaded (old new : Contents) (items : List Item) (n : ℕ) : Type 0 where
   pub characters : AreCharacters items
   pub size : length items ≡ n

@@ -130,7 +130,7 @@ pub unnamed-none : (forms : List Form) → unnamed [] forms ≡ forms
 unnamed-none [] = refl
 unnamed-none (form ∷ forms) = ap (λ fs. form ∷ fs) (unnamed-none forms)
 
--- that of the first name goes first
+-- of forms without those of several names, the form of the first name may be removed first
 pub unnamed-first : (name : Text) (rest : List Text) (forms : List Form) → IsStore forms → unnamed (name ∷ rest) forms ≡ unnamed rest (without name forms)
 unnamed-first name rest [] h = refl
 unnamed-first name rest (form ∷ forms) h =
@@ -143,11 +143,11 @@ unnamed-first name rest (form ∷ forms) h =
 
 -- ---- gaps in a form
 
--- the forms, the one at a place with gaps for these texts from an ordinal on, and its pointer at the start
+-- the forms, of which form k has gaps for the texts, numbered from `ordinal` on, and its pointer at the start
 abbrev pub segmented : List Text → ℕ → List Form → ℕ → List Form
 segmented texts ordinal forms k = set forms k (record (form_at forms k) { body = segment_by texts ordinal (body_at forms k); pointer = 0 })
 
--- the same of a form that was put there
+-- form k, once `form` was put in its place, has the gaps that `form` has for the texts
 pub segmented-set : (texts : List Text) (ordinal : ℕ) (forms : List Form) (k : ℕ) (form : Form) → k < length forms → segmented texts ordinal (set forms k form) k ≡ set forms k (record form { body = segment_by texts ordinal form.body; pointer = 0 })
 segmented-set texts ordinal forms k form within =
     let put : form_at (set forms k form) k ≡ form = get_or-set_same forms k form (record { name = []; body = []; pointer = 0 }) within in

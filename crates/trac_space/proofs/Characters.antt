@@ -16,12 +16,12 @@ pub bytes-more : (was : List Cell) (start k : ℕ) (d : Cell) → start + k < le
 bytes-more was start k d within bytes next =
     rw (take_more (drop start was) k d (omega (arith, length-drop start was))) (All-push IsByte _ _ bytes (rw get_or-drop next))
 
--- so many characters stand from a place on, and no more than may
+-- `count` characters stand from `start` on, and `count` is at most `most`
 pub record AreUpTo (cells : List Cell) (start most count : ℕ) : Type 0 where
   pub within : count ≤ most
   pub bytes : All IsByte (take count (drop start cells))
 
--- the next cell is one too
+-- one more character stands there, if the next cell is one
 pub up-to-next : (cells : List Cell) (start most count : ℕ) → start + most ≤ length cells → count < most → AreUpTo cells start most count → is_byte_cell (get_or cells (start + count) (Byte 0)) ≡ true → AreUpTo cells start most (count + 1)
 up-to-next cells start most count room less done is = record {
   within = omega (arith, less);
@@ -43,7 +43,7 @@ byte-no_call : (cell : Cell) → IsByte cell → IsNoCall cell
 byte-no_call (Call mode distance) h = absurd h
 byte-no_call cell h = refl
 
--- so many characters from a place of the block on are a part of the store
+-- n characters of the block from a on are a part of the store
 module _ (cells : List Cell) (store a n : ℕ) (within : a + n ≤ store) where
   pub part-seen : slice_range (map seen (take store cells)) a (a + n) ≡ map seen (slice_range cells a (a + n))
   part-seen =
