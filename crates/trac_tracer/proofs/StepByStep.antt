@@ -92,7 +92,7 @@ ends-any false peak same width m old new told = told
 abbrev pub so_far : (top : ℕ) → MachineState → (depth : ℕ) → Stream → (out : Text) → LastNumbers → List ℕ → ShownSoFar
 so_far top m depth s out last text = record { at = moment (with_peak top m) s out; depth = depth; last = last; text = text }
 
--- a step of a machine in which so many calls were open and then so many
+-- a step from machine m to `next`, in which `before` calls were open before it and `depth` after it
 abbrev pub step_of : MachineState → ℕ → Option Fate → (needed : ℕ) → (printed : Text) → MachineState → ℕ → StepDone
 step_of m before answer needed printed next depth = record { old = m; depth_before = before; answer = answer; needed = needed; printed = printed; new = next; depth = depth }
 
