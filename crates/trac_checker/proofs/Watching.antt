@@ -44,7 +44,7 @@ watched-first input room allowance bytes m written watch found fresh m_is writte
     (subst (IsWatched input start bytes (moment start bytes []) watch) (sym found_is) (watched-none input start bytes watch fresh)))
 
 module _ {A : Type 0} (input : Text) (start : MachineState) (bytes : Stream) (old new : Moment) (watch told kept : Watch A) (found more : FoundSoFar) (room_is : old.machine.room ≡ start.room) (so : IsWatched input start bytes old watch found) (watches : Watches input old.machine new.machine watch told) (keeps : KeepsRun told kept) (finds : more ≡ with_all (reverse (map said told.warnings.items)) found) where
-  -- one step more
+  -- one step more was watched, and the run goes on
   pub watched-more : (taken : Text) → old.source.bytes ≡ taken ++ new.source.bytes → GoesOn old new → IsWatched input start bytes new kept more
   watched-more taken took goes_on =
       record {

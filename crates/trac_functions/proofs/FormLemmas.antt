@@ -22,7 +22,7 @@ idle f old new a name are means built_is same none name_is = λ title.
     let gone = form_named-none (argument (texts old a) 0) old.forms (subst (λ n. NoneNamed n old.forms) name_is none) in
     ([], rw same (null-value f (title ∷ texts old a) old old are.sound (λ meta input. means title (world old.forms meta input) gone) (built_is title) refl))
 
--- each form's name behind a text
+-- the names of the forms, a text before each
 abbrev pub names : Text → List Form → Text
 names before forms = flat_map (λ form. before ++ form.name) forms
 
@@ -88,7 +88,7 @@ parted-texts w a are = (parts-left w (a.end + 1 - a.from) a are (omega arith)).1
 pub fewer-left : (w : Contents) (a b : Arguments) → a.from ≤ a.end → texts w b ≡ drop 1 (texts w a) → length (texts w b) < length (texts w a)
 fewer-left w a b le rest = omega (arith, ap length (next-left w a b le rest))
 
--- there are no more arguments than places among the cells
+-- cells have at most one argument more than they are
 texts_of-bound : (cells : List Cell) → length (texts_of cells) ≤ suc (length cells)
 texts_of-bound [] = omega arith
 texts_of-bound (cell ∷ cells) = go cell (texts_of cells) (texts_of-bound cells)

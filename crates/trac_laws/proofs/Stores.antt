@@ -169,6 +169,6 @@ found_fits name (form ∷ forms) h =
 pub found_within : (name : Text) (forms : List Form) (form : Form) → IsStore forms → form_named name forms ≡ Some form → form.pointer ≤ length form.body
 found_within name forms form h e = subst (λ o. OfFound o (λ form. form.pointer ≤ length form.body)) e (found_fits name forms h)
 
--- and may be changed to another of that kind
+-- the form of a name may be changed to another one of that name whose pointer is within its body
 pub store_changed_found : (name : Text) (change : Form → Form) (forms : List Form) (form : Form) → IsStore forms → form_named name forms ≡ Some form → ((form : Form) → (change form).name ≡ form.name) → (change form).pointer ≤ length (change form).body → IsStore (changed name change forms)
 store_changed_found name change forms form h e keeps fits = store_changed name change forms keeps (subst (λ o. OfFound o (λ form. (change form).pointer ≤ length (change form).body)) (sym e) fits) h

@@ -27,7 +27,7 @@ utf8_test P Q (Err e) bytes said = go (is_utf8 bytes) refl
     go true is = absurd (said.0 (IsUtf8-from_is_utf8 bytes is))
     go false is = sym is
 
--- the blanks of one call more
+-- the blanks of one more call stand behind `old`
 pub indent_step : (old now new : List ℕ) (depth k : ℕ) → k < depth → now ++ blanks_text (depth - k) ≡ old ++ blanks_text depth
     → new ≡ now ++ codes "  " → new ++ blanks_text (depth - (k + 1)) ≡ old ++ blanks_text depth
 indent_step old now new depth k low so_far is =

@@ -314,7 +314,7 @@ module _ (c : Command) (m : ArgMatches) (p : IsParsedFrom c m) (app : App) (is :
       let read = reads (without_minus text.0) text.1 in
       is_read E G 32 low high (without_minus text.0) _ r text.1 read only (signed_reads E G 32 low high text.0 r read only fits text.2)
 
-  -- and of an option of `u64`
+  -- what `get_one` gives of an option of `u64`: the number of its text, in the range
   pub unsigned_read : slice_get app.top.rules k ≡ Some (number_option name (parser.Unsigned low high) default)
       → ((u : Text) (x : Result ℕ E) → G u x → ParsesUnsigned 64 10 u x)
       → IsRead low high (one_text (found_of m) name) r
