@@ -23,7 +23,7 @@ use trac_warnings::{Findings, Warning, Watch, look_at_script};
 pub struct WatchedRun<A: Allocator> {
     watch: Watch<A>,
     findings: Findings<A>,
-    /// How it ended, with its steps and its peak.
+    /// How the run ended, with its steps and its peak.
     pub report: Report,
 }
 

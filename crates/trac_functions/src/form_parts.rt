@@ -1,4 +1,5 @@
-//! The functions that take a part of a form: `cs`, `cc`, `cn`, `in`, and `cr`.
+//! The functions that take a part of a form: `cs`, `cc`, `cn`, `in`, and `cr`. If no form has the name N,
+//! they change nothing and have a null value, which is this processor's own choice.
 ghost use Rattle.std.specs.Prelude.{◌≡◌, ◌↔◌, ◌+◌, ◌-◌, ◌<◌, ◌≤◌, ◌++◌, ℕ, min};
 ghost use Rattle.std.specs.Prelude.{take, drop, reverse, length, Some, None, IsTrue, true, false};
 ghost use Rattle.std.specs.Bool.{OnTrue};
@@ -296,8 +297,8 @@ fn take_part(work: &mut Work, form: FormId, part: Part, pointer: u32) -> CallRes
     CallResult::AtEnd
 }
 
-/// Puts the characters of a part of the body, gaps left out, at
-/// the end of the neutral string, if there are cells for them.
+/// Copies the characters of a form's body from place `from` up to `to` to the end of the neutral string,
+/// gaps left out. False if they don't fit; then no form has changed, but some of them may stand there.
 pub fn copy_characters(work: &mut Work, form: FormId, from: u32, to: u32) -> bool
     requires known { form_place form < length work.old.forms }
     requires order { from ≤ to }

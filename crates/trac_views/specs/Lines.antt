@@ -72,7 +72,7 @@ head_text false true = codes "  step  form\n"
 head_text false false =
     codes "  step  rule           size  need  neutral string|active string\n"
 
--- whether `len` cells need no cut to a width, which 0 leaves open
+-- whether `len` cells need no cut to a width; a width of 0 sets no bound
 abbrev pub is_short : ℕ → ℕ → Bool
 is_short width len = (width == 0) || nat_le len width
 

@@ -59,7 +59,7 @@ shown_from left (b ∷ bytes) =
 abbrev pub shown_text : List ℕ → List ℕ
 shown_text bytes = shown_from 0 bytes
 
--- whether a text of `len` bytes needs no cut to a width, which 0 leaves open
+-- whether a text of `len` bytes needs no cut to a width; a width of 0 sets no bound
 abbrev pub fits : ℕ → ℕ → Bool
 fits width len = (width == 0) || nat_le len width
 

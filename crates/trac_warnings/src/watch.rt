@@ -111,7 +111,7 @@ impl<A: Allocator + Copy> Watch<A> {
         self.warnings.as_slice()
     }
 
-    /// Takes the last of these warnings away. None if none is left.
+    /// Takes away the last warning of the last step that it saw, and gives it. None if none is left.
     pub fn take_warning(&mut self) -> Option<Warning<A>>
         ensures left { self.old.warnings.items ≡ self.new.warnings.items ++ option_to_list result }
         ensures some { IsSome result ↔ (0 < length self.old.warnings.items) }
@@ -218,8 +218,8 @@ impl<A: Allocator + Copy> Watch<A> {
         self.calls.last().copied().unwrap_or(self.origin())
     }
 
-    /// Looks at a machine after a step. `input` has at least the bytes that the machine has read.
-    /// Fails only if memory runs out.
+    /// Looks at a machine after a step, before which `look` gave `before`. `input` has at least the bytes that
+    /// the machine has read. Fails only if memory runs out.
     pub fn tell(
         &mut self,
         before: &Before,
