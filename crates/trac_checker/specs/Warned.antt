@@ -40,7 +40,7 @@ abbrev pub times_text : ℕ → List ℕ
 times_text times =
     if nat_lt times 2 then [] else (codes " (" ++ decimal times ++ codes " times)")
 
--- what is said: the sentence, the name or the text, and of how many characters it is
+-- the words of a warning: the sentence, the name or the text, and the number of characters
 abbrev pub said_text : Said → List ℕ
 said_text s = sentence_of s.suspicion ++ shown_text s.text ++ count_text s.count
 

@@ -55,7 +55,7 @@ ending text = record { text = text; fails = false }
 abbrev pub failing : Text → Input
 failing text = record { text = text; fails = true }
 
--- a state of these parts
+-- the state that has a memory, an input and an output
 abbrev pub state_with : Memory → Input → Text → State
 state_with memory input output = record { memory = memory; input = input; output = output }
 
@@ -101,7 +101,7 @@ pub record StopsAtInput (old new : Moment) (given : Text) : Type 0 where
   pub counts : Counts old.machine new.machine 0 (need (failing_state_of old given))
   pub written : new.written ≡ old.written
 
--- the sink failed: of what the step prints, put and rest, only put was written
+-- the sink failed: of what the step prints, `put` and `rest`, only `put` was written
 pub record StopsAtOutput (old new : Moment) (next : State) (put rest : Text) : Type 0 where
   pub may : MayStep old.machine (state_of old)
   pub goes : step (state_of old) ≡ Next next
@@ -197,8 +197,8 @@ pub record RanToFailure (runs : Input → ℕ → Run) (c : Course) (report : Re
   pub consumed : c.bytes ≡ given ++ c.bytes_left
   pub is_report : IsReportOf (runs (failing given) c.allowance) c report
 
--- the sink failed in the step after those reported: of what
--- it prints, put and rest, only put was written
+-- the sink failed in the step after those that the report counts:
+-- of what that step prints, `put` and `rest`, only `put` was written
 pub record BrokeOff (runs : Input → ℕ → Run) (c : Course) (report : Report) (put rest : Text)
     : Type 0 where
   pub allowed : report.steps < c.allowance
@@ -279,12 +279,12 @@ LeavesMemory InputFailed c old n new =
     (given : Text) × ((c.bytes ≡ given ++ c.bytes_left)
     × KeepsFormsAndMeta (memory_after n old (failing given) c.before) new)
 
--- the machine after a step that was done: one step more, and what it needed
+-- the machine after a step that was done: the step is counted, and what it needed
 abbrev pub one_step_on : Option Fate → Memory → ℕ → MachineState → MachineState
 one_step_on fate memory needed m =
     record m { memory = memory; steps = m.steps + 1; peak = max m.peak needed; fate = fate }
 
--- the machine after a step in which a device failed: it isn't counted, and what it needed is
+-- the machine after a step in which a device failed: the step isn't counted, but what it needed is
 abbrev pub broken_off : Option Fate → Memory → ℕ → MachineState → MachineState
 broken_off fate memory needed m =
     record m { memory = memory; peak = max m.peak needed; fate = fate }

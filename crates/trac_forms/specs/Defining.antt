@@ -4,7 +4,7 @@ use Rattle.trac_space.specs.declared.cell.Cell.{Cell}
 use Rattle.trac_space.specs.declared.part.Part.{Part}
 use Rattle.trac_store.specs.Parts.{IsTextPart}
 
--- the name and the text of a new form are both characters
+-- `name` and `text` are parts of the neutral string that have characters alone
 pub record AreNameAndText (neutral : List Cell) (name text : Part) : Type 0 where
   pub name_part : IsTextPart neutral name.from name.to
   pub text_part : IsTextPart neutral text.from text.to

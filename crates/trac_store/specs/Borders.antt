@@ -18,7 +18,7 @@ pub record IsBorder (text : List ℕ) (n b : ℕ) : Type 0 where
   pub within : b ≤ n
   pub same : (k : ℕ) → k < b → byte_at text k ≡ byte_at text (n - b + k)
 
--- the first b characters of the text also end its first n, and no more than b, but fewer than n, do so
+-- b is the greatest number below n for which the first b characters of the text also end its first n
 pub record IsLongestBorder (text : List ℕ) (n b : ℕ) : Type 0 where
   pub shorter : b < n
   pub border : IsBorder text n b

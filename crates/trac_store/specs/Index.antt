@@ -86,13 +86,13 @@ pub record IsIndexBut
   pub all : (k : ℕ) → k < n → k ≢ gap → HasEntry table (name k) (start k) k
   pub only : (s k : ℕ) → s < slots table → cell_at table s ≡ Head k → IsHeld table n gap k s
 
--- the table is one of the forms
+-- the table is an index of the forms
 abbrev pub IsIndex : List Cell → List Form → Type 0
 IsIndex table forms =
     IsIndexBut table (length forms) (length forms) (name_at forms)
     (λ k. length (flat_forms (take k forms)))
 
--- there is no table, or it is one of the forms
+-- there is no table, or the table is an index of the forms
 abbrev pub IsIndexed : List Cell → List Form → Type 0
 IsIndexed table forms = 0 < length table → IsIndex table forms
 

@@ -72,7 +72,7 @@ pub fn push_call(
     push(line, b"\n")
 }
 
-// Adds two blanks, and two more for each call that is open around this one. If they are many, adds
+// Adds two blanks, and two more for each call that is open around a call. If they are many, adds
 // their number instead.
 fn push_indent(line: &mut Vec<u8>, depth: usize) -> Result<(), AllocError>
     ensures { OnOk result (line.new.items ≡ line.old.items ++ indent_text depth) }

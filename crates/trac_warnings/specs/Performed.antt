@@ -67,7 +67,7 @@ abbrev pub with_form : Option Form → Suspicion → Suspicion
 with_form None suspicion = suspicion
 with_form (Some form) suspicion = FormAsFunction
 
--- what is suspicious in the name of a call; that a form has it is only said where it is no function's
+-- what is suspicious in the name of a call; that a form has the name is only said if no function has it
 abbrev pub suspicion_of_call : List Form → List Cell → Option Suspicion
 suspicion_of_call forms name =
     option_map (λ s. if is_no_function s then with_form (form_of name forms) s else s)
