@@ -79,7 +79,7 @@ codes-size n = calls-length n.calls n.base
 pub neutral-length : (cells : List Cell) (n : Neutral) → neutral_of cells ≡ n → length cells ≡ length (codes_of_neutral n)
 neutral-length cells n e = sym (codes-count cells) ∙ ap (λ n. length (codes_of_neutral n)) e
 
--- a call that is open stays so
+-- a call that is open stays open behind more cells
 call-stays : (cells : List Cell) (n : Neutral) → has_call n.calls ≡ true → has_call (with_cells n cells).calls ≡ true
 call-stays [] n e = e
 call-stays (cell ∷ cells) n e =

@@ -17,7 +17,8 @@ use Rattle.trac_checker.specs.WatchedRuns.{WatchedSoFar, Watches, WatchesRun, Wa
 abbrev pub so_far : {A : Type 0} → Moment → Watch A → FoundSoFar → WatchedSoFar A
 so_far at watch found = record { at = at; watch = watch; found = found }
 
--- the run of the definition led here and was watched so
+-- the definition's run led from `start` to the moment `at`, and was watched: the watch is then `watch`, and `found` is
+-- what was found
 pub record IsWatched {A : Type 0} (input : Text) (start : MachineState) (bytes : Stream) (at : Moment) (watch : Watch A) (found : FoundSoFar) : Type 0 where
   pub first : Watch A
   pub fresh : IsFresh first

@@ -69,7 +69,7 @@ appended_known (Some ys) None new xs took kept some = absurd took
 appended_known (Some ys) (Some zs) None xs took kept some = absurd kept
 appended_known (Some ys) (Some zs) (Some ws) xs took kept some = kept ∙ took
 
--- what is so is so after an error
+-- a property that holds also holds after an error
 pub on_err : {T E P : Type 0} (r : Result T E) → P → OnErr r P
 on_err (Ok x) p = tt
 on_err (Err e) p = p

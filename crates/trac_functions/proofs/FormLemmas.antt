@@ -46,7 +46,7 @@ first_of_some (text ∷ texts) some = refl
 some-left : (w : Contents) (a : Arguments) → a.from ≤ a.end → texts w a ≡ argument (texts w a) 0 ∷ drop 1 (texts w a)
 some-left w a le = first_of_some (texts w a) (rw (texts_from-some w.neutral a.from a.end le) (texts_of-some (slice_range w.neutral a.from a.end)))
 
--- the arguments that are left are the next and those after it
+-- the arguments that are left are the next argument and the arguments after it
 pub next-left : (w : Contents) (a b : Arguments) → a.from ≤ a.end → texts w b ≡ drop 1 (texts w a) → texts w a ≡ argument (texts w a) 0 ∷ texts w b
 next-left w a b le rest = some-left w a le ∙ ap (λ ts. argument (texts w a) 0 ∷ ts) (sym rest)
 

@@ -24,7 +24,7 @@ prefix_at t c rest =
     let n : length (t ++ c ∷ []) ≡ suc (length t) = omega (arith, length-append t (c ∷ [])) in
     ap (take (suc (length t))) (sym (append_assoc t (c ∷ []) rest)) ∙ take_at (t ++ c ∷ []) rest (suc (length t)) n
 
--- the shorter of two such texts stands before a right parenthesis in the longer
+-- of two texts before a right parenthesis of one text, the shorter stands before a right parenthesis in the longer
 shorter : (t u r v : Text) → t ++ 41 ∷ r ≡ u ++ 41 ∷ v → length t < length u → take (suc (length t)) u ≡ t ++ 41 ∷ []
 shorter t u r v e lt =
     let within : suc (length t) ≤ length u = omega arith in

@@ -3,7 +3,7 @@ use Rattle.trac_space.proofs.Imports.{◌≡◌, ◌↔◌, ℕ, ◌+◌, ◌<�
 use Rattle.trac_space.proofs.Imports.{get_or-map, get_or-drop, take_more, take-map, drop-map, drop-drop, take-add, cases_lt, All-append, All-push, All-map, All-cons, All-head, All-tail, sum_by-cons, Cell, Byte, Call, Comma, seen, IsNoCall, NoCall, IsByte, is_byte_cell, byte_cell_at}
 use Rattle.trac_space.proofs.Imports.{kind_number, paste}
 
--- the cells before that place are as they were
+-- the cells before the place of a copy are as they were
 pub front-cell : (was now source : List Cell) (to k i : ℕ) (d : Cell) → i < to → to ≤ length was → now ≡ paste was to source k → get_or now i d ≡ get_or was i d
 front-cell was now source to k i d less within is = grind (arith, places)
 
@@ -28,7 +28,7 @@ up-to-next cells start most count room less done is = record {
   bytes = bytes-more cells start count (Byte 0) (omega (arith, room, less)) done.bytes (tested-byte (get_or cells (start + count) (Byte 0)) is);
 }
 
--- characters, and others behind them
+-- k characters stand from `start` on, and j more behind them
 pub bytes-join : (cells : List Cell) (start k j : ℕ) → All IsByte (take k (drop start cells)) → All IsByte (take j (drop (start + k) cells)) → All IsByte (take (k + j) (drop start cells))
 bytes-join cells start k j bytes more =
     rw take-add (All-append IsByte _ _ bytes (rw drop-drop more))

@@ -96,7 +96,8 @@ so_far top m depth s out last text = record { at = moment (with_peak top m) s ou
 abbrev pub step_of : MachineState → ℕ → Option Fate → (needed : ℕ) → (printed : Text) → MachineState → ℕ → StepDone
 step_of m before answer needed printed next depth = record { old = m; depth_before = before; answer = answer; needed = needed; printed = printed; new = next; depth = depth }
 
--- the run of the definition led here and was shown so, behind a head that was written first
+-- the definition's run led from `start` to machine m, and was shown: `new` is `old` with the head and with the text
+-- of all steps so far
 pub record IsShown (views : Views) (start : MachineState) (bytes : Stream) (head : List ℕ) (old new : Option (List ℕ)) (top : ℕ) (m : MachineState) (depth : ℕ) (s : Stream) (last : LastNumbers) : Type 0 where
   pub count : ℕ
   pub out : Text
@@ -174,7 +175,7 @@ told-so views top least needed found m next before depth answer printed lines sa
     }
 
 module _ (views : Views) (start : MachineState) (bytes : Stream) (head : List ℕ) (old new newer : Option (List ℕ)) (top : ℕ) (m next : MachineState) (before depth : ℕ) (s t : Stream) (last : LastNumbers) (held printed : List ℕ) (no_peak : m.peak ≡ 0) (empty : held ≡ []) (shown : IsShown views start bytes head old new top m before s last) where
-  -- the text of these lines is behind that of those before
+  -- the text of a step's lines is written behind that of the earlier steps
   wrote-more : (text : List ℕ) → Appends new newer text → Appends old newer (head ++ (shown.text ++ text))
   wrote-more text wrote =
       subst (Appends old newer) (append_assoc head shown.text text) (Appends-trans old new newer (head ++ shown.text) text shown.wrote wrote)

@@ -41,7 +41,7 @@ value_before text n d pos le is =
     let power : digit_value (get_or text (n - 1) 0) * 10 ^ length (drop (n - 1 + 1) text) ≡ d * 10 ^ (length text - n) = ap (λ k. k * 10 ^ length (drop (n - 1 + 1) text)) is ∙ ap (λ k. d * 10 ^ k) long in
     omega (arith, whole, first, rest, power)
 
--- at most 18 digits, with one before them
+-- the value of at most 18 digits, with one more digit before them, fits in 64 bits
 pub fits_before : (k v p d : ℕ) → k < 19 → p ≡ 10 ^ k → v < 10 ^ k → d < 10 → (d * p < 2 ^ 64) × (v + d * p < 2 ^ 64) × (p * 10 < 2 ^ 64) × (v + d * p < 10 ^ (k + 1)) × (p * 10 ≡ 10 ^ (k + 1))
 fits_before k v p d lt is below digit =
     let base : 0 < 10 = omega arith in

@@ -141,7 +141,7 @@ is_other a b e same =
     let yes = (bytes_eq-Decides a b).1 same in
     cc
 
--- the name is not null, nor of those flags, and nothing else has it
+-- the name is not null, it is not that of `--help` or `--version`, and no other rule has it
 owned : (name : Text) (k : ℕ) (rules : List Rule) → is_own_name name k rules ≡ true
     → (name ≡ [] → ⊥) × (name ≡ codes "help" → ⊥) × (name ≡ codes "version" → ⊥) × (only_at name k (map (λ (r : Rule). r.id) rules) ≡ true)
 owned name k rules own =
