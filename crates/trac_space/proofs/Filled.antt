@@ -120,7 +120,7 @@ module _ (old given : List Cell) (from stop first last : ℕ) (before : stop ≤
           let next = ap (λ cells. length (filled given cells)) next-cell ∙ length-append (filling given (get_or old at Comma)) (filled given (slice_range old (at + 1) stop)) in
           omega (arith, full, here, next, h.long)
 
-    -- a block is copied, of which so many cells are characters
+    -- a block of eight cells is copied, of which the first r are characters
     pub block-run : (new : List Cell) (r : ℕ) → at + 8 ≤ to → to + 8 ≤ last → new ≡ copy_within now at (at + 8) to → length new ≡ length now → r ≤ 8 → at + r ≤ stop → All IsByte (take r (drop at new)) → FilledSoFar old new given from stop first (at + r) (to + r) last
     block-run new r apart room is same few order bytes =
         let within : to + 8 ≤ length now = omega (arith, room, inside, h.size) in
@@ -133,7 +133,7 @@ module _ (old given : List Cell) (from stop first last : ℕ) (before : stop ≤
     cell-full cells n less size are full =
         along-full less (omega (arith, full, sym (ap length are), length-map cells under, size))
 
-    -- they are put
+    -- the cells that fill the next cell are put
     pub cell-put : (new cells : List Cell) (n : ℕ) → at < stop → length cells ≡ n → map under cells ≡ filling given (get_or old at Comma) → to + n ≤ last → length new ≡ length now → take (to + n) new ≡ take to now ++ map under cells → drop (to + n) new ≡ drop (to + n) now → FilledSoFar old new given from stop first (at + 1) (to + n) last
     cell-put new cells n less size are room same front behind =
         along-cell less new n room (sym (ap length are) ∙ length-map cells under ∙ size) same (front ∙ ap (λ l. take to now ++ l) are) (behind-more new n room behind)

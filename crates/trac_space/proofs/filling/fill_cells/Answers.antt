@@ -4,7 +4,7 @@ use Rattle.trac_space.proofs.Filled.{FilledSoFar, along-start, along-front, alon
 use Rattle.trac_space.proofs.filling.fill_cells.Goals as goal
 use Rattle.trac_space.proofs.filling.fill_cells.Goals.{After-characters_in_block-run, After-part_numbered-start}
 
--- a block is copied, of which so many cells are characters
+-- a block of eight cells is copied, and the characters that it begins with are put
 ran : (c : After-characters_in_block-run) → c.loop-to.at + c.characters_in_block-run.result ≤ c.args.stop → FilledSoFar c.args.cells.now c.copy_at_once_higher.new.cells (map under (slice_range c.args.cells.now c.args.given.start (c.args.given.start + c.args.given.len))) c.args.from c.args.stop c.args.to (c.loop-to.at + c.characters_in_block-run.result) (c.loop-to.to + c.characters_in_block-run.result) c.args.last
 ran c order =
     block-run c.args.cells.now _ c.args.from c.args.stop c.args.to c.args.last (omega (arith, c.requires.before, c.requires.behind)) c.requires.inside c.loop-to.cells c.loop-to.at c.loop-to.to c.loop-to.invariant c.copy_at_once_higher.new.cells c.characters_in_block-run.result (omega (arith, c.if-distance-ge-BLOCK.true, c.distance.ensures)) (omega (arith, c.loop-to-test.true)) (c.copy_at_once_higher.ensures.after _ (sym c.distance-in-loop-to.ensures)) c.copy_at_once_higher.ensures.len c.characters_in_block-run.ensures.few order c.characters_in_block-run.ensures.bytes
