@@ -1,7 +1,7 @@
 -- A turn of a machine whose run is over.
 use Rattle.trac_c.proofs.Imports.{◌≡◌, ℕ, [], zero, suc, ◌<◌, ◌≤◌, Some, refl, ap, ◌∙◌, arith, is_none, nat_lt, ◌&&◌, if◌then◌else◌, Fate, Input, MachineState, next_printed, step_prints, last_over, told_again, turn_number, wanted_by, TracReport, Turn, Went, Over}
 
--- and prints nothing
+-- a machine whose run is over prints nothing
 pub prints-none : (m : MachineState) (fate : Fate) (input : Input) → m.fate ≡ Some fate → next_printed m input ≡ []
 prints-none m fate input over =
     ap (λ f. if is_none f && nat_lt m.steps m.allowance then step_prints m.memory input else []) over

@@ -15,7 +15,7 @@ use Rattle.trac_core.specs.Advancing.{GoesAlone, StopsAlone, Advanced}
 use Rattle.trac_c.specs.declared.turn.Turn.TheVariants.{Waits, Full}
 use Rattle.trac_c.specs.Turns.{TurnsTo, EndsTurn}
 
--- it waits for nothing
+-- a call that uses no device waits for nothing
 awaits-none : (f : Option Function) (given : List Text) → calls_device f given ≡ false → awaited f ≡ Nothing
 awaits-none None given alone = refl
 awaits-none (Some ReadString) given alone = absurd cc
@@ -36,7 +36,7 @@ waits-none ended m bytes alone =
     let none = next-alone (is_none m.fate && nat_lt m.steps m.allowance) (performs m.memory) (unread (rule m.memory.active) m.memory.calls alone) in
     and_right (not ended) (is_short (awaited (next_function m)) m bytes) (ap (λ a. is_short a m bytes) none)
 
--- so many steps of a turn follow those that were done
+-- n steps that need no device follow k steps of a turn
 goes-alone : (n k : ℕ) (ended : Bool) (start : Moment) (old new : MachineState) (source : Stream) (written : Text) → GoesAlone n old new → Goes ended k start (moment old source written) → Goes ended (k + n) start (moment new source written)
 goes-alone zero k ended start old new source written same goes =
     let none : k ≡ k + 0 = omega arith in
@@ -49,7 +49,7 @@ goes-alone (suc n) k ended start old new source written alone goes =
     subst (λ j. Goes ended j start (moment new source written)) one
     (moment middle source written, (before, (waits-none ended middle source.bytes step.alone, (step.goes source written, step.going))))
 
--- where the run goes on, the turn stands behind them
+-- n steps that need no device follow k steps of a turn, and the run goes on
 pub goes-on : (most n k : ℕ) (ended : Bool) (start : Moment) (old new : MachineState) (source : Stream) (written : Text) → new.fate ≡ None → Advanced most n old new → Goes ended k start (moment old source written) → Goes ended (k + n) start (moment new source written)
 goes-on most n k ended start old new source written going to goes =
     let stops = subst (λ fate. StopsAlone most n to.0 fate new) going to.1.1 in
@@ -61,7 +61,7 @@ ends-turn ended most done before Waits new other few turns = (few, turns)
 ends-turn ended most done before (Full printed) new other few turns = (few, turns)
 ends-turn ended most done before (Over fate) new other few turns = (few, turns)
 
--- and then comes what the turn ends with: what follows; or that the run is over already
+-- n steps that need no device follow k steps of a turn, which then ends: with what comes next, or since the run is over
 pub ends-on : (most n k : ℕ) (ended : Bool) (start new : Moment) (old middle : MachineState) (source : Stream) (written : Text) (last : Turn) → k + n < most → last ≢ Went → (middle.fate ≡ None → TurnsTo ended (moment middle source written) last new) → ((fate : Fate) → middle.fate ≡ Some fate → (last ≡ Over fate) × (new ≡ moment middle source written)) → (wanted : ℕ) → Advanced wanted n old middle → Goes ended k start (moment old source written) → SomeTurned ended most start last new
 ends-on most n k ended start new old middle source written last few other turns over wanted to goes = go middle.fate refl
   where
@@ -103,7 +103,7 @@ ends-full most n k ended start old new source written all wanted few to goes = g
         let stops = subst (λ fate. StopsAlone wanted n to.0 fate new) is_over to.1.1 in
         absurd (omega (arith, stops.0, few, all))
 
--- a step more is done
+-- one more step follows k steps of a turn
 pub goes-further : (ended : Bool) (k : ℕ) (start before new : Moment) → Goes ended k start before → TurnsTo ended before Went new → Goes ended (k + 1) start new
 goes-further ended k start before new goes turns =
     let one : suc k ≡ k + 1 = omega arith in

@@ -8,7 +8,7 @@ use Rattle.trac_c.specs.contracts.run.fill as fill
 abbrev pub E : Rows.El
 E = record { row = C.the_row; laws = C'.the_row_laws }
 
--- that number, as a constant of the code
+-- the constant 16777216 of the code is the number of the contracts
 pub most_cells : {M : Type 1} {𝓤 : Ura M} (𝓛 : Logic 𝓤) {K : Type 0} {Γ : List (Item 𝓤)} {E : Env 𝓤 𝓛.H} → Opd K 𝓛 Γ E (int_big w64 16777216) (vint w64 16777216)
 most_cells {M} {𝓤} 𝓛 =
     record { go = λ Kt h. via 𝓤 (Kt (vint w64 16777216)) h (guard_i 𝓤 (Fits w64 16777216) (Kt (vint w64 16777216)) (record { fits = lit< tt })) }

@@ -47,7 +47,7 @@ module _ {A : Type 0} where
       then ∙ ap (λ k. laid_from k ys r₁) place ∙ ap (λ r. laid_from (length xs) ys r) first ∙ laid-then xs ys r
 
 module _ {X A : Type 0} (f : X → A) where
-  -- one item more of a list of which each is put as another
+  -- one item more is put of a list whose items f turns into what is put
   pub laid-mapped : (xs : List X) (i : ℕ) (d : X) (a : A) (r r₁ r₂ : List A) → i < length xs → a ≡ f (get_or xs i d) → r₁ ≡ laid (map f (take i xs)) r → r₂ ≡ laid_from i (a ∷ []) r₁ → r₂ ≡ laid (map f (take (i + 1) xs)) r
   laid-mapped xs i d a r r₁ r₂ lt same first then =
       let long : i ≡ length (map f (take i xs)) = sym (length-map (take i xs) f ∙ length-take-le i xs (omega arith)) in

@@ -54,7 +54,7 @@ codes-length n (cell ∷ cells) =
     let one = ap (λ l. length l) (codes-cell n cell) ∙ length-append (codes_of_neutral n) (cell_code (has_call n.calls) cell ∷ []) in
     omega (arith, one, codes-length (with_cell n cell) cells)
 
--- there are as many codes as cells
+-- a neutral string has as many codes as cells
 pub codes-count : (cells : List Cell) → length (codes_of_neutral (neutral_of cells)) ≡ length cells
 codes-count cells = codes-length no_neutral cells ∙ omega arith
 
@@ -79,7 +79,7 @@ codes-size n = calls-length n.calls n.base
 pub neutral-length : (cells : List Cell) (n : Neutral) → neutral_of cells ≡ n → length cells ≡ length (codes_of_neutral n)
 neutral-length cells n e = sym (codes-count cells) ∙ ap (λ n. length (codes_of_neutral n)) e
 
--- a call that is open stays so
+-- a call that is open stays open behind more cells
 call-stays : (cells : List Cell) (n : Neutral) → has_call n.calls ≡ true → has_call (with_cells n cells).calls ≡ true
 call-stays [] n e = e
 call-stays (cell ∷ cells) n e =
@@ -146,7 +146,7 @@ codes-end cells from i room within least = ⊎_elim full all (cases_lt i (length
     all : length room ≤ i → laid (drop from (codes_of_neutral (neutral_of (take (from + i) cells)))) room ≡ laid (drop from (codes_of_neutral (neutral_of cells))) room
     all few = codes-enough cells from (from + i) room (omega arith) within (omega (arith, few))
 
--- one code more from a place on
+-- one code more is put, of those from place `from` on
 pub codes-laid : (cells : List Cell) (from i code : ℕ) (room r₁ r₂ : List ℕ) → from + i < length cells → code ≡ cell_code (has_call (neutral_of (take (from + i) cells)).calls) (get_or cells (from + i) (Byte 0)) → r₁ ≡ laid (drop from (codes_of_neutral (neutral_of (take (from + i) cells)))) room → r₂ ≡ laid_from i (code ∷ []) r₁ → r₂ ≡ laid (drop from (codes_of_neutral (neutral_of (take (from + (i + 1)) cells)))) room
 codes-laid cells from i code room r₁ r₂ within is first then =
     let k = from + i in
@@ -194,7 +194,7 @@ module _ (cells : List Cell) (i count : ℕ) (within : i < length cells) where
   pub places-passed : is_open_after (get_or cells i (Byte 0)) false ≡ false → drop count places ≡ left (i + 1) → drop count places ≡ left i
   places-passed e is = is ∙ ap call_places (next-neutral cells i within) ∙ places-same (neutral_of (take i cells)) (get_or cells i (Byte 0)) e
 
-  -- it is one
+  -- the cell in front of those that were looked at is a mark
   module _ (e : is_open_after (get_or cells i (Byte 0)) false ≡ true) (is : drop count places ≡ left (i + 1)) where
     found : drop count places ≡ i ∷ left i
     found =

@@ -31,7 +31,7 @@ module _ (m : MachineState) (bytes written : Text) (going : m.fate ≡ None) (al
       ∙ length-append written (step_prints m.memory (ending bytes))
       ∙ ap (λ t. length written + length t) (sym printed-is)
 
--- what a sink over a buffer of so many bytes may hold behind it
+-- a sink over a buffer of `size` bytes that was given no more than these holds no byte behind it
 pub behind-none : (behind : Option ℕ) (len size : ℕ) (front : Text) → length front ≡ len → (IsSome behind → size ≤ len) → length (front ++ listed behind) ≤ size → behind ≡ None
 behind-none None len size front long order fits = refl
 behind-none (Some byte) len size front long order fits =
@@ -48,7 +48,7 @@ behind-some (Some byte) len size front some long full =
 pub same-buffer : (a b c d : ℕ) → b < 2 ^ 64 → d < 2 ^ 64 → buffer_code a b ≡ buffer_code c d → (a ≡ c) × (b ≡ d)
 same-buffer a b c d less below same = (omega (arith, less, below, same), omega (arith, less, below, same))
 
--- what was written is within so many bytes after a step that prints no more than there is room for
+-- after a step that prints no more than there is room for, at most `size` bytes are written
 pub within-after : (old new : Moment) (size : ℕ) → old.machine.fate ≡ None → length old.written + length (next_printed old.machine (ending old.source.bytes)) ≤ size → GoesOn old new → length new.written ≤ size
 within-after old new size going room goes =
     let long = prints-length old.machine old.source.bytes old.written going goes.may.allowed (state_of new) goes.goes in
@@ -62,7 +62,7 @@ within-ended Steps old new size none fits stop = let same = ap length stop.writt
 within-ended InputFailed old new size none fits stop = absurd (none.0 refl)
 within-ended OutputFailed old new size none fits stop = absurd (none.1 refl)
 
--- and the sink doesn't fail, which fails only where more is written
+-- a step that prints no more than there is room for isn't ended by the sink, which fails only where more is written
 pub not-broken : (fate : Fate) (old new : Moment) (size : ℕ) → old.machine.fate ≡ None → length old.written + length (next_printed old.machine (ending old.source.bytes)) ≤ size → Answers old (Some fate) new → (fate ≡ OutputFailed → size < length new.written) → fate ≢ OutputFailed
 not-broken fate old new size going room stop more e =
     let stops = subst (λ fate. Answers old (Some fate) new) e stop in
@@ -76,7 +76,7 @@ not-broken fate old new size going room stop more e =
     let written = ap length broke.written ∙ length-append old.written put in
     absurd (omega (arith, long, whole, parts, written, room, more e))
 
--- how much is written, where nothing stands behind the buffer
+-- the front of the buffer has as many bytes as the sink counts
 front-length : (sink : RoomySink) → length (take sink.len sink.room.now) ≡ sink.len
 front-length sink = length-take-le sink.len sink.room.now sink.within
 

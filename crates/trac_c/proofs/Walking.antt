@@ -88,7 +88,7 @@ module _ {M : Type 1} {𝓤 : Ura M} (𝓛 : Logic 𝓤) where
       via 𝓤 _ (mono_l 𝓤 P (said 𝓛 T.signature y.0.0 y.0.1 (sp y.0.0) (tells y.0.0) y.0.3 (λ us. wand 𝓤 P (Q us)) y.0.4 (λ are. wand_i 𝓤 _ P _ (walk y.0.0 y.0.1 y.0.3 y.1 are))))
       (via 𝓤 _ (comm∗ 𝓤 (wand 𝓤 P (Q y.0.4)) P) (apply∗ 𝓤 P (Q y.0.4))))
 
-  -- the same where what is asked is a machine at the place that the first parameter points to
+  -- a function of C that asks for a machine at the place that its first parameter points to
   module _ (n : ℕ) (ss : List (Slot n)) (ks : Kepts ss) (res : Slot n) where
     abbrev pub Holding : Ended
     Holding = record { signature = record { lifetimes = n; outlives = []; params = plain (λ κs. RawPtr) ∷ ss; result = res }; kept = (yes, ks) }

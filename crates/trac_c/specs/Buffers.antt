@@ -7,13 +7,13 @@ laid [] room = room
 laid (x ∷ xs) [] = []
 laid (x ∷ xs) (y ∷ room) = x ∷ laid xs room
 
--- the same from a place on
+-- items over a buffer from a place on, as many as fit, and all else of it as it was
 abbrev pub laid_from : {A : Type 0} → ℕ → List A → List A → List A
 laid_from zero xs room = laid xs room
 laid_from (suc n) xs [] = []
 laid_from (suc n) xs (y ∷ room) = y ∷ laid_from n xs room
 
--- an answer tells how many items there are, and the buffer holds what fits of them
+-- `answer` is how many `items` there are, and the buffer `old` has become `new`, with what fits of them at its front
 pub record Lays (items : List ℕ) (answer : ℕ) (old new : List ℕ) : Type 0 where
   pub length : answer ≡ length items
   pub laid : new ≡ laid items old

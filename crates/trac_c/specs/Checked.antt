@@ -14,7 +14,8 @@ use Rattle.trac_c.specs.declared.report.TracReport.{TracReport}
 abbrev pub no_memory : TracReport
 no_memory = record { fate = 10; peak = 0; steps = 0; written = 0; consumed = 0; wanted = 0 }
 
--- in numbers, the report of a run in so many cells with this allowance, whose lines stand at the front of a buffer
+-- `told` gives `report` in numbers, of a check in `room` cells with at most `allowance` steps; as many bytes of
+-- `lines` as fit stand at the front of the buffer
 pub record Finds (room allowance : ℕ) (lines old_buffer buffer : Text) (told : TracReport) (report : Report)
     : Type 0 where
   pub fate : told.fate ≡ number report.fate
@@ -25,20 +26,20 @@ pub record Finds (room allowance : ℕ) (lines old_buffer buffer : Text) (told :
   pub written : told.written ≡ min (length lines) (length old_buffer)
   pub consumed : told.consumed ≡ 0
 
--- a run over the script was watched, step by step, with its lists in lent memory: it defined forms of these names,
--- this was found, and so it ended
+-- a run of `script` was watched step by step, with the lists of the check in lent memory: it defined forms of `names`,
+-- what looks suspicious in it is `found`, and `report` tells how it ended
 abbrev pub IsWatched : (room allowance : ℕ) → Text → (names : List Text) → Found → Report → Type 0
 IsWatched room allowance script names found report = (left : Stream) ×
     WatchesRun Lists script room allowance (record { bytes = script; ended = false }) left names found report
 
--- the report tells what was found in such a run
+-- `told` reports a run of `script` that was watched, and the buffer has the lines on what was found
 abbrev pub Findings : (room allowance : ℕ) → (script old_buffer buffer : Text) → TracReport → Type 0
 Findings room allowance script old_buffer buffer told =
     (names : List Text) × ((found : Found) × ((report : Report)
     × (IsWatched room allowance script names found report
     × Finds room allowance (lines_of script names found report) old_buffer buffer told report)))
 
--- the same, or the memory ran out, and the buffer stays as it is
+-- `told` reports a run of `script` that was watched; or the lent memory ran out, and the buffer stays as it is
 abbrev pub Checked : (room allowance : ℕ) → (script old_buffer buffer : Text) → TracReport → Type 0
 Checked room allowance script old_buffer buffer told =
     ((told ≡ no_memory) × (buffer ≡ old_buffer)) ⊎ Findings room allowance script old_buffer buffer told

@@ -23,7 +23,7 @@ machine_bytes = type_size (Machine.the_row static_lft)
 abbrev pub machine_room : Ptr → Fml
 machine_room place = room_at (Machine.the_row static_lft) place
 
--- there is room for so many cells
+-- there is room for `cells` cells at `block`
 abbrev pub cells_room : ℕ → Ptr → Fml
 cells_room cells block = room_at (Array Cell.the_row cells) block
 

@@ -32,8 +32,8 @@ course_of room allowance script left printed =
       after = printed;
     }
 
--- in numbers, the report of a run in so many cells with this allowance,
--- whose output stands at the front of a buffer
+-- `told` gives `report` in numbers, of a run in `room` cells with at most `allowance` steps; its output
+-- stands at the front of the buffer, and `left` is what it left of the script
 pub record TellsRun (room allowance : ℕ) (script buffer : List ℕ) (told : TracReport)
     (left : List ℕ) (report : Report) : Type 0 where
   pub reports :
@@ -45,7 +45,7 @@ pub record TellsRun (room allowance : ℕ) (script buffer : List ℕ) (told : Tr
   pub consumed : told.consumed ≡ length script - length left
   pub wanted : told.wanted ≡ 0
 
--- the report tells a run
+-- `told` reports a run of `script`, whose output stands at the front of the buffer
 abbrev pub Ran : (room allowance : ℕ) → (script buffer : List ℕ) → TracReport → Type 0
 Ran room allowance script buffer told =
     (left : List ℕ) × ((report : Report) ×

@@ -21,19 +21,19 @@ use Rattle.trac_c.specs.declared.report.TracReport.{TracReport}
 use Rattle.trac_c.specs.declared.turn.Turn.{Turn}
 use Rattle.trac_c.specs.declared.turn.Turn.TheVariants.{Went, Waits, Full, Over}
 
--- a step that reads so would read more than these bytes: a string that its meta character doesn't
--- end yet, as long as the cells could still hold it, or a byte where there is none
+-- whether a step of `m` that awaits this needs more than `bytes`: a string that no meta character
+-- ends yet, as long as the cells could still hold it, or a byte where there is none
 abbrev pub is_short : Awaits → MachineState → Text → Bool
 is_short Nothing m bytes = false
 is_short AwaitsText m bytes =
     not (has_byte m.memory.meta bytes) && nat_le (length bytes + size m.memory) (m.room + 1)
 is_short Byte m bytes = nat_eq (length bytes) 0
 
--- the next step reads more than these bytes, and more may come
+-- whether the next step of `m` needs more than `bytes`, and the input goes on behind them
 abbrev pub waits_for_input : Bool → MachineState → Text → Bool
 waits_for_input ended m bytes = not ended && is_short (awaited (next_function m)) m bytes
 
--- what is waited for may come: with the meta character behind these bytes the next step fits the
+-- waiting for input may end: with the meta character behind `bytes` the next step of `m` fits the
 -- room, whatever was printed
 abbrev pub MayGetMore : MachineState → Text → Type 0
 MayGetMore m bytes =
@@ -58,7 +58,7 @@ TurnsTo ended old (Over fate) new =
     (waits_for_input ended old.machine old.source.bytes ≡ false)
     × (NoDeviceFailed fate × Answers old (Some fate) new)
 
--- so many steps of a turn lead from one moment to another
+-- n steps of a turn lead from moment `old` to moment `new`
 abbrev pub Goes : Bool → ℕ → Moment → Moment → Type 0
 Goes ended zero old new = new ≡ old
 Goes ended (suc n) old new =
@@ -68,13 +68,14 @@ Goes ended (suc n) old new =
 abbrev pub followed_by : Text → Moment → Moment
 followed_by more m = record m { source = record m.source { bytes = m.source.bytes ++ more } }
 
--- so many steps lead from one moment to another with any more bytes behind those of the source too,
--- which stay behind those that are left; whether the input then ends or not
+-- n steps of a turn lead from `old` to `new` also if any more bytes stand behind those of the source;
+-- these bytes stay behind what is left, whether the input then ends or not
 abbrev pub GoesWithMore : ℕ → Moment → Moment → Type 0
 GoesWithMore n old new =
     (more : Text) (ended : Bool) → Goes ended n (followed_by more old) (followed_by more new)
 
--- what a turn ends with: its steps are used up; or what is no step that was done
+-- a turn of at most `most` steps ends after `done` of them: no step is left to it, or the next one
+-- waits, lacks room or ends the run
 abbrev pub EndsTurn : Bool → (most done : ℕ) → Moment → Turn → Moment → Type 0
 EndsTurn ended most done before Went new = (done ≡ most) × (new ≡ before)
 EndsTurn ended most done before Waits new = (done < most) × TurnsTo ended before Waits new
@@ -83,7 +84,7 @@ EndsTurn ended most done before (Full printed) new =
 EndsTurn ended most done before (Over fate) new =
     (done < most) × TurnsTo ended before (Over fate) new
 
--- so many steps of a turn are done, and then comes what it ends with
+-- a turn of at most `most` steps makes `done` of them from `old` to `before`, and ends with `last` at `new`
 pub record Turned (ended : Bool) (most : ℕ) (old : Moment) (last : Turn) (new : Moment)
     (done : ℕ) (before : Moment) : Type 0 where
   pub goes : Goes ended done old before
@@ -101,7 +102,7 @@ written_to sink = take sink.len sink.room.now ++ listed sink.behind
 abbrev pub stands : MachineState → GivenSource → RoomySink → Moment
 stands m source sink = moment m (stream_in source.slice) (written_to sink)
 
--- the next step prints so many bytes, whatever the input, and in the sink is no room for them
+-- the next step of `m` prints `printed` bytes, whatever the input, and the sink has no room for them
 abbrev pub LacksRoom : ℕ → MachineState → RoomySink → Type 0
 LacksRoom printed m sink =
     (length sink.room.now < sink.len + printed)
@@ -121,8 +122,8 @@ wanted_by Went = 0
 wanted_by Waits = 0
 wanted_by (Over fate) = 0
 
--- in numbers, a turn over this input, whose output stands at the front of a buffer. Where the input
--- goes on behind these bytes, the steps that were done are those over all of it
+-- `told` reports in numbers a turn over `input`, which ends with `last` and whose output stands at the
+-- front of the buffer. If the input goes on behind these bytes, a turn over all of it makes these steps too
 pub record TellsTurn (ended : Bool) (most : ℕ) (input buffer : Text) (old new : MachineState)
     (told : TracReport) (last : Turn) (left : Stream) : Type 0 where
   pub turned :
@@ -154,7 +155,7 @@ TurnOf ended most input buffer old new told =
 abbrev pub is_ended : ℕ → Bool
 is_ended flag = not (nat_eq flag 0)
 
--- what a turn ends with that may make so many steps, where the run is over with this fate
+-- what a turn of at most `most` steps ends with if the run was over before it with this fate
 abbrev pub last_over : (most : ℕ) → Fate → Turn
 last_over zero fate = Went
 last_over (suc n) fate = Over fate
@@ -171,8 +172,8 @@ told_again most fate m =
       wanted = 0;
     }
 
--- a turn of a machine whose run is not over; one whose run is over
--- stays as it is, and its fate is told again
+-- a machine whose run is not over takes a turn; one whose run is over stays as it is, and `told` gives
+-- its fate again
 pub record TurnedOrOver (ended : Bool) (most : ℕ) (input buffer : Text) (old : MachineState)
     (told : TracReport) (new : MachineState) : Type 0 where
   pub turn : old.fate ≡ None → TurnOf ended most input buffer old new told

@@ -17,9 +17,9 @@ use trac_lent::{Units, arena_over};
 
 /// Runs a script as `trac_engine_run` does, and puts the lines on what is suspicious in it to the front of `to`, as
 /// `trac_trace --warn` prints them: `wanted` bytes, of which `written` fit. What the script prints is not kept, and
-/// `consumed` is 0. The lists that this takes stand in the `units` units of 16 bytes at `memory`, which are aligned to
-/// 16 and aren't the caller's again. The answer is 10 where they are too few, and then `to` stays as it is. More than
-/// 16,777,216 cells are refused.
+/// `consumed` is 0. The lists of the check stand in the `units` units of 16 bytes at `memory`, which are aligned to
+/// 16 and aren't the caller's again. If they are too few, `fate` is 10, and `to` stays as it is. More than 16,777,216
+/// cells are refused: then `fate` is 9, and nothing is touched.
 #[unsafe(no_mangle)]
 pub unsafe extern "C" fn trac_engine_check(
     block: *mut Cell,
@@ -49,7 +49,7 @@ pub unsafe extern "C" fn trac_engine_check(
     )
 }
 
-/// Checks a script in a block, and in memory of `count` units.
+/// The report on a script that is checked in a block, and in memory of `count` units.
 fn check_over(
     block: &mut [Cell],
     steps: u64,
@@ -67,7 +67,8 @@ fn check_over(
     }
 }
 
-/// Does so. Fails only if the memory runs out, and then the buffer stays as it is.
+/// Checks a script in a block, and in memory of `count` units. Fails only if that memory runs out, and then `to`
+/// stays as it is.
 fn findings_of(
     block: &mut [Cell],
     steps: u64,
@@ -97,7 +98,7 @@ fn findings_of(
     })
 }
 
-/// Puts bytes to the front of a buffer, as many as fit, and gives how many these are.
+/// Puts bytes to the front of a buffer, as many as fit, and gives how many fit.
 fn lay(bytes: &[u8], room: &mut [u8]) -> usize
     ensures count { result ≡ min (length bytes.now) (length room.old) }
     ensures laid { room.new ≡ laid bytes.now room.old }

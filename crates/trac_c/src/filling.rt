@@ -14,8 +14,8 @@ pub(crate) fn put<T: Copy>(item: T, place: usize, room: &mut [T])
     }
 }
 
-/// Puts the characters of a text to a place of a buffer, as far as that reaches, and gives how many
-/// these are.
+/// Puts the characters of a text to a place of a buffer, as far as that reaches, and gives how many it
+/// put.
 pub(crate) fn put_characters(text: &Characters<'_>, place: usize, room: &mut [u8]) -> usize
     requires { place ≤ length room.old }
     ensures put { take (place + result) room.new ≡

@@ -20,8 +20,8 @@ fn form_at<'m>(machine: &'m Machine<'static>, k: usize) -> Option<StoredForm<'m>
     machine.form(k as u32)
 }
 
-/// Has the form at place `k` found without a walk over those before it: forms that are shown in turn
-/// cost one walk in all.
+/// Makes the machine find the form at place `k` without a walk over the forms before it: forms that are shown in
+/// turn cost one walk in all.
 fn turn_to(machine: &mut Machine<'static>, k: usize)
     ensures { machine.new ≡ machine.old }
 {

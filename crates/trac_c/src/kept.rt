@@ -43,8 +43,9 @@ pub unsafe extern "C" fn trac_engine_open(
     0
 }
 
-/// A turn of the machine at a place: steps, at most `most`, over these bytes of input, behind which
-/// the input ends where `ended` is not 0. What is printed goes to the front of `output`.
+/// Has the machine at a place take a turn: at most `most` steps over these bytes of input, behind which the
+/// input ends if `ended` is not 0. What is printed goes to the front of `output`. The turn also ends before a
+/// step that waits for input, or that prints more bytes than `output` has room for; `fate` says which.
 #[unsafe(no_mangle)]
 pub unsafe extern "C" fn trac_engine_turn(
     machine: *mut u64,
@@ -78,7 +79,7 @@ pub unsafe extern "C" fn trac_engine_again(machine: *mut u64, steps: u64)
     begin_again(&mut *(machine as *mut Machine<'static>), steps)
 }
 
-/// Does so with a machine that is lent.
+/// Clears both strings of a machine and begins a new run that may make `steps` steps.
 fn begin_again(machine: &mut Machine<'static>, steps: u64)
     ensures { machine.new ≡ begun_again steps machine.old }
 {
@@ -96,7 +97,7 @@ pub unsafe extern "C" fn trac_engine_take_peak(machine: *mut u64) -> u32
     take_peak(&mut *(machine as *mut Machine<'static>))
 }
 
-/// Does so with a machine that is lent.
+/// The peak of a machine, in cells, which then counts from 0 again.
 fn take_peak(machine: &mut Machine<'static>) -> u32
     ensures { (result ≡ machine.old.peak) × (machine.new ≡ record machine.old { peak = 0 }) }
 {

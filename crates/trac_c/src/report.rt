@@ -15,19 +15,20 @@ pub(crate) const NO_MEMORY: u32 = 10;
 #[repr(C)]
 #[derive(Drop)]
 pub struct TracReport {
-    /// How it ended: the number of a fate, 9 where the number of cells was refused, or 10 where the memory of a
-    /// check ran out.
+    /// How it ended: the number of a fate, 9 if the number of cells was refused, or 10 if the memory of a check ran
+    /// out. A turn after which the run goes on has 0 if its steps are used up, 7 if it waits for input, and 8 if
+    /// it waits for room in the output.
     pub fate: u32,
     /// The greatest need of a step, in cells.
     pub peak: u32,
-    /// The steps done.
+    /// The steps that the run has done so far.
     pub steps: u64,
     /// The bytes of the output that were written, from its front.
     pub written: usize,
-    /// The bytes of the script that were consumed, from its front.
+    /// The bytes of the script, or of the input of a turn, that were consumed, from their front.
     pub consumed: usize,
-    /// The bytes that the next step prints, where it waits for room in the output. After a check those of all
-    /// lines.
+    /// How many bytes the next step prints, if it waits for room in the output. After a check, how many bytes all
+    /// lines have.
     pub wanted: usize,
 }
 

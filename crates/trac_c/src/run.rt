@@ -12,9 +12,9 @@ use crate::filling::FillingSink;
 use crate::report::{TracReport, number, refused};
 use trac_core::{Cell, Machine, SliceSource};
 
-/// Runs a script in a block of `cells` cells, which is the caller's again afterwards. What it
-/// prints goes to the front of `output`. More than 16,777,216 cells are refused, and then nothing
-/// is touched.
+/// Runs a script in a block of `cells` cells, which is the caller's again afterwards, with at most `steps`
+/// steps. What the script prints goes to the front of `output`; if there is no room for it, the run
+/// ends by a failed output. More than 16,777,216 cells are refused: then `fate` is 9, and nothing is touched.
 #[unsafe(no_mangle)]
 pub unsafe extern "C" fn trac_engine_run(
     block: *mut Cell,

@@ -25,7 +25,8 @@ pub(crate) enum Turn {
     Over(Fate),
 }
 
-/// A turn: at most `most` steps over these bytes, behind which the input ends where `ended` is not 0.
+/// Has a machine take a turn: at most `most` steps over the bytes of `input`, behind which the input ends if `ended`
+/// is not 0.
 pub(crate) fn take_turn(
     machine: &mut Machine<'static>,
     input: &[u8],
@@ -49,7 +50,7 @@ pub(crate) fn take_turn(
     }
 }
 
-/// How many bytes are wanted after what a turn ended with.
+/// How many bytes of room the next step wants, by what a turn ended with.
 fn wanted(last: Turn) -> usize
     ensures { result ≡ wanted_by last }
 {
@@ -72,7 +73,7 @@ fn turn_number(last: Turn) -> u32
 }
 
 /// Makes at most `most` steps: those that need no device as fast as a run does, and each other one by
-/// itself. Went: all of them were done.
+/// itself. `Went` says that all of them were done.
 fn go_on(
     machine: &mut Machine,
     source: &mut GivenSource,
@@ -109,7 +110,7 @@ fn go_on(
     Turn::Went
 }
 
-/// A step, which performs this function, unless it waits for input or prints more than there is room
+/// Makes the next step, which performs `function`, unless it waits for input or prints more than there is room
 /// for.
 fn step_on(
     machine: &mut Machine,
@@ -163,11 +164,11 @@ fn waits(machine: &Machine, function: Option<Function>, bytes: &[u8]) -> bool
     }
 }
 
-/// How many of the last bytes are looked at first.
+/// How many of the last bytes `has_byte` looks at first.
 const NEAR: usize = 64;
 
-/// Whether a byte stands among these. The last ones are looked at first: a caller that reads up to the
-/// byte gives no more than what follows it in one read.
+/// Whether `byte` stands among `bytes`. The last ones are looked at first: a caller that reads up to that byte
+/// gives no more behind it than one read does.
 fn has_byte(byte: u8, bytes: &[u8]) -> bool
     ensures { result ≡ has_byte byte bytes.now }
 {

@@ -17,7 +17,8 @@ use Rattle.trac_checker.specs.WatchedRuns.{WatchedSoFar, Watches, WatchesRun, Wa
 abbrev pub so_far : {A : Type 0} → Moment → Watch A → FoundSoFar → WatchedSoFar A
 so_far at watch found = record { at = at; watch = watch; found = found }
 
--- the run of the definition led here and was watched so
+-- the definition's run led from `start` to the moment `at`, and was watched: the watch is then `watch`, and `found` is
+-- what was found
 pub record IsWatched {A : Type 0} (input : Text) (start : MachineState) (bytes : Stream) (at : Moment) (watch : Watch A) (found : FoundSoFar) : Type 0 where
   pub first : Watch A
   pub fresh : IsFresh first
@@ -44,7 +45,7 @@ watched-first input room allowance bytes m written watch found fresh m_is writte
     (subst (IsWatched input start bytes (moment start bytes []) watch) (sym found_is) (watched-none input start bytes watch fresh)))
 
 module _ {A : Type 0} (input : Text) (start : MachineState) (bytes : Stream) (old new : Moment) (watch told kept : Watch A) (found more : FoundSoFar) (room_is : old.machine.room ≡ start.room) (so : IsWatched input start bytes old watch found) (watches : Watches input old.machine new.machine watch told) (keeps : KeepsRun told kept) (finds : more ≡ with_all (reverse (map said told.warnings.items)) found) where
-  -- one step more
+  -- one step more was watched, and the run goes on
   pub watched-more : (taken : Text) → old.source.bytes ≡ taken ++ new.source.bytes → GoesOn old new → IsWatched input start bytes new kept more
   watched-more taken took goes_on =
       record {

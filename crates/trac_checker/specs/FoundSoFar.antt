@@ -30,16 +30,16 @@ pub record FoundSoFar : Type 0 where
 abbrev pub nothing_found : FoundSoFar
 nothing_found = record { counts = []; missing = [] }
 
--- whether it is said that no form has a name, and that was said of the name before
+-- whether `s` says that no form has a name, and that was said of the name before
 abbrev pub is_said_again : Said → List Text → Bool
 is_said_again s missing = is_no_form s.suspicion && list_any (is_at (slice_cmp nat_cmp s.text)) missing
 
--- what was found, with this once more, unless it is said again of a name that no form has
+-- the counts with `s` once more, unless `s` says again that no form has a name
 abbrev pub counts_with : (is_again : Bool) → Said → Found → Found
 counts_with true s counts = counts
 counts_with false s counts = insert_entry said_cmp counts s (once_more (lookup (is_at (said_cmp s)) counts))
 
--- the names, with this one, if it is said that no form has it
+-- the names of which it was said that no form has them, with `name` if that is said of it
 abbrev pub missing_with : (is_no_form : Bool) → Text → List Text → List Text
 missing_with true name missing = with_text name missing
 missing_with false name missing = missing
@@ -51,7 +51,7 @@ with_said s old = record {
   missing = missing_with (is_no_form s.suspicion) s.text old.missing;
 }
 
--- the same with what each of these says, one after another
+-- what was found, with what each of several warnings says, one after another
 abbrev pub with_all : List Said → FoundSoFar → FoundSoFar
 with_all [] old = old
 with_all (s ∷ more) old = with_all more (with_said s old)
@@ -60,6 +60,6 @@ with_all (s ∷ more) old = with_all more (with_said s old)
 abbrev pub found_in_script : Text → FoundSoFar
 found_in_script script = with_all (script_warnings script) nothing_found
 
--- what these findings say
+-- what was found, as `findings` holds it
 abbrev pub found_in : {A : Type 0} → Findings A → FoundSoFar
 found_in findings = record { counts = found_of findings.counts.entries; missing = texts_of findings.missing }

@@ -22,25 +22,25 @@ column_of_value column form =
     codes "in the value of " ++ shown_text form ++ codes ", column "
     ++ decimal (min (column + 1) (2 ^ 64 - 1)) ++ codes ": "
 
--- the place in the value of a form, where a warning is in one
+-- the words for a place in the value of a form; null for a warning on the input itself
 abbrev pub value_in : Option ℕ → ℕ → List ℕ → List ℕ
 value_in None column form = []
 value_in (Some number) column form = column_of_value column form
 
--- the place in the value of a form that an origin tells
+-- the words for the place in the value of a form at which an origin is; null for an origin in the input
 abbrev pub value_text : Origin → List ℕ → List ℕ
 value_text origin form = value_in origin.form origin.column form
 
--- of how many characters it is, where it is of some
+-- the number of characters that a warning counts; null where it counts none
 abbrev pub count_text : ℕ → List ℕ
 count_text count = if count == 0 then [] else decimal count
 
--- how often it was given, where that is more than once
+-- how often a warning was given; null where that was once
 abbrev pub times_text : ℕ → List ℕ
 times_text times =
     if nat_lt times 2 then [] else (codes " (" ++ decimal times ++ codes " times)")
 
--- what is said: the sentence, the name or the text, and of how many characters it is
+-- the words of a warning: the sentence, the name or the text, and the number of characters
 abbrev pub said_text : Said → List ℕ
 said_text s = sentence_of s.suspicion ++ shown_text s.text ++ count_text s.count
 
@@ -50,7 +50,7 @@ warning_text s place form times =
     place_text place ++ codes ": " ++ value_text s.origin form ++ said_text s
     ++ times_text times ++ codes "\n"
 
--- the null name where there is none
+-- a name, null where there is none
 abbrev pub name_in : Option Text → Text
 name_in None = []
 name_in (Some name) = name
@@ -60,7 +60,7 @@ abbrev pub form_named : List Text → Option ℕ → Text
 form_named names None = []
 form_named names (Some number) = name_in (slice_get names number)
 
--- the line of a warning that was given so many times, behind a text, with its place in the input
+-- the line behind `head` of a warning and of how often it was given, with its place in `input`
 abbrev pub warning_line : List ℕ → List ℕ → List Text → Said × ℕ → List ℕ
 warning_line head input names found =
     head ++ warning_text found.0 (behind_text first_place (take found.0.origin.offset input))
@@ -78,20 +78,20 @@ names_of names = map (λ name. name.items) names
 abbrev pub ended : Report → List ℕ
 ended report = end_text report.fate report.steps report.peak
 
--- the same, where it ended by a fault
+-- the line on how a run ended, if it ended by a fault; else null
 abbrev pub fault_end : Bool → Report → List ℕ
 fault_end is_fault report = if is_fault then ended report else []
 
--- the line of a file of this name with so many warnings, and how its run ended
+-- the line on the file `name`: that it has `count` warnings, and how its run ended
 abbrev pub summary_text : List ℕ → ℕ → Report → List ℕ
 summary_text name count report =
     name ++ codes ": warnings " ++ decimal count ++ codes "; " ++ ended report
 
--- what was found in a script, and how often each
+-- what warnings on a script say, each with how often it was given
 abbrev pub Found : Type 0
 Found = List (Said × ℕ)
 
--- the lines of what was found in a script, by the names of forms, and that on a fault
+-- the lines on what was found in `script`, with the `names` of its forms, and the line on a fault, if there was one
 abbrev pub lines_of : Text → List Text → Found → Report → Text
 lines_of script names found report =
     flat_map (warning_line [] script names) found ++ fault_end (is_fault report.fate) report

@@ -36,25 +36,25 @@ pub record WatchedSoFar (A : Type 0) : Type 0 where
   pub watch : Watch A
   pub found : FoundSoFar
 
--- a step was watched, and what its warnings say was found, that of the last first
+-- a step was watched, and what its warnings say, that of the last first, was added to what was found
 pub record Finds {A : Type 0} (input : Text) (old new : WatchedSoFar A) : Type 0 where
   pub told : Watch A
   pub watches : Watches input old.at.machine new.at.machine old.watch told
   pub keeps : KeepsRun told new.watch
   pub finds : new.found ≡ with_all (reverse (map said told.warnings.items)) old.found
 
--- one step more was done, and it was watched
+-- one step from `old` to `new` was done and watched
 pub record WatchesStep {A : Type 0} (input : Text) (old new : WatchedSoFar A) : Type 0 where
   pub goes : GoesOn old.at new.at
   pub finds : Finds input old new
 
--- so many steps more
+-- n watched steps lead from `old` to `new`
 abbrev pub WatchesSteps : {A : Type 0} → Text → ℕ → (old new : WatchedSoFar A) → Type 0
 WatchesSteps input zero old new = new ≡ old
 WatchesSteps {A} input (suc n) old new =
     (middle : WatchedSoFar A) × (WatchesSteps input n old middle × WatchesStep input middle new)
 
--- the step with which the run was over, and how it ended
+-- the step that ended the run with `fate` was watched
 pub record WatchesLast {A : Type 0} (input : Text) (fate : Fate) (old new : WatchedSoFar A) : Type 0 where
   pub answers : Answers old.at (Some fate) new.at
   pub finds : Finds input old new
@@ -63,9 +63,9 @@ pub record WatchesLast {A : Type 0} (input : Text) (fate : Fate) (old new : Watc
 abbrev pub not_begun : {A : Type 0} → Text → Moment → Watch A → WatchedSoFar A
 not_begun input start watch = record { at = start; watch = watch; found = found_in_script input }
 
--- the definition's run over a source that gives these bytes, in this room and with this allowance, was watched;
--- the input is the script whose places are told, the names are those of the forms that were defined, and this
--- was found, in the run and in how the script is written
+-- the definition's run in `room` cells and with at most `allowance` steps, over a source with the bytes `old`, was
+-- watched: `input` is the script whose places are told, `names` are those of the forms that were defined, and `found`
+-- is what was found, in the run and in how the script is written
 pub record WatchesRun
     (A : Type 0) (input : Text) (room allowance : ℕ) (old new : Stream) (names : List Text) (found : Found)
     (report : Report)

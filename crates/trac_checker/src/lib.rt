@@ -1,5 +1,5 @@
 //! Runs that are watched from start to end, and the lines on what is suspicious in them. The form of these lines is
-//! this processor's own choice.
+//! this processor's own choice. If a function that adds lines fails, what the list then holds is unspecified.
 #![tactic(auto)]
 
 mod lines;

@@ -23,7 +23,7 @@ use trac_warnings::{Findings, Warning, Watch, look_at_script};
 pub struct WatchedRun<A: Allocator> {
     watch: Watch<A>,
     findings: Findings<A>,
-    /// How it ended, with its steps and its peak.
+    /// How the run ended, with its steps and its peak.
     pub report: Report,
 }
 
@@ -100,15 +100,15 @@ fn keep_warnings<A: Allocator + Copy>(
 }
 
 impl<A: Allocator + Copy> WatchedRun<A> {
-    /// How many warnings there are.
+    /// How many warnings there are, each counted once.
     pub fn len(&self) -> usize
         ensures { result ≡ length self.now.findings.counts.entries }
     {
         self.findings.len()
     }
 
-    /// Adds a line for each warning, behind a text, in the order of their places in the input.
-    /// Fails only if memory runs out.
+    /// Adds a line for each warning, which begins with `head`, in the order of their places in `input`, the whole
+    /// input. Fails only if memory runs out.
     pub fn push_warnings(
         &self,
         lines: &mut Vec<u8, A>,
@@ -128,7 +128,7 @@ impl<A: Allocator + Copy> WatchedRun<A> {
         Ok(())
     }
 
-    // Adds the line of a warning at this place, behind a text.
+    // Adds the line of a warning at this place, which begins with `head`.
     fn push_line(
         &self,
         lines: &mut Vec<u8, A>,

@@ -11,21 +11,21 @@ use Rattle.trac_core.specs.Performed.{needs_device}
 use Rattle.trac_core.specs.Attempts.{NoneFailed}
 use Rattle.trac_core.specs.Machine.{MachineState, moment, GoesOn, Answers, KeepsFormsAndMeta}
 
--- a step that needs no device leads from one machine to another, whatever its devices hold, and
--- leaves them so
+-- a step that needs no device leads from machine `old` to `new`, whatever the devices hold, and
+-- leaves the devices as they are
 pub record StepsAlone (old new : MachineState) : Type 0 where
   pub alone : needs_device old.memory ≡ false
   pub goes : (source : Stream) (written : Text) →
       GoesOn (moment old source written) (moment new source written)
   pub going : new.fate ≡ None
 
--- so many of them do, one after the other
+-- n steps that need no device lead from machine `old` to `new`
 abbrev pub GoesAlone : ℕ → MachineState → MachineState → Type 0
 GoesAlone zero old new = new ≡ old
 GoesAlone (suc n) old new =
     (middle : MachineState) × (GoesAlone n old middle × StepsAlone middle new)
 
--- a step that needs no device ends the run so, by no failure of a device and with steps left
+-- a step that needs no device ends the run with `fate`: no device failed, and a step was allowed
 pub record EndsAlone (old : MachineState) (fate : Fate) (new : MachineState) : Type 0 where
   pub alone : needs_device old.memory ≡ false
   pub ends : (source : Stream) (written : Text) →
@@ -33,24 +33,24 @@ pub record EndsAlone (old : MachineState) (fate : Fate) (new : MachineState) : T
   pub none_failed : NoneFailed (Some fate)
   pub keeps : KeepsFormsAndMeta old.memory new.memory
 
--- no step is allowed, or the next one needs a device
+-- a machine may do no step without a device: its allowance is used up, or the next step needs one
 abbrev pub NeedsMore : MachineState → Type 0
 NeedsMore m = (m.steps ≡ m.allowance) ⊎ (needs_device m.memory ≡ true)
 
--- why no more than so many steps are done: they are as many as are wanted, or the next one can't be
--- done alone; or it ended the run
+-- why steps without a device stop after `done`: these are as many as are wanted, or the next one needs
+-- a device or is not allowed, or it ended the run
 abbrev pub StopsAlone :
     (most done : ℕ) → (before : MachineState) → Option Fate → (new : MachineState) → Type 0
 StopsAlone most done before None new = (new ≡ before) × ((done ≡ most) ⊎ NeedsMore before)
 StopsAlone most done before (Some fate) new = (done < most) × EndsAlone before fate new
 
--- so many steps that need no device are done, and then comes why they are no more
+-- `done` steps that need no device lead on from machine `old`, and there is a reason for no more of them
 abbrev pub Advanced : (most done : ℕ) → (old new : MachineState) → Type 0
 Advanced most done old new =
     (before : MachineState) × (GoesAlone done old before
     × StopsAlone most done before new.fate new)
 
--- the machine over these contents that went so far
+-- the machine over the contents `w` after the steps that `to` counts
 abbrev pub advanced_to : Contents → ℕ → Counters → Advance → MachineState
 advanced_to w meta at to =
     record {

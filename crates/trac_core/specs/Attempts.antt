@@ -40,8 +40,8 @@ abbrev pub scene : Contents → ℕ → Stream → Text → Scene
 scene contents meta source written =
     record { contents = contents; meta = meta; source = source; written = written }
 
--- for each machine that holds these contents and may step,
--- the answer is right, once the need is counted
+-- for each machine that holds the contents of `old` and may step,
+-- `answer` is right, once `needed` cells are counted
 abbrev pub Tried : Scene → Option Fate → ℕ → Scene → Type 0
 Tried old answer needed new =
     (m : MachineState) → m.room ≡ old.contents.room →
@@ -49,12 +49,12 @@ Tried old answer needed new =
     Answers (moment m old.source old.written) answer
     (moment (counted m (memory_of new.meta new.contents) needed answer) new.source new.written)
 
--- the state of these contents, with a meta character, an input and an output
+-- the state whose memory is the contents `w`, with a meta character, an input and an output
 abbrev pub state_over : Contents → ℕ → Input → Text → State
 state_over w meta input output = state_with (memory_of meta w) input output
 
--- a step that performs no call, and so reads and prints nothing, leads from contents to contents,
--- and needs so many cells
+-- a step that performs no call, and so reads and prints nothing, leads from the contents `old` to `new`
+-- and needs `needed` cells
 pub record Scans (old new : Contents) (needed : ℕ) : Type 0 where
   pub goes : (meta : ℕ) (input : Input) (output : Text) →
       step (state_over old meta input output) ≡ Next (state_over new meta input output)
@@ -64,7 +64,7 @@ pub record Scans (old new : Contents) (needed : ℕ) : Type 0 where
       reads_to_end (state_over old meta input output) ≡ false
   pub no_call : (meta : ℕ) → performs (memory_of meta old) ≡ None
 
--- such a step was done, or needs more than the room
+-- a step that performs no call was done, or it needs more than the room
 abbrev pub Scanned : Option Fate → ℕ → Contents → Contents → Type 0
 Scanned None needed old new = Scans old new needed
 Scanned (Some Workspace) needed old new =
@@ -75,25 +75,25 @@ Scanned (Some _) needed old new = ⊥
 abbrev pub NoneFailed : Option Fate → Type 0
 NoneFailed fate = (fate ≢ Some InputFailed) × (fate ≢ Some OutputFailed) × (fate ≢ Some Steps)
 
--- the innermost call, whose mark stands at the place, is performed by the right parenthesis that
--- active begins with; w has that parenthesis no more
+-- the innermost call, whose mark stands at `place`, is performed by the right parenthesis that
+-- the active string of `old` begins with; `w` has that parenthesis no more
 pub record ClosesCall (old w : Contents) (place : ℕ) : Type 0 where
   pub same : old ≡ record w { active = Byte 41 ∷ w.active }
   pub innermost : IsLastCall w.neutral place
 
--- a call of this function, or of none, is to be performed, whose mark stands at the place
+-- a call of `function`, or of none, is to be performed, and its mark stands at `place`
 pub record IsCall (w : Contents) (place : ℕ) (function : Option Function) : Type 0 where
   pub sound : IsSound w
   pub innermost : IsLastCall w.neutral place
   pub names : function_named (argument (arguments_at w.neutral place) 0) ≡ function
 
--- for each machine that is to perform this call, the answer is right
+-- for each machine that is to perform the call at `place`, `answer` is right, once `needed` cells are counted
 abbrev pub TriedCall : ℕ → Scene → Option Fate → ℕ → Scene → Type 0
 TriedCall place w answer needed new =
     (old : Contents) → ClosesCall old w.contents place →
     Tried (record w { contents = old }) answer needed new
 
--- the function of the call whose mark stands at the place
+-- the function of the call whose mark stands at a place
 abbrev pub function_at : List Cell → ℕ → Option Function
 function_at neutral place = function_named (argument (arguments_at neutral place) 0)
 
@@ -106,16 +106,16 @@ delivered Neutral true value place w =
 delivered Neutral false value place w =
     record w { neutral = take place w.neutral ++ flat_text value }
 
--- the same where the value stands in the neutral string from a place on, and the call's mark, whose
--- mode counts, at another
+-- the call whose mark stands at `place` leaves, and its value, which stands in the neutral string from
+-- `from` on, is delivered by the mode of that mark
 abbrev pub value_delivered : (place from : ℕ) → Contents → Contents
 value_delivered place from w =
     delivered (mode_at w.neutral place) false (text_of_cells (drop from w.neutral)) place
     (record w { neutral = take from w.neutral })
 
--- what a function's answer comes to: the call whose mark stands at the place leaves, and the value,
--- which stands from another place on if it isn't placed already, is delivered; a step that isn't
--- done, or that ends the run, leaves all as it is
+-- what a function's answer comes to: the call whose mark stands at `place` leaves, and a value that
+-- stands at the end of the neutral string, from `from` on, is delivered; a step that isn't done, or
+-- that ends the run, leaves all as it is
 abbrev pub settled : CallResult → (place from : ℕ) → Contents → Contents
 settled Full place from w = w
 settled AtEnd place from w = value_delivered place from w
@@ -123,7 +123,7 @@ settled (InFront cells) place from w = record w { neutral = take place w.neutral
 settled (Null cells) place from w = record w { neutral = take place w.neutral }
 settled (Over fate) place from w = w
 
--- how the step ends
+-- what a step answers for what its function answered
 abbrev pub fate_after : CallResult → Option Fate
 fate_after Full = Some Workspace
 fate_after AtEnd = None
@@ -131,13 +131,13 @@ fate_after (InFront cells) = None
 fate_after (Null cells) = None
 fate_after (Over fate) = Some fate
 
--- no device failed, and the allowance was not used up
+-- a function's answer says neither that a device failed nor that the allowance is used up
 abbrev pub EndsQuietly : CallResult → Type 0
 EndsQuietly made =
     (input_failures None (fate_after made) ≡ 0) × ((output_failures None (fate_after made) ≡ 0)
     × (made ≢ Over Steps))
 
--- the cells that it needed, where so many were used before and the value stands from a place on
+-- the cells that a call needs, which used `before` cells and whose value stands from `from` on
 abbrev pub need_after : CallResult → (before from : ℕ) → Contents → ℕ
 need_after Full before from w = 0
 need_after AtEnd before from w = before + (length w.neutral - from)
@@ -145,18 +145,18 @@ need_after (InFront cells) before from w = before + cells
 need_after (Null cells) before from w = before + cells
 need_after (Over fate) before from w = used w
 
--- a text stands in neutral from a place on, and with the cells that were used before it fits
+-- a text stands in the neutral string from `from` on, and fits beside the `before` cells in use
 pub record IsValueFrom (before from : ℕ) (w : Contents) : Type 0 where
   pub within : from ≤ length w.neutral
   pub text : All IsByte (drop from w.neutral)
   pub fits : before + (length w.neutral - from) ≤ w.room
 
--- what was built fits, and neutral is no shorter than a place
+-- the `cells` cells that were built fit beside the `before` cells in use; the neutral string reaches to `from`
 pub record IsBuilt (before from cells : ℕ) (w : Contents) : Type 0 where
   pub within : from ≤ length w.neutral
   pub fits : before + cells ≤ w.room
 
--- what the answer says of a value or of what was built stands there
+-- the value or the cells that a function's answer tells are there, and fit
 abbrev pub Stands : CallResult → (before from : ℕ) → Contents → Type 0
 Stands Full before from w = ⊤
 Stands AtEnd before from w = IsValueFrom before from w
@@ -164,7 +164,7 @@ Stands (InFront cells) before from w = IsBuilt before from cells w
 Stands (Null cells) before from w = IsBuilt before from cells w
 Stands (Over fate) before from w = ⊤
 
--- for each machine that is to perform this call, the function's answer comes to what is right
+-- for each machine that is to perform the call at `place`, the function's answer `made` comes to the right step
 abbrev pub AnswersCall : ℕ → Scene → CallResult → Scene → Type 0
 AnswersCall place old made new =
     let before = used old.contents in
@@ -172,33 +172,33 @@ AnswersCall place old made new =
     TriedCall place old (fate_after made) (need_after made before from new.contents)
     (record new { contents = settled made place from new.contents })
 
--- a call of this function is to be performed, whose mark stands at
--- the place, and these are its arguments, but for the name
+-- a call of `function` is to be performed, its mark stands at `place`,
+-- and `arguments` are its arguments behind the name
 pub record HasArguments (w : Contents) (place : ℕ) (function : Function) (arguments : Arguments)
     : Type 0 where
   pub call : IsCall w place (Some function)
   pub rest : texts w arguments ≡ drop 1 (arguments_at w.neutral place)
 
--- these bytes left the source, at most two more than the
--- free cells of a workspace with one cell more
+-- the bytes `taken` left the source, at most one more than the free cells
 pub record TakesFrom (w : Contents) (old new : Stream) (taken : Text) : Type 0 where
   pub consumed : old.bytes ≡ taken ++ new.bytes
   pub few : length taken + used w ≤ w.room + 1
 
--- these bytes left the source, at most two more than the free cells
+-- the bytes `taken` left the source, at most two more than the free cells
 pub record TakesAtMost (w : Contents) (old new : Stream) (taken : Text) : Type 0 where
   pub consumed : old.bytes ≡ taken ++ new.bytes
   pub few : length taken + used w ≤ w.room + 2
 
--- how a step that ends so and performs this function leaves its source: its bytes are known still,
--- one failure more is counted where that is the end, and it is as it was where nothing is read
+-- how a step that answers `fate` and performs `function` leaves its source: a source whose bytes can be
+-- told stays one, a failure is counted if `fate` tells it, and a step that reads nothing changes nothing
 abbrev pub LeavesSource : {S : Type 0} → (tells : S → Type 0) → (failures : S → ℕ) →
     Option Fate → Option Function → S → S → Type 0
 LeavesSource tells failures fate function old new =
     (tells old → tells new) × (failures new ≡ failures old + input_failures None fate)
     × (reads_input function ≡ false → new ≡ old)
 
--- and how its sink: what it was lent stays too, and unless it failed, what was put was sent on
+-- how a step that answers `fate` and performs `function` leaves its sink: what it was lent stays, a failure
+-- is counted if `fate` tells it, and unless it failed, what was put was sent on
 abbrev pub LeavesSink : {S L : Type 0} → (tells flushed : S → Type 0) → (written : S → Text) →
     (lent : S → L) → (failures : S → ℕ) → Option Fate → Option Function → S → S → Type 0
 LeavesSink tells flushed written lent failures fate function old new =

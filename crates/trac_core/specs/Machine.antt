@@ -55,7 +55,7 @@ ending text = record { text = text; fails = false }
 abbrev pub failing : Text → Input
 failing text = record { text = text; fails = true }
 
--- a state of these parts
+-- the state that has a memory, an input and an output
 abbrev pub state_with : Memory → Input → Text → State
 state_with memory input output = record { memory = memory; input = input; output = output }
 
@@ -63,16 +63,16 @@ state_with memory input output = record { memory = memory; input = input; output
 abbrev pub state_of : Moment → State
 state_of m = state_with m.machine.memory (ending m.source.bytes) m.written
 
--- the same with an input of these bytes and then a failure
+-- the state that a moment stands for if its source gives these bytes and then fails
 abbrev pub failing_state_of : Moment → Text → State
 failing_state_of m given = state_with m.machine.memory (failing given) m.written
 
--- one more step is allowed, and what it needs fits the room
+-- machine `m` may do one more step, and what the step from state `s` needs fits the room
 pub record MayStep (m : MachineState) (s : State) : Type 0 where
   pub allowed : m.steps < m.allowance
   pub fits : need s ≤ m.room
 
--- the machine has counted so many steps more, and a step that needed so many cells
+-- from `old` to `new` the machine counted `more` steps, and a step that needed `needed` cells
 pub record Counts (old new : MachineState) (more needed : ℕ) : Type 0 where
   pub steps : new.steps ≡ old.steps + more
   pub peak : new.peak ≡ max old.peak needed
@@ -101,7 +101,7 @@ pub record StopsAtInput (old new : Moment) (given : Text) : Type 0 where
   pub counts : Counts old.machine new.machine 0 (need (failing_state_of old given))
   pub written : new.written ≡ old.written
 
--- the sink failed: of what the step prints, put and rest, only put was written
+-- the sink failed: of what the step prints, `put` and `rest`, only `put` was written
 pub record StopsAtOutput (old new : Moment) (next : State) (put rest : Text) : Type 0 where
   pub may : MayStep old.machine (state_of old)
   pub goes : step (state_of old) ≡ Next next
@@ -127,7 +127,7 @@ pub record GoesOn (old new : Moment) : Type 0 where
   pub stays_ended : old.source.ended ≡ true → new.source.ended ≡ true
   pub read_all : reads_to_end (state_of old) ≡ true → new.source.ended ≡ true
 
--- what the answer of a step says, for a machine whose run is not over
+-- what a step's answer says of the moments before and after it, if the run was not over
 abbrev pub Answers : Moment → Option Fate → Moment → Type 0
 Answers old (Some Steps) new = StopsAtAllowance old new
 Answers old (Some Workspace) new = StopsAtRoom old new
@@ -138,7 +138,7 @@ Answers old (Some Halted) new = EndsRun Halted old new
 Answers old (Some InputEnded) new = EndsRun InputEnded old new
 Answers old None new = GoesOn old new
 
--- a step consumed these bytes of its source: at most two more than the free cells
+-- a step of `m` consumed the bytes `taken` of its source: at most two more than the free cells
 pub record Takes (m : MachineState) (old new : Stream) (taken : Text) : Type 0 where
   pub consumed : old.bytes ≡ taken ++ new.bytes
   pub few : length taken + size m.memory ≤ m.room + 2
@@ -179,7 +179,7 @@ pub record Course : Type 0 where
   pub before : Text
   pub after : Text
 
--- the report and what was written are those of a run
+-- `report`, and what was written in the course `c`, are those of the run `r`
 pub record IsReportOf (r : Run) (c : Course) (report : Report) : Type 0 where
   pub fate : report.fate ≡ r.fate
   pub steps : report.steps ≡ r.steps
@@ -191,14 +191,14 @@ pub record RanThrough (runs : Input → ℕ → Run) (c : Course) (report : Repo
   pub is_report : IsReportOf (runs (ending c.bytes) c.allowance) c report
   pub left : c.bytes_left ≡ (runs (ending c.bytes) c.allowance).left
 
--- the source failed after it gave some bytes: the run is that over these and then a failure
+-- the source failed after it gave the bytes `given`: the run is that over `given` and then a failure
 pub record RanToFailure (runs : Input → ℕ → Run) (c : Course) (report : Report) (given : Text)
     : Type 0 where
   pub consumed : c.bytes ≡ given ++ c.bytes_left
   pub is_report : IsReportOf (runs (failing given) c.allowance) c report
 
--- the sink failed in the step after those reported: of what
--- it prints, put and rest, only put was written
+-- the sink failed in the step after those that the report counts:
+-- of what that step prints, `put` and `rest`, only `put` was written
 pub record BrokeOff (runs : Input → ℕ → Run) (c : Course) (report : Report) (put rest : Text)
     : Type 0 where
   pub allowed : report.steps < c.allowance
@@ -211,8 +211,8 @@ pub record BrokeOff (runs : Input → ℕ → Run) (c : Course) (report : Report
   pub some : put ++ rest ≢ []
   pub written : c.after ≡ c.before ++ ((runs (ending c.bytes) report.steps).output ++ put)
 
--- what a report with this fate says, where these are the definition's runs, each over all bytes of
--- an input and with an allowance
+-- what a report with a given fate says, where `runs` gives the definition's run for each input and
+-- allowance
 abbrev pub ReportsOf : (Input → ℕ → Run) → Fate → Course → Report → Type 0
 ReportsOf runs Halted c report = RanThrough runs c report
 ReportsOf runs InputEnded c report = RanThrough runs c report
@@ -230,7 +230,7 @@ first_runs room input allowance = run room allowance (first input)
 abbrev pub Reports : Fate → Course → Report → Type 0
 Reports fate c report = ReportsOf (first_runs c.room) fate c report
 
--- a run after so many steps, the greatest of whose needs is the peak
+-- the run `r` counted on from `steps` steps before it, of whose needs `peak` is the greatest
 abbrev pub after_steps : (steps peak : ℕ) → Run → Run
 after_steps steps peak r = record r { steps = steps + r.steps; peak = max peak r.peak }
 
@@ -259,12 +259,12 @@ course m old_source old_written new_source new_written =
 abbrev pub KeepsFormsAndMeta : Memory → Memory → Type 0
 KeepsFormsAndMeta old new = (new.forms ≡ old.forms) × (new.meta ≡ old.meta)
 
--- the memory to which so many steps of the definition lead, or that before the step that ends them
+-- the memory after n steps of the definition, or before the step that ends the run earlier
 abbrev pub memory_after : ℕ → Memory → Input → Text → Memory
 memory_after n memory input output = (state_after n (state_with memory input output)).memory
 
--- what a run that ended so leaves of a memory, after so many steps: all that the definition's steps
--- come to, where the allowance was used up; else their forms and their meta character
+-- what a run with this fate leaves of the memory `old` after n steps: the whole memory after the
+-- definition's steps, if the allowance was used up; else the forms and the meta character of that memory
 abbrev pub LeavesMemory : Fate → Course → (old : Memory) → (done : ℕ) → (new : Memory) → Type 0
 LeavesMemory Halted c old n new =
     KeepsFormsAndMeta (memory_after n old (ending c.bytes) c.before) new
@@ -279,12 +279,12 @@ LeavesMemory InputFailed c old n new =
     (given : Text) × ((c.bytes ≡ given ++ c.bytes_left)
     × KeepsFormsAndMeta (memory_after n old (failing given) c.before) new)
 
--- the machine after a step that was done: one step more, and what it needed
+-- the machine after a step that was done: the step is counted, and what it needed
 abbrev pub one_step_on : Option Fate → Memory → ℕ → MachineState → MachineState
 one_step_on fate memory needed m =
     record m { memory = memory; steps = m.steps + 1; peak = max m.peak needed; fate = fate }
 
--- the machine after a step in which a device failed: it isn't counted, and what it needed is
+-- the machine after a step in which a device failed: the step isn't counted, but what it needed is
 abbrev pub broken_off : Option Fate → Memory → ℕ → MachineState → MachineState
 broken_off fate memory needed m =
     record m { memory = memory; peak = max m.peak needed; fate = fate }
@@ -299,7 +299,7 @@ counted m memory needed (Some OutputFailed) = broken_off (Some OutputFailed) mem
 counted m memory needed (Some Workspace) = record m { memory = memory; fate = Some Workspace }
 counted m memory needed (Some Steps) = record m { memory = memory; fate = Some Steps }
 
--- an answer that counts a step
+-- whether a step with this answer counts
 abbrev pub counts_as_step : Option Fate → Bool
 counts_as_step None = true
 counts_as_step (Some Halted) = true

@@ -5,7 +5,7 @@ use Rattle.trac_space.specs.Texts.{character_of}
 use Rattle.trac_language.specs.Text.{Text}
 use Rattle.trac_language.specs.Protected.{count, split_at_match}
 
--- the search has passed i characters without a match, and so many left parentheses are open
+-- the search has passed i characters without a match, and `depth` left parentheses are open there
 pub record IsAt (text : Text) (i depth : ℕ) : Type 0 where
   pub none : split_at_match [] text ≡ split_at_match (take i text) (drop i text)
   pub open_is : depth + count 41 (take i text) ≡ count 40 (take i text)
@@ -14,6 +14,6 @@ pub record IsAt (text : Text) (i depth : ℕ) : Type 0 where
 abbrev pub side_of : ℕ → ℕ
 side_of c = if c == 40 then 1 else (if c == 41 then 16 else 0)
 
--- the same of a cell's
+-- 1 for a cell with a left parenthesis, 16 for one with a right one, 0 for the rest
 abbrev pub side_in : Cell → ℕ
 side_in cell = side_of (character_of cell)

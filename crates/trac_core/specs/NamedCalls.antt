@@ -14,7 +14,7 @@ use Rattle.trac_core.specs.Performed.{performs, calls_device, needs_device}
 use Rattle.trac_core.specs.Machine.{KeepsFormsAndMeta}
 use Rattle.trac_core.specs.Attempts.{scene, Tried, function_at, NoneFailed}
 
--- these are the parts of the innermost call
+-- `call` has the parts of the innermost call
 pub record IsNamed (call : NamedCall) (w : Contents) : Type 0 where
   pub sound : IsSound w
   pub innermost : IsLastCall w.neutral call.place
@@ -24,7 +24,7 @@ pub record IsNamed (call : NamedCall) (w : Contents) : Type 0 where
       texts w call.arguments ≡ drop 1 (arguments_at w.neutral call.place)
   pub scanned : call.arguments.scanned ≡ is_active_mode (mode_at w.neutral call.place)
 
--- the call whose mark stands at the place needs no device
+-- the call whose mark stands at `place` needs no device
 abbrev pub IsAlone : Contents → ℕ → Type 0
 IsAlone w place = calls_device (function_at w.neutral place) (arguments_at w.neutral place) ≡ false
 
@@ -32,8 +32,8 @@ IsAlone w place = calls_device (function_at w.neutral place) (arguments_at w.neu
 abbrev pub StopsBefore : Option Function → Memory → Type 0
 StopsBefore function memory = (performs memory ≡ function) × (needs_device memory ≡ true)
 
--- the next step needs no device, and for each machine that holds these contents and may
--- step, and whatever its devices hold, the answer is right; it tells no failure of a device, and a
+-- the next step needs no device, and for each machine that holds the contents `old` and may
+-- step, and whatever its devices hold, `answer` is right; it tells no failure of a device, and a
 -- step that ends the run, or isn't done, leaves the forms and the meta character
 pub record TriedAlone (old : Contents) (meta : ℕ) (answer : Option Fate) (needed : ℕ)
     (new : Contents) (after : ℕ) : Type 0 where

@@ -9,7 +9,7 @@ use Rattle.trac_language.specs.Rule.{Rule, LoadIdling, DeleteLayout, AddProtecte
 use Rattle.trac_language.specs.Rule.{BeginArgument, BeginCall, EndCall, AddCharacter, rule}
 use Rattle.trac_language.specs.Step.{function_of}
 
--- the function of the innermost of these calls, if the rule performs it
+-- the function of the innermost of `calls`, if the rule performs that call
 abbrev pub performed_by : Rule → List OpenCall → Option Function
 performed_by (EndCall rest) [] = None
 performed_by (EndCall rest) (call ∷ outer) = function_of call
@@ -50,7 +50,7 @@ calls_device None arguments = false
 calls_device (Some PrintString) arguments = nat_lt 0 (length (argument arguments 1))
 calls_device (Some function) arguments = touches_device (Some function)
 
--- the same of the innermost of these calls, if the rule performs it
+-- whether the rule performs the innermost of `calls`, and that call needs a device
 abbrev pub needs_device_by : Rule → List OpenCall → Bool
 needs_device_by (EndCall rest) [] = false
 needs_device_by (EndCall rest) (call ∷ outer) = calls_device (function_of call) (arguments call)

@@ -11,14 +11,14 @@ use Rattle.trac_core.specs.declared.streaming.ReadEnd.TheVariants.{Meta, Ended, 
 abbrev pub Reads : ℕ → Contents → Contents → Text → Type 0
 Reads meta old new text = ReadsInto Appended meta old new text
 
--- the failures that the end of a text counts for
+-- how many failures of the source a text's end tells
 abbrev pub failures_of_read : ReadEnd → ℕ
 failures_of_read Failed = 1
 failures_of_read Meta = 0
 failures_of_read Ended = 0
 failures_of_read Full = 0
 
--- the source gave the text, and what followed it
+-- from `old` to `new` the source gave `text`, and then what the end of the reading says
 abbrev pub StreamsTo : ReadEnd → ℕ → Stream → Text → Stream → Type 0
 StreamsTo Meta meta old text new = (old.bytes ≡ text ++ meta ∷ new.bytes) × (old.ended ≡ false)
 StreamsTo Ended meta old text new = (old.bytes ≡ text) × (new.bytes ≡ []) × (new.ended ≡ true)

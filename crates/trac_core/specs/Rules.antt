@@ -8,8 +8,8 @@ use Rattle.trac_core.specs.declared.rules.ScanningRule.{ScanningRule}
 use Rattle.trac_core.specs.declared.rules.ScanningRule.TheVariants as row
 use Rattle.trac_core.specs.StepsInRow.{IsLayout, IsOrdinary}
 
--- the characters that follow this rule where they stand first; of a number sign's, where it opens
--- no call
+-- whether a character at the front of the active string is scanned by this rule; a number sign, if it
+-- opens no call
 abbrev pub IsFirstOf : ScanningRule → ℕ → Type 0
 IsFirstOf row.Idling c = ⊥
 IsFirstOf row.Layout c = IsLayout c
@@ -21,7 +21,7 @@ IsFirstOf row.NumberSign c = c ≡ 35
 IsFirstOf row.EndOfCall c = c ≡ 41
 IsFirstOf row.Character c = IsOrdinary c
 
--- so many characters open a call of this mode
+-- the first n characters of a text open a call of this mode
 abbrev pub Opens : Mode → ℕ → Text → Type 0
 Opens mode n text = (rule text ≡ BeginCall mode (drop n text)) × (n ≤ length text)
 

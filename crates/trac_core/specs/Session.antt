@@ -23,24 +23,24 @@ abbrev pub next_function : MachineState → Option Function
 next_function m =
     if is_none m.fate && nat_lt m.steps m.allowance then performs m.memory else None
 
--- what a step reads that performs the function
+-- what a step that performs the function reads
 abbrev pub awaited : Option Function → Awaits
 awaited None = Nothing
 awaited (Some ReadString) = TextAwaited
 awaited (Some ReadCharacter) = Byte
 awaited (Some _) = Nothing
 
--- what a call prints that has this meaning
+-- what a call of this meaning prints
 abbrev pub printed_in : Meaning → Text
 printed_in (Gives answer) = answer.printed
 printed_in (Ends fate) = []
 
--- the output after a step, null where it is an end
+-- the output after a step, null if the step ends the run
 abbrev pub output_after : Outcome → Text
 output_after (Next next) = next.output
 output_after (Over fate) = []
 
--- what a step prints over this input
+-- what a step from a memory prints, given an input
 abbrev pub step_prints : Memory → Input → Text
 step_prints memory input = output_after (step (state_with memory input []))
 
@@ -49,7 +49,7 @@ abbrev pub next_printed : MachineState → Input → Text
 next_printed m input =
     if is_none m.fate && nat_lt m.steps m.allowance then step_prints m.memory input else []
 
--- what the call prints whose mark stands at the place, over this input
+-- what the call whose mark stands at `place` prints, given an input
 abbrev pub call_prints : Contents → (place meta : ℕ) → Input → Text
 call_prints w place meta input =
     printed_in (meaning (function_at w.neutral place) (arguments_at w.neutral place)

@@ -25,7 +25,7 @@ use Rattle.trac_core.specs.Machine.{MachineState, state_with}
 abbrev pub is_special : ℕ → Bool
 is_special c = is_layout c || (c == 35) || (c == 40) || (c == 41) || (c == 44)
 
--- a character that has none
+-- a character that has no rule of its own
 abbrev pub IsOrdinary : ℕ → Type 0
 IsOrdinary c = is_special c ≡ false
 
@@ -33,7 +33,7 @@ IsOrdinary c = is_special c ≡ false
 abbrev pub kind_of : ℕ → ℕ
 kind_of c = if c == 44 then 1 else (if is_special c then 2 else 0)
 
--- the same of a cell's
+-- 1 for a cell with a comma, 2 for one with another character that has a rule of its own, 0 for the rest
 abbrev pub kind_in : Cell → ℕ
 kind_in cell = kind_of (character_of cell)
 
@@ -51,27 +51,27 @@ pub record Passes (old new : Memory) : Type 0 where
   pub no_larger : size new ≤ size old
   pub no_call : performs old ≡ None
 
--- so many of them, one after the other
+-- n steps that perform no call lead from memory `old` to `new`, none of them to a larger one
 abbrev pub PassesTimes : ℕ → Memory → Memory → Type 0
 PassesTimes zero old new = old ≡ new
 PassesTimes (suc n) old new = (middle : Memory) × (Passes old middle × PassesTimes n middle new)
 
--- so many of them lead from contents to contents, whatever the meta character
+-- n steps that perform no call lead from the contents `old` to `new`, whatever the meta character
 abbrev pub Advances : ℕ → Contents → Contents → Type 0
 Advances n old new = (meta : ℕ) → PassesTimes n (memory_of meta old) (memory_of meta new)
 
--- at least one of them and at most so many, each of which takes from the active string
+-- n steps that perform no call, at least one and at most `most`, shorten the active string
 pub record SomeSteps (n most : ℕ) (old new : Contents) : Type 0 where
   pub passes : Advances n old new
   pub some : 0 < n
   pub few : n ≤ most
   pub shorter : length new.active < length old.active
 
--- from this place on no comma mark stands in a neutral string
+-- no comma mark stands in a neutral string from a place on
 abbrev pub IsPlainFrom : ℕ → List Cell → Type 0
 IsPlainFrom place neutral = NoComma (drop place neutral)
 
--- whatever that place is, it is one still
+-- where no comma mark stood in the neutral string from a place on, none stands there still
 abbrev pub KeepsPlain : Contents → Contents → Type 0
 KeepsPlain old new =
     (place : ℕ) → IsPlainFrom place old.neutral → IsPlainFrom place new.neutral
@@ -84,8 +84,8 @@ AsksFor (EndOfCall call) w =
     (slice_get (text_of_cells w.active) 0 ≡ Some 41) × IsLastCall w.neutral call.place
     × IsPlainFrom call.plain w.neutral
 
--- what the rule that fits the beginning of the active string comes to: some of those steps, at most
--- so many, or none
+-- what the front of the active string comes to: at most `most` steps that perform no call, or none of
+-- them, since it asks for a call or for the idling procedure
 abbrev pub ComesTo : Result ℕ Pending → ℕ → Contents → Contents → Type 0
 ComesTo (Ok n) most old new = SomeSteps n most old new
 ComesTo (Err front) most old new = (new ≡ old) × AsksFor front old
@@ -104,17 +104,17 @@ idling_begun w =
       active = flat_text (codes "))");
     }
 
--- the peak after so many steps, of which the first needs this many cells and none needs more
+-- the peak after some steps, of which the first needs `needed` cells and none needs more
 abbrev pub peak_after : ℕ → ℕ → ℕ → ℕ
 peak_after zero needed peak = peak
 peak_after (suc n) needed peak = max peak needed
 
--- a machine after so many steps that lead to this memory
+-- the machine `m` after n steps that lead to `memory`
 abbrev pub passed : ℕ → Memory → MachineState → MachineState
 passed n memory m =
     record m { memory = memory; steps = m.steps + n; peak = peak_after n (size m.memory) m.peak }
 
--- a machine over these contents, whose run isn't over, with these counters
+-- a machine over the contents `w` with the counters `at`, whose run isn't over
 abbrev pub running : Contents → ℕ → Counters → MachineState
 running w meta at =
     record {

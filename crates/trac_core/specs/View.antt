@@ -30,7 +30,7 @@ row_of (BeginCall NeutralMode rest) = NeutralCall
 row_of (EndCall rest) = EndOfCall
 row_of (AddCharacter c rest) = if c == 35 then NumberSign else Character
 
--- how many characters a step by this rule drops of an active string that has so many, since a left
+-- how many of the n characters of an active string a step by this rule drops, since a left
 -- parenthesis has no match
 abbrev pub dropped : Rule → ℕ → ℕ
 dropped ClearActive n = n
@@ -43,7 +43,7 @@ taken_in_row ActiveCall = 2
 taken_in_row NeutralCall = 3
 taken_in_row _ = 1
 
--- how many characters a step by this rule takes of an active string that has so many
+-- how many of the n characters of an active string a step by this rule takes
 abbrev pub taken : Rule → ℕ → ℕ
 taken (AddProtected inside rest) n = length inside + 2
 taken ClearActive n = n
@@ -55,7 +55,8 @@ stops_before Idling = true
 stops_before EndOfCall = true
 stops_before _ = false
 
--- how many steps over an active string come before such a one, at most so many
+-- how many steps over an active string come before one that may perform a call or loads the idling
+-- procedure, at most as many as the first number
 unfoldable pub steps_before_call : ℕ → Text → ℕ
 steps_before_call zero active = 0
 steps_before_call (suc n) active =

@@ -69,12 +69,12 @@ appended_known (Some ys) None new xs took kept some = absurd took
 appended_known (Some ys) (Some zs) None xs took kept some = absurd kept
 appended_known (Some ys) (Some zs) (Some ws) xs took kept some = kept ∙ took
 
--- what is so is so after an error
+-- a property that holds also holds after an error
 pub on_err : {T E P : Type 0} (r : Result T E) → P → OnErr r P
 on_err (Ok x) p = tt
 on_err (Err e) p = p
 
--- one byte written into a place for one
+-- a byte written into a buffer of one byte is all of the buffer
 pub one_given : (buf : List ℕ) (v : ℕ) → length buf ≡ 1 → take 1 (set buf 0 v) ≡ v ∷ []
 one_given [] v one = absurd (omega arith)
 one_given (x ∷ []) v one = refl

@@ -5,6 +5,6 @@ use Rattle.std.specs.Prelude.{◌≡◌, ◌+◌, ◌-◌, ◌^◌, ℕ, min, Re
 abbrev pub next_count : ℕ → ℕ
 next_count n = min (n + 1) (2 ^ 64 - 1)
 
--- an error is one failure more, and nothing else is one
+-- an error adds one to the failures, and nothing else does
 abbrev pub Counts : {T E : Type 0} → ℕ → ℕ → Result T E → Type 0
 Counts old new r = MatchResult r (λ _. new ≡ old) (λ _. new ≡ next_count old)

@@ -14,16 +14,16 @@ pub record Stream : Type 0 where
 abbrev pub told_stream : Option (List ℕ) → Bool → Stream
 told_stream told ended = record { bytes = unwrap_or told []; ended = ended }
 
--- a source that stands at old may answer this and then stands at new
+-- what a source that stands at `old` may answer, if it then stands at `new`
 abbrev pub Gives : Stream → Next → Stream → Type 0
--- the first byte, which is consumed
+-- a source answers its first byte, which is consumed
 Gives old (Byte b) new = (old.bytes ≡ b ∷ new.bytes) × (old.ended ≡ false) × (new.ended ≡ false)
--- the end, only if no more bytes come, and from then on
+-- a source answers its end only if no more bytes come, and from then on
 Gives old End new = (old.bytes ≡ []) × (new.bytes ≡ []) × (new.ended ≡ true)
 -- a failure consumes nothing, and a source that has ended does not fail
 Gives old Failed new = (old.ended ≡ false) × (new ≡ old)
 
--- a source that stood at old gave these bytes and then stands at new
+-- a source that stood at `old` gave `bytes` and then stands at `new`
 abbrev pub Streams : Stream → List ℕ → Stream → Type 0
 Streams old bytes new = (old.bytes ≡ bytes ++ new.bytes) × (old.ended ≡ new.ended)
 
@@ -31,28 +31,28 @@ Streams old bytes new = (old.bytes ≡ bytes ++ new.bytes) × (old.ended ≡ new
 abbrev pub has_byte : ℕ → List ℕ → Bool
 has_byte byte bytes = list_any (λ b. b == byte) bytes
 
--- the failures that an answer of a source counts for
+-- how many failures an answer of a source tells
 abbrev pub failures_of_next : Next → ℕ
 failures_of_next (Byte b) = 0
 failures_of_next End = 0
 failures_of_next Failed = 1
 
--- the failures that an answer of a sink counts for
+-- how many failures an answer of a sink tells
 abbrev pub failures_of : {A E : Type 0} → Result A E → ℕ
 failures_of (Ok x) = 0
 failures_of (Err e) = 1
 
--- what a sink holds after a byte was put with this answer
+-- what a sink holds after it was given a byte, by its answer
 abbrev pub after_put : {A E : Type 0} → List ℕ → ℕ → Result A E → List ℕ
 after_put written byte (Ok x) = written ++ byte ∷ []
 after_put written byte (Err e) = written
 
--- a first part of a text was written behind what was written before
+-- `new` is `old`, which was written before, and a first part of `text`
 abbrev pub Breaks : List ℕ → List ℕ → List ℕ → Type 0
 Breaks old text new =
     (put : List ℕ) × ((rest : List ℕ) × ((text ≡ put ++ rest) × (new ≡ old ++ put)))
 
--- a text was written behind what was written before, and after an error a first part of it
+-- `new` is `old`, which was written before, and `text`; after an error a first part of `text`
 abbrev pub Prints : {A E : Type 0} → Result A E → List ℕ → List ℕ → List ℕ → Type 0
 Prints (Ok x) old text new = new ≡ old ++ text
 Prints (Err e) old text new = Breaks old text new

@@ -4,7 +4,7 @@ use Rattle.std.specs.Prelude.{slice_get, Some}
 use Rattle.trac_language.specs.Text.{Text}
 use Rattle.trac_devices.specs.Devices.{has_byte}
 
--- what it is to append a text to the neutral string of a value
+-- a relation that says what it is to append a text to the neutral string of a value
 abbrev pub Appending : Type 0 → Type 1
 Appending N = N → N → Text → Type 0
 

@@ -17,7 +17,7 @@ pub record SliceInput : Type 0 where
 abbrev pub stream_in : SliceInput → Stream
 stream_in s = record { bytes = s.bytes; ended = s.ended }
 
--- a source that gives these bytes and then ends, or fails at a place within them
+-- a new source that gives `bytes` and then ends, or fails at a place within them
 abbrev pub slice_input : List ℕ → Option ℕ → SliceInput
 slice_input bytes None = record { bytes = bytes; fails = false; ended = false; failures = 0 }
 slice_input bytes (Some place) =
@@ -28,7 +28,7 @@ slice_input bytes (Some place) =
       failures = 0;
     }
 
--- what follows the bytes
+-- what a source over memory answers behind its last byte
 abbrev pub last_answer : Bool → Bool → Next
 last_answer true fails = End
 last_answer false true = Failed
@@ -38,7 +38,7 @@ last_answer false false = End
 abbrev pub slice_answer : SliceInput → Next
 slice_answer s = elim s.bytes [ [] ↦ last_answer s.ended s.fails | b ∷ rest ↦ Byte b ]
 
--- how it stands after an answer
+-- a source over memory after an answer
 abbrev pub slice_after : Next → SliceInput → SliceInput
 slice_after (Byte b) s = record s { bytes = elim s.bytes [ [] ↦ [] | c ∷ rest ↦ rest ] }
 slice_after End s = record s { ended = true }

@@ -51,7 +51,7 @@ impl<R: Read> BufferedReader<R> {
         }
     }
 
-    /// The bytes that it holds: they are read and not yet given.
+    /// The bytes that the buffer holds: they are read and not yet given.
     #[inline]
     pub fn held(&self) -> &[u8]
         ensures { result.now ≡ self.now.held }
@@ -59,7 +59,7 @@ impl<R: Read> BufferedReader<R> {
         &self.bytes[self.start..self.end]
     }
 
-    /// Drops the first `count` bytes that it holds.
+    /// Drops the first `count` of the bytes that the buffer holds.
     #[inline]
     pub fn skip(&mut self, count: usize)
         requires { count ≤ length self.old.held }

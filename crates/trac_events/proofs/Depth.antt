@@ -10,7 +10,7 @@ use Rattle.trac_language.specs.Step.{Outcome, Next, Over, deliver, end_call, fol
 use Rattle.trac_core.specs.View.{row_of}
 use Rattle.trac_events.specs.Calls.{depth_after}
 
--- so many calls are open in the next state, if there is one
+-- n calls are open in the next state, if there is one
 abbrev LeavesOpen : ℕ → Outcome → Type 0
 LeavesOpen n (Next after) = length after.memory.calls ≡ n
 LeavesOpen n (Over fate) = Unit {0}

@@ -25,7 +25,7 @@ use Rattle.trac_events.specs.declared.before.Before.{Before}
 abbrev pub behind_mark : List Cell → ℕ → List Cell
 behind_mark neutral mark = drop (mark + 1) neutral
 
--- argument k of these cells, from 0, which comma marks part
+-- argument k, from 0, of cells that comma marks part
 abbrev pub argument_of : List Cell → ℕ → List Cell
 argument_of cells zero = take (position_or_len is_comma cells) cells
 argument_of cells (suc k) = argument_of (drop (position_or_len is_comma cells + 1) cells) k
@@ -41,29 +41,28 @@ abbrev pub ends_call : ScanningRule → Bool
 ends_call row.EndOfCall = true
 ends_call _ = false
 
--- the mark of the innermost call of a machine; none where it isn't looked for
+-- the mark of the innermost call of a machine; none if it isn't looked for
 abbrev pub seen_call : Bool → MachineState → Option CallMark
 seen_call true m = mark_of 0 (neutral_in m.memory)
 seen_call false m = None
 
--- whether the call that the next step performs is looked for: where that is asked for or reads
+-- whether the call that the next step performs is looked for: if `asked` says so, or the call reads
 abbrev pub looks_at_call : MachineState → Bool → Bool
 looks_at_call m asked =
     ends_call (row_of (rule m.memory.active)) && (asked || reads (awaited (next_function m)))
 
--- how many of the cells of an active string stand before those that were left of one that had so many
--- cells before its first was taken away
+-- how many cells a call put before an active string that had `before` cells, of which the call's right
+-- parenthesis was taken away
 abbrev pub added : ℕ → List Cell → ℕ
 added before active = min (length active + 1 - before) (length active)
 
--- the value of a call whose mark stood at a place of the neutral string, where the active string had
--- so many cells before it was performed: what was added to the active string, or else what stands in
--- the place of the mark
+-- the value of a call whose mark stood at `mark` in the neutral string, and before which the active string
+-- had `before` cells: what was added to the active string, or else what stands in the place of the mark
 abbrev pub value_behind : (mark before : ℕ) → (neutral active : List Cell) → List Cell
 value_behind mark before neutral active =
     if nat_lt 0 (added before active) then take (added before active) active else drop mark neutral
 
--- what is seen of a machine before a step
+-- `before` is what is seen of machine `m` before a step; `asked` says that its call is looked for
 abbrev pub IsSeen : MachineState → Bool → Before → Type 0
 IsSeen m asked before = (before.done ≡ m.steps)
     × (before.rule ≡ row_of (rule m.memory.active))
@@ -74,14 +73,14 @@ IsSeen m asked before = (before.done ≡ m.steps)
     × (before.drops ≡ dropped (rule m.memory.active) (length m.memory.active))
     × (before.call ≡ seen_call (looks_at_call m asked) m)
 
--- the value of the call that was seen, by the cells of a machine's strings; null where none was seen
+-- `value` is that of the call that was seen, by the cells of a machine's strings; null if none was seen
 abbrev pub SeesValue : MachineState → Option CallMark → ℕ → List Cell → Type 0
 SeesValue m None before value = value ≡ []
 SeesValue m (Some call) before value = (neutral : List Cell) × ((active : List Cell)
     × ((neutral_of neutral ≡ neutral_in m.memory) × ((text_of_cells active ≡ m.memory.active)
     × (value ≡ value_behind call.place before neutral active))))
 
--- how many calls are open after a step by a rule, where so many were open before it
+-- how many calls are open after a step by a rule, if `depth` were open before it
 abbrev pub depth_after : ScanningRule → ℕ → ℕ
 depth_after row.Idling depth = 0
 depth_after row.ActiveCall depth = depth + 1
@@ -89,8 +88,8 @@ depth_after row.NeutralCall depth = depth + 1
 depth_after row.EndOfCall depth = depth - 1
 depth_after _ depth = depth
 
--- how many calls are open in a machine after a step that was seen before, as far as a number of 64 bits
--- tells, where so many were open then
+-- how many calls are open in machine `m` after a step before which `depth` were open, as far as a number
+-- of 64 bits tells; `depth`, if the step wasn't done
 abbrev pub depth_in : Before → MachineState → ℕ → ℕ
 depth_in before m depth =
     if nat_lt before.done m.steps

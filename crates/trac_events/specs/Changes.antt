@@ -40,12 +40,12 @@ needs_form InitialPart = true
 needs_form CallRestore = true
 needs_form _ = false
 
--- the form whose name these cells are; none where one of them is no character
+-- the form whose name the cells are; none if a cell is no character
 abbrev pub form_of : List Cell → List Form → Option Form
 form_of name forms =
     if list_all is_byte_cell name then form_named (text_of_cells name) forms else None
 
--- the pointer of that form
+-- the pointer of the form whose name the cells are
 abbrev pub pointer_of : List Cell → List Form → Option ℕ
 pointer_of name forms = option_map (λ form. form.pointer) (form_of name forms)
 

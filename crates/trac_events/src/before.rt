@@ -68,7 +68,8 @@ impl Before {
         }
     }
 
-    /// The value of the call that the step performed, taken from the machine after that step.
+    /// The value of the call that the step performed, taken from the machine after that step, not copied.
+    /// Null if `call` is None.
     pub fn value<'m>(&self, machine: &'m Machine) -> &'m [Cell]
         ensures { SeesValue machine.now self.now.call self.now.active result.now }
     {

@@ -21,8 +21,8 @@ pub fn arguments_of(neutral: &[Cell], mark: usize) -> &[Cell]
     behind(neutral, mark)
 }
 
-/// An argument of a call, counted from 0, which is the name of its function. Null if the call has no such
-/// argument.
+/// Argument `k` of a call, by the cells of all arguments; argument 0 names the function. Null if the call
+/// has no such argument.
 pub fn argument(arguments: &[Cell], k: u32) -> &[Cell]
     ensures { result.now ≡ argument_of arguments.now k }
 {

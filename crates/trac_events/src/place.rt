@@ -110,7 +110,7 @@ impl Reading {
         }
     }
 
-    /// Where a run stands after it has read a character, or none. The string stays the same.
+    /// Where a run stands after it has read a character, or none. `string` stays as it is.
     pub fn behind_character(self, cells: &[Cell]) -> Reading
         ensures { result ≡ record self { next = behind_text self.next (text_of_cells cells.now) } }
     {

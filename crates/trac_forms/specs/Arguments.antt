@@ -3,7 +3,7 @@ use Rattle.std.specs.Prelude.{ℕ, drop}
 use Rattle.trac_language.specs.Text.{Text}
 use Rattle.trac_language.specs.Form.{fill}
 use Rattle.trac_forms.specs.Contents.{Contents, body_at, pointer_at}
--- what stands between comma marks
+-- the arguments that stand between comma marks, as the store's crate defines them
 pub use Rattle.trac_store.specs.Arguments.{before_comma, parts_between, texts_between}
 pub use Rattle.trac_store.specs.Arguments.{AreParted, IsHeadAt, filled_cells}
 

@@ -7,17 +7,17 @@ use Rattle.trac_space.specs.Cells.{seen}
 use Rattle.trac_space.specs.Texts.{text_of_cells}
 use Rattle.trac_store.specs.Stored.{item_of, forms_in, AreCellsOfForms}
 
--- the form of these cells
+-- the form whose name and body are the cells `name` and `body`
 abbrev pub form_of : List Cell → List Cell → ℕ → Form
 form_of name body pointer =
     record { name = text_of_cells name; body = map item_of body; pointer = pointer }
 
--- the cells are those of so many forms that a store may hold
+-- the cells are those of `count` forms, as a store may hold them
 pub record IsListed (cells : List Cell) (count : ℕ) : Type 0 where
   pub forms : AreCellsOfForms cells count
   pub store : IsStore (forms_in (map seen cells))
 
--- the cells of a form whose pointer is a place of its body
+-- `name` and `body` are short enough for a form, and `pointer` is a place of the body
 pub record IsForm (name body : List Cell) (pointer : ℕ) : Type 0 where
   pub name_bounded : length name ≤ 16777216
   pub body_bounded : length body ≤ 16777216

@@ -5,7 +5,7 @@ use Rattle.trac_space.specs.Texts.{flat_text}
 use Rattle.trac_language.specs.Text.{Text}
 use Rattle.trac_store.specs.Search.{character_at}
 use Rattle.trac_forms.specs.Contents.{Contents, used, body_at, pointer_at}
--- what a call goes through
+-- what a call of a form goes through, as the store's crate defines it
 pub use Rattle.trac_store.specs.Loading.{called_part, AreCharacters}
 
 -- the text has `n` characters, which fit and stand before the active string

@@ -11,11 +11,11 @@ use Rattle.trac_store.specs.Forms.{form_at}
 use Rattle.trac_store.specs.Stored.{forms_in, IsPlace}
 use Rattle.trac_forms.specs.Stored.{HasFormsFrom}
 
--- whether the form has one of these names
+-- whether the form has one of the `names`
 abbrev pub is_among : List Text → Form → Bool
 is_among names form = list_any (bytes_eq form.name) names
 
--- the forms without those of these names
+-- the forms but those that have one of the `names`
 abbrev pub without_all : List Text → List Form → List Form
 without_all names forms = filter (λ form. not (is_among names form)) forms
 
@@ -27,14 +27,14 @@ mark = 4294967295
 abbrev pub is_marked : Form → Bool
 is_marked form = form.pointer == mark
 
--- the form, marked
+-- the form with its mark: a pointer that no body has
 abbrev pub marked : Form → Form
 marked form = record form { pointer = mark }
 
 abbrev pub marked_if : Bool → Form → Form
 marked_if listed form = if listed then marked form else form
 
--- the forms, those of these names marked
+-- the forms, of which those that have one of the `names` are marked
 abbrev pub with_marks : List Text → List Form → List Form
 with_marks names forms = map (λ form. marked_if (is_among names form) form) forms
 
@@ -47,7 +47,7 @@ abbrev pub HaveOwnNames : List Form → Type 0
 HaveOwnNames [] = Unit {0}
 HaveOwnNames (form ∷ forms) = NoneNamed form.name forms × HaveOwnNames forms
 
--- a space has so many forms, marked or not, of which no two have one name; the form at place `last`
+-- a space has `count` forms, marked or not, of which no two have one name; the form at place `last`
 -- begins at `start`
 pub record IsFormed (s : Lists) (count last start : ℕ) : Type 0 where
   pub kept : HasFormsFrom s count last start

@@ -65,7 +65,7 @@ texts_of-first (Comma ∷ cells) = refl
 texts_of-first (Gap k ∷ cells) = in_first-first 0 (texts_of cells) ∙ ap (λ t. 0 ∷ t) (texts_of-first cells)
 texts_of-first (Head k ∷ cells) = in_first-first 0 (texts_of cells) ∙ ap (λ t. 0 ∷ t) (texts_of-first cells)
 
--- those after the first: none where no comma mark follows it
+-- the texts after the first: none if no comma mark follows it
 later : List Cell → List Text
 later [] = []
 later (cell ∷ cells) = cond (is_comma cell) (texts_of cells) (later cells)

@@ -18,7 +18,7 @@ module _ (xs : List Cell) (i j n : ℕ) (part : IsTextPart xs i j) (read : Text)
   pub part_is_octal : IsOctal (slice_range xs (i + n) j)
   part_is_octal = subst IsOctal back (back_passes is_octal (slice_range xs i j) n long)
 
--- one more character of a text stands after cells
+-- one more character of a text stands behind the cells `old`
 pub flat_more : (old now next : List Cell) (text : Text) (k c : ℕ) → now ≡ old ++ flat_text (take k text) → slice_get text k ≡ Some c → next ≡ now ++ Cell.Byte c ∷ [] → next ≡ old ++ flat_text (take (k + 1) text)
 flat_more old now next text k c so_far here more =
     let lt = slice_get_within text k c here in

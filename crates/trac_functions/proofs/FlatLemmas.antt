@@ -7,7 +7,7 @@ pub with_cells-append : (n : Neutral) (xs ys : List Cell) → with_cells n (xs +
 with_cells-append n [] ys = refl
 with_cells-append n (x ∷ xs) ys = with_cells-append (with_cell n x) xs ys
 
--- one more cell
+-- the neutral string of cells with one more cell at the end
 pub neutral_of-push : (cells : List Cell) (cell : Cell) → neutral_of (cells ++ cell ∷ []) ≡ with_cell (neutral_of cells) cell
 neutral_of-push cells cell = with_cells-append no_neutral cells (cell ∷ [])
 

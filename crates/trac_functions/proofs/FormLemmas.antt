@@ -22,7 +22,7 @@ idle f old new a name are means built_is same none name_is = λ title.
     let gone = form_named-none (argument (texts old a) 0) old.forms (subst (λ n. NoneNamed n old.forms) name_is none) in
     ([], rw same (null-value f (title ∷ texts old a) old old are.sound (λ meta input. means title (world old.forms meta input) gone) (built_is title) refl))
 
--- each form's name behind a text
+-- the names of the forms, a text before each
 abbrev pub names : Text → List Form → Text
 names before forms = flat_map (λ form. before ++ form.name) forms
 
@@ -46,7 +46,7 @@ first_of_some (text ∷ texts) some = refl
 some-left : (w : Contents) (a : Arguments) → a.from ≤ a.end → texts w a ≡ argument (texts w a) 0 ∷ drop 1 (texts w a)
 some-left w a le = first_of_some (texts w a) (rw (texts_from-some w.neutral a.from a.end le) (texts_of-some (slice_range w.neutral a.from a.end)))
 
--- the arguments that are left are the next and those after it
+-- the arguments that are left are the next argument and the arguments after it
 pub next-left : (w : Contents) (a b : Arguments) → a.from ≤ a.end → texts w b ≡ drop 1 (texts w a) → texts w a ≡ argument (texts w a) 0 ∷ texts w b
 next-left w a b le rest = some-left w a le ∙ ap (λ ts. argument (texts w a) 0 ∷ ts) (sym rest)
 
@@ -88,7 +88,7 @@ parted-texts w a are = (parts-left w (a.end + 1 - a.from) a are (omega arith)).1
 pub fewer-left : (w : Contents) (a b : Arguments) → a.from ≤ a.end → texts w b ≡ drop 1 (texts w a) → length (texts w b) < length (texts w a)
 fewer-left w a b le rest = omega (arith, ap length (next-left w a b le rest))
 
--- there are no more arguments than places among the cells
+-- cells have at most one argument more than they are
 texts_of-bound : (cells : List Cell) → length (texts_of cells) ≤ suc (length cells)
 texts_of-bound [] = omega arith
 texts_of-bound (cell ∷ cells) = go cell (texts_of cells) (texts_of-bound cells)
@@ -130,7 +130,7 @@ pub unnamed-none : (forms : List Form) → unnamed [] forms ≡ forms
 unnamed-none [] = refl
 unnamed-none (form ∷ forms) = ap (λ fs. form ∷ fs) (unnamed-none forms)
 
--- that of the first name goes first
+-- of forms without those of several names, the form of the first name may be removed first
 pub unnamed-first : (name : Text) (rest : List Text) (forms : List Form) → IsStore forms → unnamed (name ∷ rest) forms ≡ unnamed rest (without name forms)
 unnamed-first name rest [] h = refl
 unnamed-first name rest (form ∷ forms) h =
@@ -143,11 +143,11 @@ unnamed-first name rest (form ∷ forms) h =
 
 -- ---- gaps in a form
 
--- the forms, the one at a place with gaps for these texts from an ordinal on, and its pointer at the start
+-- the forms, of which form k has gaps for the texts, numbered from `ordinal` on, and its pointer at the start
 abbrev pub segmented : List Text → ℕ → List Form → ℕ → List Form
 segmented texts ordinal forms k = set forms k (record (form_at forms k) { body = segment_by texts ordinal (body_at forms k); pointer = 0 })
 
--- the same of a form that was put there
+-- form k, once `form` was put in its place, has the gaps that `form` has for the texts
 pub segmented-set : (texts : List Text) (ordinal : ℕ) (forms : List Form) (k : ℕ) (form : Form) → k < length forms → segmented texts ordinal (set forms k form) k ≡ set forms k (record form { body = segment_by texts ordinal form.body; pointer = 0 })
 segmented-set texts ordinal forms k form within =
     let put : form_at (set forms k form) k ≡ form = get_or-set_same forms k form (record { name = []; body = []; pointer = 0 }) within in

@@ -12,7 +12,7 @@ pub record IsFront (front text : Text) : Type 0 where
 pub front-length : (front text : Text) → IsFront front text → length front ≤ length text
 front-length front text is = omega (arith, length-append front is.rest, ap length is.whole)
 
--- it is so many characters of the text
+-- the front of a text is the first n characters of the text, if it has n
 pub front-is : (front text : Text) (n : ℕ) → IsFront front text → n ≡ length front → take n text ≡ front
 front-is front text n is long =
     ap (λ t. take n t) (sym is.whole) ∙ take-append-le n front is.rest (omega arith) ∙ take_all n front (omega arith)

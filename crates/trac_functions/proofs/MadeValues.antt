@@ -15,7 +15,7 @@ same-test false x y tells = go (bytes_eq x y) refl
     go true e = tells.1 ((bytes_decides x y).0 e)
     go false e = refl
 
--- one of two texts, by a test
+-- the text that a test chooses of two
 pub chosen : (b d : Bool) (u v t : Text) → b ≡ d → (b ≡ true → t ≡ u) → (b ≡ false → t ≡ v) → (if d then u else v) ≡ t
 chosen true d u v t e first second = ap (λ b. cond b u v) (sym e) ∙ sym (first refl)
 chosen false d u v t e first second = ap (λ b. cond b u v) (sym e) ∙ sym (second refl)

@@ -24,7 +24,7 @@ named-two a b rest e = go (is_comma a) (is_comma b) refl refl
     go false true ea eb = rw (ea, eb, comma-zero b eb) refl
     go false false ea eb = rw (ea, eb, e) refl
 
--- it is no function's where they aren't two characters before the first comma mark
+-- if the first two cells name a function and no third one is before a comma mark, two cells are before that mark
 two-before : (a b : Cell) (rest : List Cell) → before_comma rest ≡ 0 → IsSome (function_named (character_of a ∷ character_of b ∷ [])) → before_comma (a ∷ b ∷ rest) ≡ 2
 two-before a b rest e = go (is_comma a) (is_comma b) refl refl
   where
@@ -33,7 +33,7 @@ two-before a b rest e = go (is_comma a) (is_comma b) refl refl
     go false true ea eb = rw (ea, eb, comma-zero b eb, one (character_of a)) (λ some. absurd cc)
     go false false ea eb = rw (ea, eb, e) (λ some. refl)
 
--- nor where a character follows
+-- cells name no function if a character follows the first two
 none-longer : (a b : Cell) (rest : List Cell) → before_comma rest ≢ 0 → function_named (text_of_cells (take (before_comma (a ∷ b ∷ rest)) (a ∷ b ∷ rest))) ≡ None
 none-longer a b [] more_than = absurd (more_than refl)
 none-longer a b (c ∷ rest) more_than = go (is_comma a) (is_comma b) (is_comma c) refl refl refl
@@ -44,7 +44,7 @@ none-longer a b (c ∷ rest) more_than = go (is_comma a) (is_comma b) (is_comma 
     go false false true ea eb ec = absurd (more_than (rw ec refl))
     go false false false ea eb ec = rw (ea, eb, ec) (more (character_of a) (character_of b) (character_of c) (text_of_cells (take (before_comma rest) rest)))
 
--- ---- the same of cells that are looked at one by one
+-- ---- the function that cells name which are looked at one by one
 
 rest-of : (a b : Cell) (rest : List Cell) → take (length (a ∷ b ∷ rest) - 2) rest ≡ rest
 rest-of a b rest =

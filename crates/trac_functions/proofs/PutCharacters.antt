@@ -9,7 +9,7 @@ with_text w text = record w { neutral = w.neutral ++ flat_text text }
 pub used-with : (w : Contents) (text : Text) → used (with_text w text) ≡ used w + length text
 used-with w text = omega (arith, length-append w.neutral (flat_text text), length-map text Byte)
 
--- one more character of a text
+-- one more character of a text stands at the end of the neutral string
 pub with-more : (w now next : Contents) (text : Text) (k c : ℕ) → now ≡ with_text w (take k text) → slice_get text k ≡ Some c → next ≡ record now { neutral = now.neutral ++ Byte c ∷ [] } → next ≡ with_text w (take (k + 1) text)
 with-more w now next text k c so_far here more =
     more

@@ -4,7 +4,7 @@ use Rattle.trac_functions.proofs.Imports.{flat_text, Contents, used, IsSound, Is
 use Rattle.trac_functions.proofs.CellRanges.{part-append}
 use Rattle.trac_functions.proofs.PutCharacters.{with_text, used-with, with-both, stands-behind}
 
--- of a whole text this much is left, and the rest stands at the end of neutral
+-- of the text `whole`, `left` is left to put, and what was put stands at the end of the neutral string
 pub record HasPut (old now : Contents) (whole left : Text) : Type 0 where
   pub done : Text
   pub sound : IsSound now
@@ -15,7 +15,7 @@ pub put-none : (old now : Contents) (whole left : Text) → IsSound now → now 
 put-none old now whole left sound same e =
     record { done = []; sound = sound; stands = same ∙ ap (λ cells. record old { neutral = cells }) (sym (append-nil old.neutral)); whole_is = e }
 
--- one more part
+-- one more part of a text was put at the end of the neutral string
 pub put-more : (old now new : Contents) (whole text left rest : Text) → HasPut old now whole left → left ≡ text ++ rest → new ≡ with_text now text → IsSound new → HasPut old new whole rest
 put-more old now new whole text left rest put split more sound =
     record {

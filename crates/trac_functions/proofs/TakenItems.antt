@@ -76,7 +76,7 @@ no-character (Gap k ∷ items) none = no-character items (λ k lt. none (suc k) 
 
 -- ---- forward
 
--- so many characters were taken from a place on
+-- `taken` characters of a body were taken from `from` on, and `place` is behind them
 pub record Forward (body : List Item) (from taken place : ℕ) : Type 0 where
   pub at : place ≡ from + length (first_characters taken (drop from body))
   pub there : taken ≤ length (text_of (drop from body))
@@ -147,7 +147,7 @@ drop-reverse body to place le within =
     ∙ ap (λ n. drop n (reverse tail ++ reverse (take place body))) (sym long)
     ∙ drop-append_seam (reverse tail) (reverse (take place body))
 
--- so many characters were taken backward from a place on
+-- `taken` characters of a body were taken backward from `to` on, and `place` is before them
 pub record Backward (body : List Item) (to taken place : ℕ) : Type 0 where
   pub at : place + length (first_characters taken (reverse (take to body))) ≡ to
   pub there : taken ≤ length (text_of (take to body))

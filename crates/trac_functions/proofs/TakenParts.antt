@@ -62,7 +62,7 @@ module _ (f : Function) (args : List Text) (name : Text) (part : Form → Option
       go None e (Over fate) takes = absurd takes
       go (Some p) e (Over fate) takes = absurd takes
 
--- the same, by what the code knows
+-- what a call makes that takes a part of a form, by the place at which the code found the form
 pub makes-found : (f : Function) (part : List Text → Form → Option Part) (other : ℕ) (old found new : Contents) (a : Arguments) (k : ℕ) (made : CallResult) (name : Text) (z : CellPart) → ((title : Text) (w : World) → meaning_of f (title ∷ texts old a) w ≡ on_form (form_named (argument (texts old a) 0) w.forms) (λ form. take_part (argument (texts old a) 0) (part (texts old a) form) (argument (texts old a) other) w) w) → ((title : Text) (w : World) → built (Some f) (title ∷ texts old a) w ≡ value_length (meaning_of f (title ∷ texts old a) w)) → AreArguments old a → found ≡ old → IsNamedAt old.forms name k → name ≡ argument (texts old a) 0 → TakesOrDefault (part (texts old a)) k z found made new → part_text old.neutral z.from z.to ≡ argument (texts old a) other → Performs f old a made new
 makes-found f part other old found new a k made name z means built_is are same at is takes text = λ title.
     let here = subst (λ (w : Contents). TakesOrDefault (part (texts old a)) k z w made new) same takes in
@@ -114,7 +114,7 @@ some-taken : (items : List Item) (m : ℕ) → m ≤ length (text_of items) → 
 some-taken items zero le some = absurd (some (ap length (first_characters-none items)))
 some-taken items (suc m) le some = omega (arith, text_of-first items (suc m))
 
--- and else those up to a place
+-- the next characters after the pointer are those up to the place `to`, if some are passed
 pub next-some : (form : Form) (n from to : ℕ) → from ≡ form.pointer → from ≤ length form.body → to ≡ from + length (first_characters (min n (length (text_of (drop from form.body)))) (drop from form.body)) → to ≢ from → Some (a-part (text_of (slice_range form.body from to)) to) ≡ next_characters n form
 next-some form n from to from_is within to_is other =
     let m = min n (length (text_of (drop from form.body))) in
@@ -144,7 +144,7 @@ previous-none form n from to to_is at same =
     (sym (ap (λ p. length (first_characters (min n (length (text_of (take p form.body)))) (reverse (take p form.body)))) to_is) ∙ omega arith) in
     ap (λ u. backward form (reverse u)) e
 
--- and else those from a place on
+-- the last characters before the pointer are those from the place `from` on, if some are passed
 pub previous-some : (form : Form) (n from to : ℕ) → to ≡ form.pointer → to ≤ length form.body → from + length (first_characters (min n (length (text_of (take to form.body)))) (reverse (take to form.body))) ≡ to → from ≢ to → Some (a-part (text_of (slice_range form.body from to)) from) ≡ previous_characters n form
 previous-some form n from to to_is within at other =
     let m = min n (length (text_of (take to form.body))) in

@@ -37,6 +37,6 @@ bits_made neutral (Complement a) = complement (bits_at neutral a)
 bits_made neutral (Shift by a) = shifted (signed by.negative by.size) (bits_at neutral a)
 bits_made neutral (Rotation by a) = rotated (pos by) (bits_at neutral a)
 
--- its octal digits
+-- the octal digits of a result
 abbrev pub octal_made : List Cell → BitResult → Text
 octal_made neutral result = octal (bits_made neutral result)

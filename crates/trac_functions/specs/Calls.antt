@@ -29,14 +29,14 @@ is_plain PrintForm = false
 is_plain Halt = false
 is_plain _ = true
 
--- the arguments that are left to take: those from a place up to another, none once the place is
--- past that
+-- the arguments that are left to take: those that stand from `from` up to `end`, none if `from` is
+-- past `end`
 abbrev pub texts_from : List Cell → ℕ → ℕ → List Text
 texts_from neutral from end =
     if nat_le from end then texts_of (slice_range neutral from end) else []
 
--- the arguments that are left are within neutral, where no call mark stands among them, and no
--- comma mark from the place on that is told
+-- the arguments that are left are within the neutral string, no call mark stands among them, and no
+-- comma mark from `arguments.plain` on
 pub record AreArguments (w : Contents) (arguments : Arguments) : Type 0 where
   pub sound : IsSound w
   pub order : arguments.from ≤ arguments.end + 1
@@ -53,11 +53,11 @@ pub record KeepsRoom (old new : Contents) : Type 0 where
 abbrev pub texts : Contents → Arguments → List Text
 texts w arguments = texts_from w.neutral arguments.from arguments.end
 
--- what calls read and change, of these forms
+-- what calls read and change: the forms, the meta character and the input
 abbrev pub world : List Form → ℕ → Input → World
 world forms meta input = record { forms = forms; meta = meta; input = input }
 
--- a call of the function has this value, changes the forms to these and does nothing else
+-- a call of the function has the value `value`, changes the forms `old` to `new`, and does nothing else
 abbrev pub Means : Function → List Text → List Form → Text → Bool → List Form → Type 0
 Means function args old value forced new =
     (meta : ℕ) (input : Input) →
@@ -68,22 +68,22 @@ Means function args old value forced new =
       printed = [];
     })
 
--- a call of the function has this value, changes the forms to these, and builds the value alone
+-- a call of the function has the value `value`, changes the forms `old` to `new`, and builds the value alone
 pub record Valued (function : Function) (args : List Text) (old : List Form) (value : Text)
     (forced : Bool) (new : List Form) : Type 0 where
   pub means : Means function args old value forced new
   pub builds : (meta : ℕ) (input : Input) →
       built (Some function) args (world old meta input) ≡ length value
 
--- the value of a call stands at the end of neutral, and the forms are changed
+-- the value of a call stands at the end of the neutral string, and the forms are changed
 pub record IsValue (function : Function) (args : List Text) (old new : Contents) (forced : Bool)
     (value : Text) : Type 0 where
   pub valued : Valued function args old.forms value forced new.forms
   pub fits : used old + length value ≤ old.room
   pub stands : new ≡ record old { forms = new.forms; neutral = old.neutral ++ flat_text value }
 
--- the value of a call, of so many characters, goes to the active string, since it is forced or the
--- call's is scanned, and stands before that; and the forms are changed
+-- the value of a call, of `size` characters, stands before the active string, since it is forced there
+-- or the call's value is scanned; and the forms are changed
 pub record IsPlaced (function : Function) (args : List Text) (scanned : Bool) (old new : Contents)
     (forced : Bool) (value : Text) (size : ℕ) : Type 0 where
   pub valued : Valued function args old.forms value forced new.forms
@@ -92,7 +92,7 @@ pub record IsPlaced (function : Function) (args : List Text) (scanned : Bool) (o
   pub fits : used old + size ≤ old.room
   pub stands : new ≡ record old { forms = new.forms; active = flat_text value ++ old.active }
 
--- a call with a null value built so many cells of forms
+-- a call with a null value built `cells` cells of forms
 pub record IsDefined (function : Function) (args : List Text) (old new : Contents)
     (cells : ℕ) : Type 0 where
   pub means : Means function args old.forms [] false new.forms
@@ -114,13 +114,14 @@ Makes function args scanned old (InFront size) new =
 Makes function args scanned old (Null cells) new = IsDefined function args old new cells
 Makes function args scanned old (Over fate) new = ⊥
 
--- the same of a call whose arguments, but for the function's name, are those that are left
+-- what a function without devices makes of a call whose arguments behind its name are those that
+-- are left: its value, or more than there is room for
 abbrev pub Performs : Function → Contents → Arguments → CallResult → Contents → Type 0
 Performs function old arguments made new =
     (name : Text) → Makes function (name ∷ texts old arguments) arguments.scanned old made new
 
--- whatever call has this value, which goes to the active string or not, and changes no form, this
--- is what its function makes of it
+-- `made` is right for each call that has the value `value`, sends it to the active string or not, as
+-- `goes` says, and changes no form
 abbrev pub MakesValue : Text → Bool → Contents → CallResult → Contents → Type 0
 MakesValue value goes old made new =
     (function : Function) (args : List Text) (forced scanned : Bool) →

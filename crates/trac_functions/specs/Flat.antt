@@ -18,13 +18,14 @@ pub record Neutral : Type 0 where
 abbrev pub no_neutral : Neutral
 no_neutral = record { base = []; calls = [] }
 
--- a character at the end of the last argument of the innermost of these calls, or of the base text
+-- a neutral string with a character at the end of the last argument of its innermost call, or of the base
+-- text if no call is open
 abbrev pub with_character : List OpenCall → ℕ → Neutral → Neutral
 with_character [] c n = record n { base = n.base ++ c ∷ [] }
 with_character (call ∷ outer) c n =
     record n { calls = record call { last = call.last ++ c ∷ [] } ∷ outer }
 
--- a comma mark begins an argument; outside all calls, where
+-- a neutral string with a comma mark at its end, which begins an argument; outside all calls, where
 -- none ever stands, it counts as a character
 abbrev pub with_comma : List OpenCall → Neutral → Neutral
 with_comma [] n = record n { base = n.base ++ 44 ∷ [] }
@@ -39,7 +40,7 @@ with_cell n Comma = with_comma n.calls n
 with_cell n (Gap _) = with_character n.calls 0 n
 with_cell n (Head _) = with_character n.calls 0 n
 
--- a neutral string with these cells at its end
+-- a neutral string with more cells at its end
 abbrev pub with_cells : Neutral → List Cell → Neutral
 with_cells n [] = n
 with_cells n (cell ∷ cells) = with_cells (with_cell n cell) cells
@@ -61,7 +62,7 @@ abbrev pub in_first : ℕ → List Text → List Text
 in_first c [] = (c ∷ []) ∷ []
 in_first c (text ∷ texts) = (c ∷ text) ∷ texts
 
--- a cell before the texts that comma marks part
+-- the texts that comma marks part, with one more cell before the first
 abbrev pub with_first : Cell → List Text → List Text
 with_first (Byte c) texts = in_first c texts
 with_first (Call _ _) texts = in_first 0 texts
@@ -69,7 +70,7 @@ with_first Comma texts = [] ∷ texts
 with_first (Gap _) texts = in_first 0 texts
 with_first (Head _) texts = in_first 0 texts
 
--- the texts that comma marks part
+-- the texts of cells that comma marks part
 abbrev pub texts_of : List Cell → List Text
 texts_of [] = [] ∷ []
 texts_of (cell ∷ cells) = with_first cell (texts_of cells)

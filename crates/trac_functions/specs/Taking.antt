@@ -18,17 +18,17 @@ abbrev pub part_value : Option Part → Text → Text
 part_value None z = z
 part_value (Some part) z = part.text
 
--- the forms with the pointer of that at a place moved
+-- the forms with the pointer of form k moved to `pointer`
 abbrev pub moved : List Form → ℕ → ℕ → List Form
 moved forms k pointer = set forms k (record (form_at forms k) { pointer = pointer })
 
--- a text stands at the end of neutral, and the forms are these
+-- `text` stands at the end of the neutral string, and the forms are `forms`
 pub record Puts (old new : Contents) (forms : List Form) (text : Text) : Type 0 where
   pub fits : used old + length text ≤ old.room
   pub stands : new ≡ record old { forms = forms; neutral = old.neutral ++ flat_text text }
 
--- the part of the form at place k is the value, and its
--- pointer is moved; or z is the value; or that doesn't fit
+-- the value is the part taken of form k, whose pointer is moved; if there is no such part, the value is z; or
+-- the value doesn't fit
 abbrev pub TakesPart : Option Part → Text → ℕ → Contents → CallResult → Contents → Type 0
 TakesPart part z k old Full new = old.room < used old + length (part_value part z)
 TakesPart None z k old (InFront size) new = IsLoaded old new z size
@@ -38,13 +38,13 @@ TakesPart (Some part) z k old (InFront size) new = ⊥
 TakesPart part z k old (Null cells) new = ⊥
 TakesPart part z k old (Over fate) new = ⊥
 
--- the part of the form at place k that a call takes is the value, and its pointer is moved; or the
--- text of z, a part of the neutral string, is the value; or that doesn't fit
+-- the value is the part that a call takes of form k, whose pointer is moved; if there is no such part, the
+-- value is the text of z, a part of the neutral string; or the value doesn't fit
 abbrev pub TakesOrDefault : (Form → Option Part) → ℕ → CellPart → Contents → CallResult → Contents → Type 0
 TakesOrDefault part k z old made new =
     TakesPart (part (form_at old.forms k)) (part_text old.neutral z.from z.to) k old made new
 
--- the first place from one up to another that passes a test, or that other place
+-- `place` is the first from `from` up to `to` that passes the test, or `to` if none does
 pub record IsFirstOr (test : ℕ → Bool) (from to place : ℕ) : Type 0 where
   pub above : from ≤ place
   pub below : place ≤ to

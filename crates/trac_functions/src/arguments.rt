@@ -17,8 +17,8 @@ use trac_forms::{Cell, Work, before_comma};
 use trac_language::{Fate, Function};
 use trac_space::Part;
 
-/// The arguments of a call that are left to take: those in the neutral string from a place up to
-/// another. None is left once the place is past that.
+/// The arguments of a call that are left to take: those in the neutral string from place `from` up to
+/// place `end`, counted in cells. None is left once `from` is past `end`.
 #[derive(Clone, Copy)]
 pub struct Arguments {
     pub from: u32,
@@ -33,7 +33,7 @@ pub struct Arguments {
 /// What a function answers to a call.
 #[derive(Clone, Copy, PartialEq, Eq, Debug)]
 pub enum CallResult {
-    /// There are too few cells for what the call builds.
+    /// There are too few cells for what the call builds. The forms are as they were, and the run ends.
     Full,
     /// The value stands at the end of the neutral string. It is null where nothing was appended.
     AtEnd,
@@ -46,7 +46,8 @@ pub enum CallResult {
 }
 
 impl Arguments {
-    /// Where the next argument begins and ends; a null part where none is left.
+    /// Takes the next argument, and gives the part of the neutral string where it stands: a null part if no
+    /// argument is left.
     pub fn next(&mut self, work: &Work) -> Part
         requires { AreArguments work.now self.old }
         ensures part { IsTextPart work.now.neutral result.from result.to }
@@ -69,7 +70,7 @@ impl Arguments {
         Part { from, to }
     }
 
-    // Where the next argument ends, of those that are left.
+    // The place where the next argument ends.
     fn end_of_next(&self, work: &Work) -> u32
         requires arguments { AreArguments work.now self.now }
         requires some { self.now.from ≤ self.now.end }
@@ -82,7 +83,8 @@ impl Arguments {
         self.from + before_comma(work.neutral_part(self.from, self.end))
     }
 
-    /// The function that the next argument names, which is taken then.
+    /// Takes the next argument if it names a function, and gives that function. None if it names none. At
+    /// least one argument must be left.
     #[inline]
     pub fn function(&mut self, work: &Work) -> Option<Function>
         requires arguments { AreArguments work.now self.old }
@@ -107,7 +109,7 @@ impl Arguments {
     }
 }
 
-/// The cells of a part of the neutral string that is a text.
+/// The cells of a part of the neutral string that is a text, not copied.
 pub fn text<'a>(work: &'a Work, part: Part) -> &'a [Cell]
     requires { IsTextPart work.now.neutral part.from part.to }
     ensures text { text_of_cells result.now ≡ part_text work.now.neutral part.from part.to }
@@ -117,7 +119,8 @@ pub fn text<'a>(work: &'a Work, part: Part) -> &'a [Cell]
     work.neutral_part(part.from, part.to)
 }
 
-/// Appends a part of the neutral string that is a text to that string, if there are cells for it.
+/// Copies a part of the neutral string that is a text to the end of that string. False, with nothing
+/// changed, if the copy doesn't fit.
 pub fn put_part(work: &mut Work, part: Part) -> bool
     requires part { IsTextPart work.old.neutral part.from part.to }
     ensures put { let text = part_text work.old.neutral part.from part.to in
@@ -132,8 +135,8 @@ pub fn put_part(work: &mut Work, part: Part) -> bool
     work.copy_neutral(part.from, part.to)
 }
 
-/// Puts a part of the neutral string that is a text before the active string, if there are cells for
-/// it.
+/// Copies a part of the neutral string that is a text to the front of the active string. False, with
+/// nothing changed, if the copy doesn't fit.
 #[inline(always)]
 pub fn load_part(work: &mut Work, part: Part) -> bool
     requires part { IsTextPart work.old.neutral part.from part.to }
@@ -149,8 +152,9 @@ pub fn load_part(work: &mut Work, part: Part) -> bool
     work.load_part(part.from, part.to)
 }
 
-/// A part of the neutral string is the value of a call, which goes to the active string where it
-/// is scanned again.
+/// Gives a part of the neutral string as the value of a call: copies it to the front of the active string if
+/// it is `scanned` again, else to the end of the neutral string. `Full`, with no form changed, if the copy
+/// doesn't fit.
 #[inline(always)]
 pub fn give(work: &mut Work, part: Part, scanned: bool) -> CallResult
     requires part { IsTextPart work.old.neutral part.from part.to }

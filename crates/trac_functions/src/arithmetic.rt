@@ -172,7 +172,7 @@ fn with_sign(number: u64, negative: bool) -> i128
     }
 }
 
-/// The zeros that make nineteen digits of these, which are no more.
+/// The zeros that make nineteen digits, if they stand before `digits`, which are at most nineteen.
 fn zeros_before(digits: &[u8]) -> &'static [u8]
     requires { length digits.now ≤ 19 }
     ensures { result.now ≡ replicate (19 - length digits.now) 48 }

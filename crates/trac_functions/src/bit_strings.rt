@@ -19,8 +19,8 @@ use trac_forms::{Cell, Work};
 use trac_space::Part;
 use trac_values::Count;
 
-/// A result of bits, with the parts of the neutral string
-/// where the octal digits stand that it is made of.
+/// An operation on bit strings, and the parts of the neutral string where their octal digits stand. A shift
+/// also has its number of bits, to the left unless negative, and a rotation its number of bits to the left.
 #[derive(Clone, Copy)]
 pub enum BitResult {
     Union(Part, Part),

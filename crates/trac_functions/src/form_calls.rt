@@ -1,5 +1,6 @@
 //! The functions that make, remove and list forms, and that call a whole form: `ds`, `ss`, `ln`,
-//! `dd`, `da`, `cl`.
+//! `dd`, `da`, `cl`. If no form has the name N, `ss` and `cl` change nothing and have a null value, which is
+//! this processor's own choice.
 ghost use Rattle.std.specs.Prelude.{◌≡◌, ◌↔◌, ◌+◌, ◌<◌, ◌≤◌, List, ◌++◌, length, drop};
 ghost use Rattle.std.specs.Prelude.{Bool, true, IsTrue, MatchOption};
 ghost use Rattle.std.specs.Bool.{OnTrue};

@@ -1,4 +1,5 @@
-//! The functions that take a part of a form: `cs`, `cc`, `cn`, `in`, and `cr`.
+//! The functions that take a part of a form: `cs`, `cc`, `cn`, `in`, and `cr`. If no form has the name N,
+//! they change nothing and have a null value, which is this processor's own choice.
 ghost use Rattle.std.specs.Prelude.{◌≡◌, ◌↔◌, ◌+◌, ◌-◌, ◌<◌, ◌≤◌, ◌++◌, ℕ, min};
 ghost use Rattle.std.specs.Prelude.{take, drop, reverse, length, Some, None, IsTrue, true, false};
 ghost use Rattle.std.specs.Bool.{OnTrue};
@@ -174,7 +175,7 @@ pub fn call_number(work: &mut Work, mut arguments: Arguments) -> CallResult
     }
 }
 
-/// Takes so many characters forward or backward.
+/// Takes `count` characters of a form, forward from its pointer or backward.
 fn take_characters(work: &mut Work, form: FormId, count: Count, default: Part) -> CallResult
     requires known { form_place form < length work.old.forms }
     requires part { IsTextPart work.old.neutral default.from default.to }
@@ -198,7 +199,7 @@ fn take_characters(work: &mut Work, form: FormId, count: Count, default: Part) -
     }
 }
 
-/// Takes the next so many characters after the pointer.
+/// Takes the next `count` characters after the pointer.
 fn take_forward(work: &mut Work, form: FormId, count: u32, default: Part) -> CallResult
     requires known { form_place form < length work.old.forms }
     requires some { 0 < count }
@@ -217,7 +218,7 @@ fn take_forward(work: &mut Work, form: FormId, count: u32, default: Part) -> Cal
     take_part(work, form, Part { from, to }, to)
 }
 
-/// Takes the last so many characters before the pointer.
+/// Takes the last `count` characters before the pointer.
 fn take_backward(work: &mut Work, form: FormId, count: u32, default: Part) -> CallResult
     requires known { form_place form < length work.old.forms }
     requires some { 0 < count }
@@ -236,7 +237,7 @@ fn take_backward(work: &mut Work, form: FormId, count: u32, default: Part) -> Ca
     take_part(work, form, Part { from, to }, from)
 }
 
-/// The place after the next so many characters, or after all of them where there are fewer.
+/// The place after the next `count` characters from `from` on, or after all of them if there are fewer.
 fn place_after(work: &Work, form: FormId, from: u32, count: u32) -> u32
     requires known { form_place form < length work.now.forms }
     requires within { from ≤ length (body_at work.now.forms (form_place form)) }
@@ -256,8 +257,8 @@ fn place_after(work: &Work, form: FormId, from: u32, count: u32) -> u32
     place
 }
 
-/// The place of the first of the last so many characters before a
-/// place, or of the first of all of them where there are fewer.
+/// The place of the first of the last `count` characters before `to`, or of the first of all of them if there
+/// are fewer.
 fn place_before(work: &Work, form: FormId, to: u32, count: u32) -> u32
     requires known { form_place form < length work.now.forms }
     requires within { to ≤ length (body_at work.now.forms (form_place form)) }
@@ -296,8 +297,8 @@ fn take_part(work: &mut Work, form: FormId, part: Part, pointer: u32) -> CallRes
     CallResult::AtEnd
 }
 
-/// Puts the characters of a part of the body, gaps left out, at
-/// the end of the neutral string, if there are cells for them.
+/// Copies the characters of a form's body from place `from` up to `to` to the end of the neutral string,
+/// gaps left out. False if they don't fit; then no form has changed, but some of them may stand there.
 pub fn copy_characters(work: &mut Work, form: FormId, from: u32, to: u32) -> bool
     requires known { form_place form < length work.old.forms }
     requires order { from ≤ to }

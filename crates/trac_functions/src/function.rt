@@ -34,7 +34,8 @@ fn lower(cell: &Cell) -> u8
     LOWER[usize::from(character_of(cell))]
 }
 
-/// The function of this name, in letters of either case.
+/// The function that a name of cells names, in ASCII letters of either case. None if no function has the
+/// name. The names are Mooers' (1966 and 1972), the letters of either case this processor's own choice.
 pub fn function_named(name: &[Cell]) -> Option<Function>
     ensures { result ≡ function_named (text_of_cells name.now) }
 {
@@ -44,8 +45,8 @@ pub fn function_named(name: &[Cell]) -> Option<Function>
     function_of(first, second)
 }
 
-/// The function that is named before the first comma mark, in letters of either case. That mark is
-/// not looked for further, since each name has two characters.
+/// The function that the cells before the first comma mark name, in ASCII letters of either case. None if
+/// no function has that name. Looks at three cells at most, since each name has two characters.
 #[inline]
 pub fn function_before_comma(cells: &[Cell]) -> Option<Function>
     ensures named { let name = text_of_cells (take (before_comma cells.now) cells.now) in
@@ -108,8 +109,8 @@ fn function_of(first: &Cell, second: &Cell) -> Option<Function>
     }
 }
 
-/// What the function makes of the arguments that follow its name; a null value of those that the
-/// machine calls itself: they touch a device or the meta character, or end the run.
+/// Performs a function with the arguments that follow its name. The machine itself performs the functions
+/// that touch a device or the meta character, or end the run; here they have a null value.
 #[inline(always)]
 pub fn value_of(work: &mut Work, function: Function, arguments: Arguments) -> CallResult
     requires arguments { AreArguments work.old arguments }

@@ -18,7 +18,7 @@ is_octal c = nat_le 48 c && nat_le c 55
 abbrev pub octal_digits : Text → Text
 octal_digits text = drop (length text - suffix_len is_octal text) text
 
--- the text before these digits
+-- the text before its longest suffix of octal digits
 abbrev pub octal_prefix : Text → Text
 octal_prefix text = take (length text - suffix_len is_octal text) text
 
@@ -47,23 +47,23 @@ bitwise f [] others = []
 bitwise f (a ∷ rest) [] = []
 bitwise f (a ∷ rest) (b ∷ others) = f a b ∷ bitwise f rest others
 
--- filled with zeros at the left, up to a length
+-- the bits filled with zeros at the left, up to n bits
 abbrev pub padded : ℕ → Bits → Bits
 padded n l = replicate (n - length l) false ++ l
 
--- cut at the left, down to a length
+-- the bits cut at the left, down to n bits
 abbrev pub cut : ℕ → Bits → Bits
 cut n l = drop (length l - n) l
 
--- the shorter one filled with zeros
+-- the union of two bit strings, of which the shorter is filled with zeros
 abbrev pub union : Bits → Bits → Bits
 union a b = bitwise ◌||◌ (padded (length b) a) (padded (length a) b)
 
--- the longer one cut
+-- the intersection of two bit strings, of which the longer is cut
 abbrev pub intersection : Bits → Bits → Bits
 intersection a b = bitwise ◌&&◌ (cut (length b) a) (cut (length a) b)
 
--- each bit turned over
+-- the bit string with each bit turned over
 abbrev pub complement : Bits → Bits
 complement l = map not l
 
@@ -76,10 +76,10 @@ bit_at l (negsuc i) = false
 abbrev pub bits_by : (ℕ → Bool) → ℕ → Bits
 bits_by f n = map f (range_with_len 0 n)
 
--- bit i of the shift is bit i + d, 0 if there is none
+-- the bit string shifted left by d places: its bit i is bit i + d, 0 if there is none
 abbrev pub shifted : ℤ → Bits → Bits
 shifted d l = bits_by (λ i. bit_at l (pos i +ℤ d)) (length l)
 
--- bit i of the rotation is bit i + d, modulo the length
+-- the bit string rotated left by d places: its bit i is bit i + d, modulo the length
 abbrev pub rotated : ℤ → Bits → Bits
 rotated d l = bits_by (λ i. bit_at l (int_rem_euclid (pos i +ℤ d) (pos (length l)))) (length l)

@@ -74,28 +74,29 @@ before_meta world = before_first (λ c. c == world.meta) world.input.text
 abbrev pub from_meta : World → Text
 from_meta world = drop (position_or_len (λ c. c == world.meta) world.input.text) world.input.text
 
--- the world with this text still to be read
+-- the world in which `text` is still to be read
 abbrev pub with_input : Text → World → World
 with_input text world = record world { input = record { text = text; fails = world.input.fails } }
 
--- what was read from a source that gave everything it had
+-- the meaning of `rs` where no meta character follows: all of the input, or the end of the run if there is none
+-- or the source failed
 abbrev pub read_all : Bool → Text → World → Meaning
 read_all true text world = Ends InputFailed
 read_all false [] world = Ends InputEnded
 read_all false (c ∷ text) world = valued (c ∷ text) (with_input [] world)
 
--- what was read, and the input from the meta character on
+-- the meaning of `rs`, by the text before the meta character and the input from the meta character on
 abbrev pub read_string : Text → Text → World → Meaning
 read_string text [] world = read_all world.input.fails text world
 read_string text (meta ∷ rest) world = valued text (with_input rest world)
 
--- the next character of the input
+-- the meaning of `rc`: the next character of the input
 abbrev pub read_character : Text → Bool → World → Meaning
 read_character (c ∷ rest) fails world = valued (c ∷ []) (with_input rest world)
 read_character [] true world = Ends InputFailed
 read_character [] false world = Ends InputEnded
 
--- the first character of the text becomes the meta character, if it has one
+-- the meaning of `cm`: the first character of the text becomes the meta character, if there is one
 abbrev pub change_meta : Text → World → Meaning
 change_meta [] world = silent world
 change_meta (c ∷ text) world = silent (record world { meta = c })
@@ -119,7 +120,7 @@ on_form (Some form) meaning world = meaning form
 abbrev pub with_form : Text → (Form → Form) → World → World
 with_form name change world = record world { forms = changed name change world.forms }
 
--- a part of a form is taken and its pointer moved, or z is the value
+-- the meaning of a call that takes a part of a form and moves its pointer; z is the value if there is no part
 abbrev pub take_part : Text → Option Part → Text → World → Meaning
 take_part name None z world = forced z world
 take_part name (Some part) z world =
@@ -134,12 +135,12 @@ segmented args form =
 abbrev pub is_listed : List Text → Form → Bool
 is_listed args form = list_any (bytes_eq form.name) (drop 1 args)
 
--- the prefix and the result, or z
+-- the meaning of a call of arithmetic: the value is the prefix and the result, or z if there is no result
 abbrev pub result_or : Option ℤ → Text → Text → World → Meaning
 result_or None before z world = forced z world
 result_or (Some n) before z world = valued (before ++ signed_decimal n) world
 
--- the prefix and the octal digits of a result
+-- the meaning of a boolean call: the value is the prefix and the octal digits of the result
 abbrev pub bits_result : Text → Bits → World → Meaning
 bits_result before l world = valued (before ++ octal l) world
 
@@ -147,16 +148,16 @@ bits_result before l world = valued (before ++ octal l) world
 abbrev pub form_of_call : List Text → World → Option Form
 form_of_call args world = form_named (argument args 1) world.forms
 
--- the meaning if there is such a form
+-- the meaning of a call that needs the form that its first argument names; null if there is none
 abbrev pub on_form_of_call : List Text → World → (Form → Meaning) → Meaning
 on_form_of_call args world meaning = on_form (form_of_call args world) meaning world
 
--- a part of that form is taken, or z is the value
+-- the meaning of a call that takes a part of the form that its first argument names, or z if there is no part
 abbrev pub take_of_call : List Text → World → (Form → Option Part) → Text → Meaning
 take_of_call args world part z =
     on_form_of_call args world (λ form. take_part (argument args 1) (part form) z world)
 
--- what a function makes of the arguments
+-- the meaning of a call of a function, by its arguments, the function's name being the first
 unfoldable pub meaning_of : Function → List Text → World → Meaning
 meaning_of ReadString args world = read_string (before_meta world) (from_meta world) world
 meaning_of ReadCharacter args world = read_character world.input.text world.input.fails world
@@ -213,7 +214,7 @@ meaning_of Rotate args world =
     bits_result (octal_prefix (argument args 2))
     (rotated (number (argument args 1)) (bits (argument args 2))) world
 
--- a name that is no function gives a null value
+-- the meaning of a call; a name that is no function's gives a null value
 abbrev pub meaning : Option Function → List Text → World → Meaning
 meaning None args world = silent world
 meaning (Some function) args world = meaning_of function args world

@@ -13,11 +13,11 @@ use Rattle.trac_language.specs.Text.{Text}
 abbrev pub digits : Text → Text
 digits text = drop (length text - suffix_len is_ascii_digit text) text
 
--- the text before these digits
+-- the text before its longest suffix of decimal digits
 abbrev pub before_digits : Text → Text
 before_digits text = take (length text - suffix_len is_ascii_digit text) text
 
--- whether the last character of the text is this one
+-- whether the last character of the text is c
 abbrev pub ends_with : ℕ → Text → Bool
 ends_with c text = nat_lt 0 (length text) && (slice_index text (length text - 1) == c)
 

@@ -17,7 +17,7 @@ pub record Part : Type 0 where
 abbrev pub characters_between : List Item → ℕ → ℕ → Text
 characters_between body from to = text_of (slice_range body from to)
 
--- these characters, with the pointer afterwards
+-- the part of the characters of a body between two places, with the pointer afterwards
 abbrev pub part_between : List Item → ℕ × ℕ → ℕ → Part
 part_between body places pointer =
     record { text = characters_between body places.0 places.1; pointer = pointer }
@@ -49,7 +49,7 @@ abbrev pub next_segment : Form → Option Part
 next_segment form =
     segment_from form.pointer (after_pointer form) (take_while is_character (after_pointer form))
 
--- a part that has a character
+-- the part, none if it has no character
 abbrev pub unless_null : Part → Option Part
 unless_null part = if nat_lt 0 (length part.text) then Some part else None
 
@@ -73,7 +73,7 @@ previous_characters n form =
     backward form
     (last_characters (min n (length (text_of (before_pointer form)))) (before_pointer form))
 
--- this number of characters forward, or backward if it is negative
+-- the part that has a number of characters forward from the pointer, or backward if the number is negative
 abbrev pub characters : ℤ → Form → Option Part
 characters (pos zero) form = Some (record { text = []; pointer = form.pointer })
 characters (pos (suc n)) form = next_characters (suc n) form

@@ -8,7 +8,7 @@ abbrev pub count : ℕ → Text → ℕ
 count c text = count_by (λ x. x == c) text
 
 -- what stands before and after the first right parenthesis
--- that has as many left as right ones before it
+-- that has as many left as right parentheses before it
 unfoldable pub split_at_match : Text → Text → Option (Text × Text)
 split_at_match before [] = None
 split_at_match before (c ∷ text) =

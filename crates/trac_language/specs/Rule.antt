@@ -25,19 +25,19 @@ pub data Rule : Type 0 where
   -- any other character
   AddCharacter : (c : ℕ) (rest : Text) → Rule
 
--- after a left parenthesis
+-- the rule for an active string that begins with a left parenthesis, by its protected text and the rest
 abbrev pub parenthesis_rule : Option (Text × Text) → Rule
 parenthesis_rule None = ClearActive
 parenthesis_rule (Some parts) = AddProtected parts.0 parts.1
 
--- after a number sign
+-- the rule for an active string that begins with a number sign, by the text behind that sign
 abbrev pub number_sign_rule : Text → Rule
 number_sign_rule text =
     if bytes_eq (take 1 text) (codes "(") then BeginCall Active (drop 1 text)
     else (if bytes_eq (take 2 text) (codes "#(") then BeginCall Neutral (drop 2 text)
     else AddCharacter 35 text)
 
--- a tab, a line feed or a carriage return
+-- whether a character is layout: a tab, a line feed or a carriage return
 abbrev pub is_layout : ℕ → Bool
 is_layout c = (c == 9) || (c == 10) || (c == 13)
 

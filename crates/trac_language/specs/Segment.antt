@@ -34,7 +34,7 @@ abbrev pub segment : Text → ℕ → List Item → List Item
 segment [] k items = items
 segment (c ∷ text) k items = segment_after zero (c ∷ text) k items
 
--- segmented by the first text with ordinal k, then by the next with k + 1, and so on
+-- the items, segmented by the first text with gaps of ordinal k, then by the next with k + 1, and so on
 abbrev pub segment_by : List Text → ℕ → List Item → List Item
 segment_by [] k items = items
 segment_by (text ∷ texts) k items = segment_by texts (suc k) (segment text k items)

@@ -11,7 +11,7 @@ pub record OpenCall : Type 0 where
   pub earlier : List Text
   pub last : Text
 
--- its arguments so far
+-- the arguments of an open call so far
 abbrev pub arguments : OpenCall → List Text
 arguments call = call.earlier ++ call.last ∷ []
 

@@ -31,13 +31,13 @@ abbrev pub world_of : State → World
 world_of state =
     record { forms = state.memory.forms; meta = state.memory.meta; input = state.input }
 
--- the value before the active string, or at the end of the neutral string
+-- the memory with a value before the active string, or at the end of the neutral string
 abbrev pub deliver : Mode → Bool → Text → Memory → Memory
 deliver Active forced value memory = record memory { active = value ++ memory.active }
 deliver Neutral true value memory = record memory { active = value ++ memory.active }
 deliver Neutral false value memory = add value memory
 
--- a call was performed whose marks and arguments have left the neutral string
+-- the outcome of a call, by its meaning, in a state from which its mark and arguments have left
 abbrev pub perform : Mode → Meaning → State → Outcome
 perform mode (Ends fate) state = Over fate
 perform mode (Gives answer) state = Next (record {
@@ -63,7 +63,7 @@ with_memory memory state = record state { memory = memory }
 abbrev pub with_active : Text → State → State
 with_active text state = with_memory (record state.memory { active = text }) state
 
--- what each rule does
+-- the outcome of a step that follows a rule
 abbrev pub follow : Rule → State → Outcome
 follow LoadIdling state =
     Next (with_memory (record state.memory { active = idling; base = []; calls = [] }) state)
@@ -81,17 +81,17 @@ follow (EndCall rest) state = end_call state.memory.calls (with_active rest stat
 follow (AddCharacter c rest) state =
     Next (with_memory (add (c ∷ []) (record state.memory { active = rest })) state)
 
--- the next state, or an end
+-- the outcome of a step: the next state, or an end of the run
 unfoldable pub step : State → Outcome
 step state = follow (rule state.memory.active) state
 
--- the cells that a right parenthesis needs
+-- the cells that a step by a right parenthesis needs
 abbrev pub end_need : List OpenCall → State → ℕ
 end_need [] state = size state.memory
 end_need (call ∷ outer) state =
     size state.memory - 1 + built (function_of call) (arguments call) (world_of state)
 
--- the cells that each rule needs
+-- the cells that a step by a rule needs
 abbrev pub need_by : Rule → State → ℕ
 need_by LoadIdling state = cells state.memory.forms + 11
 need_by (DeleteLayout rest) state = size state.memory

@@ -12,12 +12,12 @@ is_named name form = bytes_eq form.name name
 abbrev pub form_named : Text → List Form → Option Form
 form_named name forms = find (is_named name) forms
 
--- the forms without that of this name
+-- the forms without the form of this name
 abbrev pub without : Text → List Form → List Form
 without name [] = []
 without name (form ∷ forms) = if is_named name form then forms else form ∷ without name forms
 
--- the forms with that of this name changed
+-- the forms, of which the form of this name is changed
 abbrev pub changed : Text → (Form → Form) → List Form → List Form
 changed name change [] = []
 changed name change (form ∷ forms) =

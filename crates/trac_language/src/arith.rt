@@ -6,13 +6,13 @@ ghost use Rattle.trac_language.specs.Number.{arith, exactly, in_range};
 /// An operation of arithmetic (Mooers 1966).
 #[derive(Clone, Copy)]
 pub enum Arith {
-    /// `ad`.
+    /// `ad`: the sum.
     Add,
-    /// `su`.
+    /// `su`: the difference.
     Subtract,
-    /// `ml`.
+    /// `ml`: the product.
     Multiply,
-    /// `dv`.
+    /// `dv`: the quotient.
     Divide,
 }
 

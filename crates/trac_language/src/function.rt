@@ -19,7 +19,7 @@ pub enum Function {
     DefineString,
     /// `ss`: makes texts in a form gaps.
     SegmentString,
-    /// `dd`: removes the forms of these names.
+    /// `dd`: removes the forms that its arguments name.
     DeleteDefinition,
     /// `da`: removes all forms.
     DeleteAll,

@@ -5,9 +5,9 @@ use crate::fate::Fate;
 /// What a run came to. The accounting of steps and cells is this processor's own choice.
 #[derive(Clone, Copy, Debug, PartialEq, Eq)]
 pub struct Report {
-    /// How it ended.
+    /// How the run ended.
     pub fate: Fate,
-    /// The steps done.
+    /// How many steps the run did.
     pub steps: u64,
     /// The greatest need of a step, in cells: the smallest room in which the run ends the same way.
     pub peak: u32,

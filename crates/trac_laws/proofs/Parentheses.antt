@@ -11,7 +11,7 @@ some_not_none p e = cc
 pub count_push : (c : ℕ) (t : Text) (x : ℕ) → count c (t ++ x ∷ []) ≡ count c t + weight (x == c)
 count_push c t x = sum_by_push (λ x. cond (x == c) 1 0) t x
 
--- one more right parenthesis
+-- a text with one more right parenthesis has one more
 count_right : (t : Text) → count 41 (t ++ 41 ∷ []) ≡ suc (count 41 t)
 count_right t = count_push 41 t 41 ∙ (omega arith)
 
@@ -24,7 +24,7 @@ prefix_at t c rest =
     let n : length (t ++ c ∷ []) ≡ suc (length t) = omega (arith, length-append t (c ∷ [])) in
     ap (take (suc (length t))) (sym (append_assoc t (c ∷ []) rest)) ∙ take_at (t ++ c ∷ []) rest (suc (length t)) n
 
--- the shorter of two such texts stands before a right parenthesis in the longer
+-- of two texts before a right parenthesis of one text, the shorter stands before a right parenthesis in the longer
 shorter : (t u r v : Text) → t ++ 41 ∷ r ≡ u ++ 41 ∷ v → length t < length u → take (suc (length t)) u ≡ t ++ 41 ∷ []
 shorter t u r v e lt =
     let within : suc (length t) ≤ length u = omega arith in
@@ -43,7 +43,7 @@ tail_of : Text → Text
 tail_of [] = []
 tail_of (c ∷ t) = t
 
--- there is at most one protected text
+-- a text has at most one protected text at its beginning
 pub one_protected : (text t r u v : Text) → IsProtected text t r → IsProtected text u v → (t ≡ u) × (r ≡ v)
 unfolding tail_of
 one_protected text t r u v p q =
@@ -68,7 +68,7 @@ pub split_none : (before : Text) → split_at_match before [] ≡ None
 unfolding split_at_match
 split_none before = refl
 
--- it is found: t is what is left of the protected text behind before
+-- the match of a left parenthesis is found: t is what is left of the protected text behind `before`
 finds : (t before rest : Text) → IsBalanced (before ++ t) → split_at_match before (t ++ 41 ∷ rest) ≡ Some (before ++ t, rest)
 finds [] before rest b =
     let e = append-nil before in

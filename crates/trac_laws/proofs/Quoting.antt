@@ -23,7 +23,7 @@ abbrev after : ℕ → State → State
 after zero s = s
 after (suc n) s = after n (next_of s (step s))
 
--- their greatest need
+-- the greatest need of n steps
 abbrev peak_of : ℕ → State → ℕ
 peak_of zero s = 0
 peak_of (suc n) s = max (need s) (peak_of n (next_of s (step s)))
@@ -210,7 +210,7 @@ end_need output = refl
 
 -- ---- from the last step back to the first
 
--- a run that prints the text in so many steps, with no greater peak than reading it needs
+-- a run that prints the text t in `steps` steps, with no greater peak than reading the text needs
 record Prints (t : Text) (steps : ℕ) (r : Run) : Type 0 where
   peak : ℕ
   bound : peak ≤ 16 + length t
@@ -222,7 +222,7 @@ prints_later t room n m steps s u goes to small le r =
     let bound = r.bound in
     record { peak = max (peak_of n s) r.peak; bound = omega arith; is = runs_on room n m s goes (omega arith) ∙ ap (λ x. since n (peak_of n s) (run room m x)) to ∙ ap (since n (peak_of n s)) r.is }
 
--- one more step
+-- a run that begins with one more step prints the text, too
 prints_next : (t : Text) (room m steps : ℕ) (s u : State) → step s ≡ Next u → need s ≤ 16 + length t → 16 + length t ≤ room → Prints t steps (run room m u) → Prints t (suc steps) (run room (suc m) s)
 prints_next t room m steps s u to small le r =
     let bound = r.bound in

@@ -3,7 +3,7 @@ use Rattle.trac_laws.proofs.Imports.{◌≡◌, ℕ, ◌+◌, ◌<◌, ◌≤◌
 use Rattle.trac_laws.proofs.TakenInput.{standing, step_anywhere}
 use Rattle.trac_laws.proofs.Reached.{Reached, reached_start, reached_next, reached_over}
 
--- the steps so far have taken this of the input, and would have done the same however it went on
+-- n steps have taken `taken` of the input, and would have done the same however the input went on
 pub record ReachedAnywhere (room : ℕ) (start : Memory) (written : Text) (taken : Text) (n peak : ℕ) (m : Memory) (out : Text) : Type 0 where
   pub is : (R : Text) (e : Bool) → Reached room (standing start (taken ++ R) e written) n peak (standing m R e out)
 

@@ -55,7 +55,7 @@ pub step_grows : (s t : State) → step s ≡ Next t → IsPrefix s.output t.out
 unfolding step
 step_grows s t e = subst (Grows s.output) e (follow_grows (rule s.memory.active) s)
 
--- and so does a run
+-- a run only adds to the output
 pub run_grows : (room n : ℕ) (s : State) → IsPrefix s.output (run room n s).output
 run_grows room zero s = subst (λ r. IsPrefix s.output r.output) (sym (run_none room s)) (prefix_refl s.output)
 run_grows room (suc n) s =
@@ -67,7 +67,7 @@ run_grows room (suc n) s =
     (cases_outcome (step s)))
     (cases_lt room (need s))
 
--- the same in every larger room
+-- a run whose fate isn't Workspace is the same in every larger room
 pub same_in_larger : (room larger n : ℕ) (s : State) → (run room n s).fate ≢ Workspace → room ≤ larger → run larger n s ≡ run room n s
 same_in_larger room larger zero s h le = run_none larger s ∙ sym (run_none room s)
 same_in_larger room larger (suc n) s h le =
@@ -82,7 +82,7 @@ same_in_larger room larger (suc n) s h le =
     (cases_outcome (step s)))
     (cases_lt room (need s))
 
--- the same with every larger allowance
+-- a run whose fate isn't Steps is the same with every larger allowance
 pub same_with_more : (room n m : ℕ) (s : State) → (run room n s).fate ≢ Steps → n ≤ m → run room m s ≡ run room n s
 same_with_more room zero m s h le = absurd (h (ap (λ r. r.fate) (run_none room s)))
 same_with_more room (suc n) zero s h le = absurd (omega arith)
@@ -127,7 +127,7 @@ cut_by_steps room (suc n) (suc m) s lt =
     (cases_outcome (step s)))
     (cases_lt room (need s))
 
--- the same in every room of at least the peak
+-- a run whose fate isn't Workspace is the same in every room of at least its peak
 pub same_in_peak : (room other n : ℕ) (s : State) → (run room n s).fate ≢ Workspace → (run room n s).peak ≤ other → run other n s ≡ run room n s
 same_in_peak room other zero s h le = run_none other s ∙ sym (run_none room s)
 same_in_peak room other (suc n) s h le =

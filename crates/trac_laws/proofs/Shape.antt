@@ -16,7 +16,7 @@ reads f = false
 abbrev pub world_with : List Form → ℕ → Input → World
 world_with forms meta i = record { forms = forms; meta = meta; input = i }
 
--- of an input another is left
+-- `after` is what is left of the input `before`
 abbrev pub LeftOf : Input → Input → Type 0
 LeftOf before after = (front : Text) × ((before.text ≡ front ++ after.text) × (after.fails ≡ before.fails))
 
@@ -73,7 +73,7 @@ module _ (f : Function) (args : List Text) (forms : List Form) (meta : ℕ) wher
       on_form-shape name (λ form i. valued [] (world_with (changed name change forms) meta i))
       (λ form e. quiet [] false (changed name change forms) meta (λ h. store_changed_found name change forms form h e keeps (fits form (found_within name forms form h e))))
 
-  -- one that takes a part of it
+  -- a call that takes a part of the form that it names
   take-shape : (part : Form → Option Part) (z : Text) → ((form : Form) → form.pointer ≤ length form.body → Fits (length form.body) (part form)) → Shape f forms meta (λ i. on_form (form_named (argument args 1) forms) (λ form. take_part (argument args 1) (part form) z (world_with forms meta i)) (world_with forms meta i))
   take-shape part z fits =
       let name = argument args 1 in

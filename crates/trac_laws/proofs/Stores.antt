@@ -8,7 +8,7 @@ use Rattle.trac_laws.proofs.Imports.{last_characters, segment_from, next_segment
 
 -- ---- the parts that calls take lie within the body
 
--- the pointer of a part is a place of a body of so many items
+-- the pointer of a part is a place of a body of n items
 abbrev pub Fits : ℕ → Option Part → Type 0
 Fits n None = Unit {0}
 Fits n (Some part) = part.pointer ≤ n
@@ -169,6 +169,6 @@ found_fits name (form ∷ forms) h =
 pub found_within : (name : Text) (forms : List Form) (form : Form) → IsStore forms → form_named name forms ≡ Some form → form.pointer ≤ length form.body
 found_within name forms form h e = subst (λ o. OfFound o (λ form. form.pointer ≤ length form.body)) e (found_fits name forms h)
 
--- and may be changed to another of that kind
+-- the form of a name may be changed to another one of that name whose pointer is within its body
 pub store_changed_found : (name : Text) (change : Form → Form) (forms : List Form) (form : Form) → IsStore forms → form_named name forms ≡ Some form → ((form : Form) → (change form).name ≡ form.name) → (change form).pointer ≤ length (change form).body → IsStore (changed name change forms)
 store_changed_found name change forms form h e keeps fits = store_changed name change forms keeps (subst (λ o. OfFound o (λ form. (change form).pointer ≤ length (change form).body)) (sym e) fits) h

@@ -54,7 +54,7 @@ position_is : (p : ℕ → Bool) (u : Text) (c : ℕ) (v : Text) → NonePass p 
 position_is p [] c v none e = ap (λ b. cond (not b) (1 + position_or_len p v) 0) e
 position_is p (x ∷ u) c v none e = let rest = position_is p u c v none.1 e in ap (λ b. cond (not b) (1 + position_or_len p (u ++ c ∷ v)) 0) none.0 ∙ omega arith
 
--- one of three kinds of functions
+-- a function reads a string, reads a character, or reads nothing
 pub data Kind (f : Function) : Type 0 where
   IsString : f ≡ ReadString → Kind f
   IsCharacter : f ≡ ReadCharacter → Kind f

@@ -20,7 +20,7 @@ value_length-with_source : (i : Input) (m : Meaning) → value_length (with_sour
 value_length-with_source i (Gives answer) = refl
 value_length-with_source i (Ends fate) = refl
 
--- and builds as much
+-- a call that doesn't read builds as much with another input
 pub built_elsewhere : (f : Function) (args : List Text) (world : World) (i : Input) → reads f ≡ false → built (Some f) args (record world { input = i }) ≡ built (Some f) args world
 built_elsewhere ReadString args world i e = cc
 built_elsewhere ReadCharacter args world i e = cc

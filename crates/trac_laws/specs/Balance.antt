@@ -3,7 +3,7 @@ use Rattle.std.specs.Prelude.{◌≡◌, ℕ, ◌≤◌, ◌∷◌, ◌++◌, ta
 use Rattle.trac_language.specs.Text.{Text}
 use Rattle.trac_language.specs.Protected.{count}
 
--- as many left as right parentheses, and no prefix with more right than left
+-- a text has as many left as right parentheses, and no prefix of it has more right than left ones
 pub record IsBalanced (text : Text) : Type 0 where
   pub same : count 40 text ≡ count 41 text
   pub prefixes : (n : ℕ) → count 41 (take n text) ≤ count 40 (take n text)

@@ -10,7 +10,7 @@ use Rattle.trac_laws.specs.Balance.{IsProtected}
 abbrev pub IsLayout : ℕ → Type 0
 IsLayout c = (c ≡ 9) ⊎ ((c ≡ 10) ⊎ (c ≡ 13))
 
--- no parenthesis, no comma, no layout
+-- the character is no parenthesis, no comma and no layout
 pub record IsOrdinary (c : ℕ) : Type 0 where
   pub opens : c ≢ 40
   pub closes : c ≢ 41
@@ -19,7 +19,7 @@ pub record IsOrdinary (c : ℕ) : Type 0 where
   pub feed : c ≢ 10
   pub back : c ≢ 13
 
--- the text begins with the other
+-- `text` begins with `start`
 abbrev pub Begins : Text → Text → Type 0
 Begins start text = (rest : Text) × (text ≡ start ++ rest)
 

@@ -34,7 +34,7 @@ MoreSteps =
     allowance ≤ larger →
     run room larger (first input) ≡ run room allowance (first input)
 
--- with every allowance below its steps it has the fate Steps and a prefix of the output
+-- a run whose fate isn't Steps has, with every allowance below its steps, the fate Steps and a prefix of the output
 abbrev pub FewerSteps : Type 0
 FewerSteps =
     (input : Input) (room allowance fewer : ℕ) →
@@ -51,7 +51,7 @@ LeastRoom =
     (run room allowance (first input)).peak ≤ other →
     run other allowance (first input) ≡ run room allowance (first input)
 
--- in every smaller room it has the fate Workspace and a prefix of the output
+-- a run whose fate isn't Workspace has, in every room below its peak, the fate Workspace and a prefix of the output
 abbrev pub LessRoom : Type 0
 LessRoom =
     (input : Input) (room smaller allowance : ℕ) →
@@ -80,7 +80,7 @@ Quoted =
     25 ≤ allowance →
     run room allowance (first (quoting text)) ≡ quoted text
 
--- of a text at most one part is protected at its beginning, and so what follows it is one as well
+-- a text has at most one protected text at its beginning, and so at most one rest behind that
 abbrev pub OneProtected : Type 0
 OneProtected =
     (text inside rest other behind : Text) →
@@ -88,7 +88,7 @@ OneProtected =
     IsProtected text other behind →
     (inside ≡ other) × (rest ≡ behind)
 
--- the part that the definition of a step takes is that one, and it takes one wherever there is one
+-- the definition of a step takes the protected text at the beginning of a text, and takes one wherever there is one
 abbrev pub FindsProtected : Type 0
 FindsProtected =
     (text inside rest : Text) →
@@ -102,13 +102,13 @@ KeepsForms =
     step before ≡ Next after →
     IsStore after.memory.forms
 
--- the state with more behind its input, and with this end of it
+-- the state with `more` behind its input, which then fails or ends, as `fails` says
 abbrev pub with_more : Text → Bool → State → State
 with_more more fails s =
     record s { input = record { text = s.input.text ++ more; fails = fails } }
 
--- a step that doesn't read to the end of its input does the same, and needs as much, where more
--- stands behind that input and however that ends: it leaves it there
+-- a step that doesn't read to the end of its input does what it did, and needs as much, if `more` stands
+-- behind that input, however the input then ends: the step leaves `more` there
 abbrev pub ReadsNoFurther : Type 0
 ReadsNoFurther =
     (before after : State) (more : Text) (fails : Bool) →

@@ -11,12 +11,12 @@ use Rattle.trac_language.specs.Rule.{BeginArgument, BeginCall, EndCall, AddChara
 use Rattle.trac_language.specs.Step.{Outcome, Next, Over, function_of, world_of}
 use Rattle.trac_laws.specs.Fitting.{Fits}
 
--- the innermost open call is this one, within these others
+-- the innermost open call is `call`, and `outer` are the calls around it
 abbrev pub IsInnermost : OpenCall → List OpenCall → Memory → Type 0
 IsInnermost call outer memory = memory.calls ≡ call ∷ outer
 
--- the text is put at the end of the base text where no call is open, and else of the last argument
--- of the innermost call
+-- the text is put at the end of the last argument of the innermost call, or of the base text if no call
+-- is open
 abbrev pub Adds : Text → Memory → Memory → Type 0
 Adds text before after =
     ((before.calls ≡ []) × (after ≡ record before { base = before.base ++ text }))
@@ -32,15 +32,15 @@ AddsArgument before after =
       calls = record call { earlier = arguments call; last = [] } ∷ outer;
     }))))
 
--- the value of an active call, and one that is scanned whatever the call's mode, comes before the
--- active string; that of a neutral call is put at the end of the neutral string
+-- the value of an active call, and a value that is scanned whatever the call's mode, comes before the
+-- active string; the value of a neutral call is put at the end of the neutral string
 abbrev pub Delivers : Mode → Bool → Text → Memory → Memory → Type 0
 Delivers mode forced value before after =
     (((mode ≡ Active) ⊎ (forced ≡ true))
     × (after ≡ record before { active = value ++ before.active }))
     ⊎ ((mode ≡ Neutral) × ((forced ≡ false) × Adds value before after))
 
--- the state after a call that has this answer
+-- `after` is the state after a call with an answer
 pub record IsAfter (mode : Mode) (answer : Answer) (before after : State) : Type 0 where
   pub memory : Delivers mode answer.forced answer.value
       (record before.memory { forms = answer.world.forms; meta = answer.world.meta }) after.memory
@@ -62,16 +62,16 @@ EndsCall before outcome =
     × FollowsMeaning call.mode (meaning (function_of call) (arguments call) (world_of before))
     (record before { memory = record before.memory { calls = outer } }) outcome)))
 
--- the state goes on with this active string
+-- the state with the active string `rest`
 abbrev pub rest_of : Text → State → State
 rest_of rest before = record before { memory = record before.memory { active = rest } }
 
--- the next state has a memory of which that is so
+-- the step goes on to a state whose memory has the property P
 abbrev pub GoesOn : (Memory → Type 0) → State → Outcome → Type 0
 GoesOn P before outcome =
     (after : Memory) × (P after × (outcome ≡ Next (record before { memory = after })))
 
--- what the rule does
+-- the rule makes this outcome of a state
 abbrev pub Does : Rule → State → Outcome → Type 0
 Does LoadIdling before outcome = outcome ≡ Next (record before {
   memory = record before.memory { active = codes "#(ps,#(rs))"; base = []; calls = [] };
@@ -93,6 +93,6 @@ Does (EndCall rest) before outcome = EndsCall (rest_of rest before) outcome
 Does (AddCharacter c rest) before outcome =
     GoesOn (Adds (c ∷ []) (rest_of rest before).memory) before outcome
 
--- some rule fits the active string, and this is what it does
+-- a rule that fits the active string makes this outcome of a state
 abbrev pub Leads : State → Outcome → Type 0
 Leads before outcome = (r : Rule) × (Fits before.memory.active r × Does r before outcome)

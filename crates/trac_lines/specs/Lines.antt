@@ -9,8 +9,8 @@ use Rattle.trac_language.specs.declared.fate.Fate.TheVariants.{InputFailed, Outp
 abbrev pub is_one_line : List ℕ → Bool
 is_one_line = list_all (λ b. not (b == 10))
 
--- the line on a run with this fate, in a workspace of so
--- many cells, with so many steps allowed and done
+-- the line on a run with this fate, in a workspace of `cells`
+-- cells, with `allowed` steps allowed and `done` steps done
 abbrev pub fault_text : Fate → ℕ → ℕ → ℕ → Option (List ℕ)
 fault_text Halted cells allowed done = None
 fault_text InputEnded cells allowed done = None

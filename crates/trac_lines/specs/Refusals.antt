@@ -11,8 +11,8 @@ refusal_status DisplayHelp = 0
 refusal_status OutOfMemory = 6
 refusal_status _ = 2
 
--- the same, once the error was shown or could not be: a
--- help that could not be written is an output that failed
+-- the exit status of the program where the words gave this error, once it was shown or
+-- could not be: a help that could not be written is an output that failed
 abbrev pub shown_status : ErrorKind → Bool → ℕ
 shown_status DisplayHelp false = 5
 shown_status kind shown = refusal_status kind

@@ -1,7 +1,7 @@
 -- Characters that are put once more by blocks, before they are looked at.
 use Rattle.trac_space.proofs.Imports.{◌≡◌, ℕ, ◌+◌, ◌-◌, ◌<◌, ◌≤◌, false, All, List, ◌++◌, length, take, drop, get_or, sym, ap, ◌∙◌, arith, rules, copy_within, take-add, places, same_lists, All-append, Cell, Comma, IsByte, is_byte_cell, byte_cell_at, paste}
 
--- the first cells of a copy, with those before it
+-- the first cells of a copy, with the cells before it
 pub front-of : {X : Type 0} (was after source : List X) (to m r : ℕ) → to ≤ length was → m ≤ length source → r ≤ m → after ≡ paste was to source m → take (to + r) after ≡ take to was ++ take r source
 front-of was after source to m r within long few is =
     rw is (same_lists _ _ (search (rules, places)) (λ i d less. grind (arith, places)))
@@ -18,7 +18,7 @@ bytes-on was now start to n k j long is apart bytes more =
     rw is (same_lists _ _ (search (rules, places)) (λ i d less. grind (arith, places))) in
     rw take-add (All-append IsByte _ _ bytes (rw part at more))
 
--- the cell behind them, before the place, is as it was
+-- the cell behind a run of characters, if it stands before the place of a copy, is as it was
 pub stop-on : (was now : List Cell) (start to n k j : ℕ) → to + n ≤ length was → now ≡ paste was to (drop start was) n → start + k + j < to → byte_cell_at now (start + k + j) ≡ false → byte_cell_at was (start + (k + j)) ≡ false
 stop-on was now start to n k j long is apart stop =
     let place : start + k + j ≡ start + (k + j) = omega arith in

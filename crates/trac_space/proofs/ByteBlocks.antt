@@ -22,7 +22,7 @@ block-more text was now new i same within is made =
 pub still-long : (now new : List Cell) (i n : ℕ) → length now ≡ n → i + 8 ≤ n → length new ≡ 8 → length (put_mid i (i + 8 - i) now new) ≡ n
 still-long now new i n long within eight = search (rules, places)
 
--- the same with the place behind them
+-- eight bytes more are written, up to the place `end`
 pub block-up_to : (text : List ℕ) (was now new : List Cell) (i end : ℕ) → end ≡ i + 8 → length was ≡ length text → end ≤ length text → now ≡ written_up_to i text was → new ≡ bytes (slice_range text i end) → put_mid i (end - i) now new ≡ written_up_to end text was
 block-up_to text was now new i end e same within is made =
     rw e (block-more text was now new i same (rw e at within) is (rw e at made))
@@ -30,7 +30,7 @@ block-up_to text was now new i end e same within is made =
 pub long-up_to : (now new : List Cell) (i end n : ℕ) → end ≡ i + 8 → length now ≡ n → end ≤ n → length new ≡ 8 → length (put_mid i (end - i) now new) ≡ n
 long-up_to now new i end n e long within eight = rw e (still-long now new i n long (rw e at within) eight)
 
--- so many cells a block of bytes makes
+-- a block of eight bytes makes eight cells
 pub block-long : (text : List ℕ) (new : List Cell) (i end : ℕ) → end ≡ i + 8 → end ≤ length text → new ≡ bytes (slice_range text i end) → length new ≡ 8
 block-long text new i end e within made =
     ap length made ∙ length-map (slice_range text i end) Byte ∙ length-between text i end within ∙ omega (arith, e)

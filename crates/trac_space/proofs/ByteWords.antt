@@ -134,7 +134,7 @@ not-false : (b : Bool) → not b ≡ true → b ≡ false
 not-false true e = absurd (false≢true e)
 not-false false e = refl
 
--- of sixteen bytes, flagged where they are others, one is looked for exactly where a flag is missing
+-- sixteen bytes are flagged where they are not the byte c, so c is among them exactly if a flag is missing
 module _ (text : List ℕ) (c x y : ℕ) (long : length text ≡ 16) (x_is : x ≡ flag_word (λ k. not (get_or text k 0 == c))) (y_is : y ≡ flag_word (λ k. not (get_or text (8 + k) 0 == c))) where
   abbrev first : ℕ → Bool
   first k = not (get_or text k 0 == c)
@@ -147,7 +147,7 @@ module _ (text : List ℕ) (c x y : ℕ) (long : length text ≡ 16) (x_is : x �
       (λ i. bit_and (x_is i) (y_is i)) ∙ and_bytes (λ k. flag (first k)) (λ k. flag (second k)) (λ k. flag-byte (first k)) (λ k. flag-byte (second k))
       ∙ same_digits _ _ (λ k. flag-both (first k) (second k))
 
-  -- with all flags none of them is it
+  -- if all flags are set, none of the bytes is c
   none-found : bit_and x y ≡ 0x8080_8080_8080_8080 → list_any (λ b. b == c) text ≡ false
   none-found all =
       let digits : digits_from (λ k. flag (first k && second k)) 0 8 ≡ digits_from (λ _. 128) 0 8 = sym both-flagged ∙ all in
@@ -157,7 +157,7 @@ module _ (text : List ℕ) (c x y : ℕ) (long : length text ≡ 16) (x_is : x �
       ap (λ b. b == c) same ∙ ⊎_elim (λ less. not-false _ ((set i less).0))
       (λ more. (let behind : 8 + (i - 8) ≡ i = omega arith in ap (λ j. get_or text j 0 == c) (sym behind) ∙ not-false _ ((set (i - 8) (omega arith)).1))) (cases_lt i 8))
 
-  -- and without it all are set
+  -- if none of the bytes is c, all flags are set
   all-set : list_any (λ b. b == c) text ≡ false → bit_and x y ≡ 0x8080_8080_8080_8080
   all-set none =
       let other = λ (i : ℕ) (within : i < 16). not-true (get_or text i 0 == c) (λ e. false≢true (sym none ∙ list_any_at (λ b. b == c) text i 0 (omega arith) e)) in

@@ -3,7 +3,7 @@ use Rattle.trac_space.proofs.Imports.{◌≡◌, ◌↔◌, ℕ, ◌+◌, ◌<�
 use Rattle.trac_space.proofs.Imports.{get_or-map, get_or-drop, take_more, drop_more, suc, take-map, drop-map, drop-drop, take-add, cases_lt, All-append, All-push, All-map, All-cons, All-head, All-tail, sum_by-cons, Cell, Byte, Call, Comma, seen, IsNoCall, NoCall, IsByte, is_byte_cell, byte_cell_at}
 use Rattle.trac_space.proofs.Imports.{kind_number, paste}
 
--- the cells before that place are as they were
+-- the cells before the place of a copy are as they were
 pub front-cell : (was now source : List Cell) (to k i : ℕ) (d : Cell) → i < to → to ≤ length was → now ≡ paste was to source k → get_or now i d ≡ get_or was i d
 front-cell was now source to k i d less within is = grind (arith, places)
 
@@ -16,12 +16,12 @@ pub bytes-more : (was : List Cell) (start k : ℕ) (d : Cell) → start + k < le
 bytes-more was start k d within bytes next =
     rw (take_more (drop start was) k d (omega (arith, length-drop start was))) (All-push IsByte _ _ bytes (rw get_or-drop next))
 
--- so many characters stand from a place on, and no more than may
+-- `count` characters stand from `start` on, and `count` is at most `most`
 pub record AreUpTo (cells : List Cell) (start most count : ℕ) : Type 0 where
   pub within : count ≤ most
   pub bytes : All IsByte (take count (drop start cells))
 
--- the next cell is one too
+-- one more character stands there, if the next cell is one
 pub up-to-next : (cells : List Cell) (start most count : ℕ) → start + most ≤ length cells → count < most → AreUpTo cells start most count → is_byte_cell (get_or cells (start + count) (Byte 0)) ≡ true → AreUpTo cells start most (count + 1)
 up-to-next cells start most count room less done is = record {
   within = omega (arith, less);
@@ -46,7 +46,7 @@ before-next cells at count inside behind less done is =
       bytes = rw (whole, one) (All-cons IsByte (get_or cells (at - count - 1) (Byte 0)) (take count (drop (at - count) cells)) (tested-byte (get_or cells (at - count - 1) (Byte 0)) is) done.bytes);
     }
 
--- characters, and others behind them
+-- k characters stand from `start` on, and j more behind them
 pub bytes-join : (cells : List Cell) (start k j : ℕ) → All IsByte (take k (drop start cells)) → All IsByte (take j (drop (start + k) cells)) → All IsByte (take (k + j) (drop start cells))
 bytes-join cells start k j bytes more =
     rw take-add (All-append IsByte _ _ bytes (rw drop-drop more))
@@ -61,7 +61,7 @@ byte-no_call : (cell : Cell) → IsByte cell → IsNoCall cell
 byte-no_call (Call mode distance) h = absurd h
 byte-no_call cell h = refl
 
--- so many characters from a place of the block on are a part of the store
+-- n characters of the block from a on are a part of the store
 module _ (cells : List Cell) (store a n : ℕ) (within : a + n ≤ store) where
   pub part-seen : slice_range (map seen (take store cells)) a (a + n) ≡ map seen (slice_range cells a (a + n))
   part-seen =

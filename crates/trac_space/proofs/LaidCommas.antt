@@ -18,7 +18,7 @@ pub takes-all : (cells : List Cell) → All Takes cells → map under cells ≡ 
 takes-all [] takes = refl
 takes-all (cell ∷ cells) takes = rw (takes-under cell (All-head Takes cell cells takes), takes-all cells (All-tail Takes cell cells takes)) refl
 
--- of the cells up to a place the comma marks' places are laid
+-- the places of the comma marks among the cells up to `at` are laid over the first `count` cells
 pub record LaidSoFar (was now : List Cell) (at count : ℕ) : Type 0 where
   pub few : count ≤ at
   pub within : at ≤ length was
@@ -86,7 +86,7 @@ module _ (was now : List Cell) (at count : ℕ) (h : LaidSoFar was now at count)
         ends = h.ends;
       }
 
-  -- one does
+  -- the next cell is a comma mark, and its place is laid
   pub laid-comma : (cell : Cell) → is_comma (get_or now at (Byte 0)) ≡ true → under cell ≡ under (get_or now count (Byte 0)) → over cell ≡ at → has_number cell ≡ true → LaidSoFar was (set now count cell) (at + 1) (count + 1)
   laid-comma cell comma under_is over_is numbered =
       let is = ap is_comma here-is ∙ comma in

@@ -2,7 +2,7 @@
 use Rattle.trac_space.proofs.Imports.{◌≡◌, ℕ, ◌+◌, ◌-◌, ◌≤◌, List, Option, Some, None, MatchOption, map, arith, SomeIff, Cell, seen, NoCall, HasCallsUpTo, IsLastCall}
 use Rattle.trac_space.proofs.Calls.{IsLastCall-from, NoCall-from}
 
--- one place before the end of the calls
+-- the last call mark stands one place before the place behind it
 pub last_call-from : (cells : List Cell) (n : ℕ) (r : Option ℕ) → SomeIff r (1 ≤ n) (n - 1) → HasCallsUpTo cells n → MatchOption r (NoCall (map seen cells)) (λ place. IsLastCall (map seen cells) place)
 last_call-from cells n None is h =
     let e : n ≡ 0 = grind arith in

@@ -5,7 +5,7 @@ use Rattle.trac_space.specs.Overlay.{under, HaveNumbers}
 use Rattle.std.proofs.lemmas.List.Edits.{split_between}
 use Rattle.trac_space.proofs.Imports.{sym, slice_range, ◌-◌, ◌≤◌, rules, places, same_lists, append_assoc, map-append, take-map, drop-map}
 
--- one cell more is lifted
+-- the number is lifted off one cell more
 pub lifted-more : (was now : List Cell) (k : ℕ) (cell : Cell) → k < length was → now ≡ map under (take k was) ++ drop k was → cell ≡ under (get_or now k (Byte 0)) → set now k cell ≡ map under (take (k + 1) was) ++ drop (k + 1) was
 lifted-more was now k cell within is same =
     let x = get_or now k (Byte 0) in
@@ -34,7 +34,7 @@ module _ (was new : List Cell) (a b : ℕ) (order : a ≤ b) (within : b ≤ len
       let rest : drop b now ≡ drop b was = same_lists _ _ (search (rules, places)) (λ k d less. grind (arith, places)) in
       rw (front, in-middle, is, rest) (append_assoc (take a was) (slice_range was a b) (drop b was) ∙ sym (split_between was a b order))
 
--- and as contracts see them
+-- numbers that lie over cells also lie over the cells as contracts see them
 pub numbers-seen : (was now : List Cell) (a b : ℕ) → HaveNumbers was now a b → HaveNumbers (map seen was) (map seen now) a b
 numbers-seen was now a b numbers =
     sym (simp (map-append, take-map, drop-map, seen-under) refl) ∙ ap (map seen) numbers

@@ -20,7 +20,7 @@ module _ (table : List ℕ) (was : List Cell) (start k : ℕ) (d : Cell) (within
   run-more run next =
       rw (take_more (drop start was) k d part_long) (All-push (IsInRun table) _ _ run (rw get_or-drop next))
 
-  -- what becomes of it
+  -- what becomes of the next cell of the run
   pub turned-at : get_or (turned table (drop start was)) k (turned_by table d) ≡ turned_by table (get_or was (start + k) d)
   turned-at = get_or-map (turned_by table) (drop start was) k d (turned_by table d) part_long ∙ ap (turned_by table) (get_or-drop start was k d)
 
@@ -33,7 +33,7 @@ module _ (table : List ℕ) (was : List Cell) (start k : ℕ) (d : Cell) (within
       rw (take_more cells k (turned_by table d) long, drop-append-le last (take k cells) (get_or cells k (turned_by table d) ∷ []) size)
       (All-push (λ cell. is_comma cell ≡ false) _ _ plain (ap is_comma turned-at ∙ none))
 
--- none stands behind the last
+-- no comma mark stands behind the last cell
 pub plain-none : (cells : List Cell) (k : ℕ) → k ≤ length cells → NoComma (drop k (take k cells))
 plain-none cells k within =
     rw (drop_all k (take k cells) (omega (arith, length-take-le k cells within))) (All-nil (λ cell. is_comma cell ≡ false))
@@ -45,7 +45,7 @@ turned-byte table cell none = rw none refl
 pub turned-one : (table : List ℕ) (cell : Cell) → number_in table cell ≡ 1 → turned_by table cell ≡ Comma
 turned-one table cell one = rw one refl
 
--- it is seen as it is, and is no call mark
+-- what becomes of a cell in a run is seen as it is, and is no call mark
 turned-plain : (table : List ℕ) (cell : Cell) → (seen (turned_by table cell) ≡ turned_by table cell) × IsNoCall (turned_by table cell)
 turned-plain table cell = go (number_in table cell == 0) (character_of cell)
   where
@@ -74,19 +74,19 @@ module _ (right : List Cell) (a n : ℕ) (within : n ≤ a) where
   pub front-seen : take n (take a (map seen right)) ≡ map seen (take n right)
   front-seen = take-take n a (map seen right) within ∙ take-map seen n right
 
-  -- they are characters where they are seen as such
+  -- the first cells of active are characters if they are seen as characters
   pub front-bytes : All IsByte (take n (take a (map seen right))) → All IsByte (take n right)
   front-bytes h = λ k d less.
       let one = (rw front-seen at h) k (seen d) (omega (arith, less, length-map (take n right) seen)) in
       rw (get_or-map seen (take n right) k d (seen d) less, tested-seen) at one
 
-  -- they are in a run where they stand in one
+  -- the first cells of active are seen in a run if they stand in one in the block
   pub front-run : (table : List ℕ) → All (IsInRun table) (take n right) → All (IsInRun table) (take n (take a (map seen right)))
   front-run table h =
       rw front-seen (All-map (IsInRun table) seen (take n right) (λ k d less.
       subst (λ c. get_or table c 0 ≤ 1) (sym (character-seen (get_or (take n right) k d))) (h k d less)))
 
-  -- what becomes of them
+  -- what becomes of the first cells of active, as it is seen
   front-turns : (table : List ℕ) → take n (turned table right) ≡ turned table (take n (take a (map seen right)))
   front-turns table = take-map (turned_by table) n right ∙ sym (turned-seen table (take n right)) ∙ ap (turned table) (sym front-seen)
 
@@ -96,7 +96,7 @@ module _ (right : List Cell) (a n : ℕ) (within : n ≤ a) where
   pub front-plain : (table : List ℕ) (last : ℕ) → NoComma (drop last (take n (turned table right))) → NoComma (drop last (turned table (take n (take a (map seen right)))))
   front-plain table last h = rw (front-turns table) at h
 
--- the character behind them
+-- the table has one number for the character behind a run, as it stands in the block and as it is seen
 pub front-next : (right : List Cell) (a n : ℕ) → n < a → a ≤ length right → (table : List ℕ) → number_in table (get_or right n (Byte 0)) ≡ number_in table (get_or (take a (map seen right)) n (Byte 0))
 front-next right a n inside within table =
     let at : get_or (take a (map seen right)) n (Byte 0) ≡ seen (get_or right n (Byte 0)) = get_or-take a (map seen right) n (Byte 0) inside ∙ get_or-map seen right n (Byte 0) (Byte 0) (omega (arith, inside, within)) in

@@ -22,7 +22,7 @@ parts-seen : (from at : ℕ) (cells : List Cell) → parts_at from at (map seen 
 parts-seen from at [] = refl
 parts-seen from at (cell ∷ cells) = rw (comma-seen cell, parts-seen (at + 1) (at + 1) cells, parts-seen from (at + 1) cells) refl
 
--- cells over which none lies are the same as they are seen
+-- no numbers lie over cells, if none lies over them as they are seen
 plain-one : (cell : Cell) → under (seen cell) ≡ seen cell → under cell ≡ cell
 plain-one (Gap k) is = absurd cc
 plain-one (Head k) is = absurd cc
@@ -35,7 +35,7 @@ plain-seen [] is = refl
 plain-seen (cell ∷ cells) is =
     rw (plain-one cell (ap (λ l. get_or l 0 Comma) is), plain-seen cells (ap (drop 1) is)) refl
 
--- the places of comma marks lie there as they are seen to
+-- the places of comma marks lie over cells, if they lie over the cells as these are seen
 pub commas-from-seen : (cells part : List Cell) (count : ℕ) → map seen cells ≡ part → HaveCommas part count → HaveCommas cells count
 commas-from-seen cells part count shown have =
     let same : map under part ≡ map seen (map under cells) = ap (map under) (sym shown) ∙ sym (seen-under cells) in
@@ -56,7 +56,7 @@ commas-from-seen cells part count shown have =
 pub commas-seen : (cells : List Cell) (count : ℕ) → map seen cells ≡ cells → HaveCommas cells count → HaveCommas (map seen cells) count
 commas-seen cells count same have = subst (λ l. HaveCommas l count) (sym same) have
 
--- what takes a number is seen as it is, and so is what has one
+-- a cell takes a number, if it takes one as it is seen
 takes-seen : (cell : Cell) → Takes (seen cell) → Takes cell
 takes-seen (Byte b) takes = takes
 takes-seen cell takes = takes
@@ -90,7 +90,7 @@ filling-seen given (Call mode k) = part-seen given 0
 filling-seen given Comma = part-seen given 0
 filling-seen given (Head k) = part-seen given 0
 
--- cells are seen filled as those that are seen
+-- filled cells are seen as the cells that are seen, filled by the cells that are seen
 pub filled-seen : (given : List Cell) (cells : List Cell) → map seen (filled given cells) ≡ filled (map seen given) (map seen cells)
 filled-seen given [] = refl
 filled-seen given (cell ∷ cells) =

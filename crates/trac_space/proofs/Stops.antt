@@ -2,11 +2,11 @@
 use Rattle.trac_space.proofs.Imports.{◌≡◌, ℕ, ◌+◌, ◌-◌, ◌<◌, ◌≤◌, Bool, true, false, List, length, take, drop, slice_range, slice_get, Some, refl, sym, ◌∙◌, arith, rules, list_any, take-add, places, same_lists, list_any-append, elements, false≢true}
 use Rattle.std.specs.Prelude.{◌||◌}
 
--- it isn't among the first, nor among the next
+-- no byte that is looked for is among the first k, if none is, nor among the n behind these
 pub none-more : (test : ℕ → Bool) (bytes : List ℕ) (k n : ℕ) → list_any test (take k bytes) ≡ false → list_any test (take n (drop k bytes)) ≡ false → list_any test (take (k + n) bytes) ≡ false
 none-more test bytes k n first next = rw (take-add, list_any-append, first, next)
 
--- the same of a part that was looked at
+-- no byte that is looked for stands before `e`, if none stands before k and none was found from there up to `e`
 pub none-next : (test : ℕ → Bool) (bytes : List ℕ) (k e : ℕ) (found : Bool) → k ≤ e → list_any test (take k bytes) ≡ false → found ≡ list_any test (slice_range bytes k e) → found ≡ false → list_any test (take e bytes) ≡ false
 none-next test bytes k e found order none looked not_found =
     let up_to : k + (e - k) ≡ e = omega (arith, order) in
@@ -16,7 +16,8 @@ neither : (a b : Bool) → (a || b) ≡ false → (a ≡ false) × (b ≡ false)
 neither true b e = absurd (false≢true (sym e))
 neither false b e = (refl, e)
 
--- the same of two parts
+-- no byte that is looked for stands before `e`, if none stands before k and none was found in the two parts from k
+-- up to m and from m up to `e`
 pub none-twice : (test : ℕ → Bool) (bytes : List ℕ) (k m e : ℕ) (a b : Bool) → k ≤ m → m ≤ e → list_any test (take k bytes) ≡ false → a ≡ list_any test (slice_range bytes k m) → b ≡ list_any test (slice_range bytes m e) → (a || b) ≡ false → list_any test (take e bytes) ≡ false
 none-twice test bytes k m e a b below behind none first second both =
     let parts = neither a b both in

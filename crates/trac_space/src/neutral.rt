@@ -16,7 +16,7 @@ pub trait Neutral {
     ghost full: { Self → Type 0 };
 
     /// Appends the bytes of `text` before its first `stop` to the neutral string, as many as fit, and
-    /// gives how many these are. Each takes one cell.
+    /// gives how many it appended. Each takes one cell.
     fn push_before(&mut self, stop: u8, text: &[u8]) -> usize
         ensures within { result ≤ length text.now }
         ensures before { list_any (λ byte. byte == stop) (take result text.now) ≡ false }

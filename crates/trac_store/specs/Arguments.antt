@@ -17,28 +17,28 @@ abbrev pub before_comma : List Cell → ℕ
 before_comma [] = 0
 before_comma (cell ∷ cells) = if is_comma cell then 0 else suc (before_comma cells)
 
--- the parts of neutral between the comma marks from a place up to another; none if the place is past it
+-- the parts of the neutral string between the comma marks from `from` up to `end`; none if `from` is past `end`
 abbrev pub parts_between : List Cell → ℕ → ℕ → List (ℕ × ℕ)
 parts_between neutral from end =
     if nat_le from end then parts_at from from (slice_range neutral from end) else []
 
--- their texts
+-- the texts between the comma marks of the neutral string from `from` up to `end`
 abbrev pub texts_between : List Cell → ℕ → ℕ → List Text
 texts_between neutral from end = part_texts neutral (parts_between neutral from end)
 
--- comma marks part the cells of neutral from a place up to another into texts
+-- comma marks part the cells of the neutral string from `from` up to `end` into texts
 pub record AreParted (neutral : List Cell) (from end : ℕ) : Type 0 where
   pub order : from ≤ end + 1
   pub within : end ≤ length neutral
   pub bounded : end ≤ 16777216
   pub texts : AreTextParts neutral (parts_between neutral from end)
 
--- a number stands at the place
+-- a head cell stands at place i
 abbrev pub IsHeadAt : List Cell → ℕ → Type 0
 IsHeadAt cells i = slice_get cells i ≡ Some (Head (head_at cells i))
 
--- the text of the items in the store from a place up to another, their gaps filled by the texts
--- between comma marks of neutral
+-- the text of the items in the store from `place` up to `stop`, their gaps filled by the texts
+-- between the comma marks of the neutral string from `from` up to `end`
 abbrev pub filled_cells : Lists → ℕ → ℕ → ℕ → ℕ → Text
 filled_cells s place stop from end =
     fill (texts_between s.neutral from end) (map item_of (slice_range s.store place stop))

@@ -18,7 +18,7 @@ pub record IsBorder (text : List ℕ) (n b : ℕ) : Type 0 where
   pub within : b ≤ n
   pub same : (k : ℕ) → k < b → byte_at text k ≡ byte_at text (n - b + k)
 
--- no other number of characters below n that does so is greater
+-- b is the greatest number below n for which the first b characters of the text also end its first n
 pub record IsLongestBorder (text : List ℕ) (n b : ℕ) : Type 0 where
   pub shorter : b < n
   pub border : IsBorder text n b
@@ -28,32 +28,34 @@ pub record IsLongestBorder (text : List ℕ) (n b : ℕ) : Type 0 where
 abbrev pub laid_text : List Cell → Text
 laid_text cells = map (λ cell. character_of (under cell)) cells
 
--- over the cell at which a beginning of the text ends lies its longest border, over the first `count`
--- of the cells
+-- over each of the first `count` cells of a text lies the longest border of the beginning that ends there
 abbrev pub HaveBorders : List Cell → ℕ → Type 0
 HaveBorders cells count =
     (n : ℕ) → 0 < n → n ≤ count
     → IsLongestBorder (laid_text cells) n (over (slice_index_or cells (n - 1) (Byte 0)))
 
--- from a up to b stands a text that isn't null, and over its cells lie its longest borders
+-- a text that isn't null stands from a up to b, and over each of its cells lies the longest border of the
+-- beginning that ends there
 pub record IsLaidText (string : List Cell) (a b : ℕ) : Type 0 where
   pub some : a < b
   pub within : b ≤ length string
   pub borders : HaveBorders (slice_range string a b) (length (slice_range string a b))
 
--- the longest borders of the text from a up to b lie over its cells, and nothing else has changed
+-- over each cell of the text from a up to b lies the longest border of the beginning that ends there, and
+-- nothing else has changed
 pub record AreLaid (was now : List Cell) (a b : ℕ) : Type 0 where
   pub numbers : HaveNumbers was now a b
   pub text : laid_text (slice_range now a b) ≡ part_text was a b
   pub borders : HaveBorders (slice_range now a b) (b - a)
   pub long : length now ≡ length was
 
--- the first b characters end the first n, and the text goes on from them with the cell
+-- the first b characters of the text also end its first n, and `cell` is the character behind the first b
 pub record GoesOn (text : List ℕ) (n : ℕ) (cell : Cell) (b : ℕ) : Type 0 where
   pub border : IsBorder text n b
   pub next : is_byte (byte_at text b) cell ≡ true
 
--- the length of the longest such beginning with that cell, 0 if none goes on
+-- `next` is one more than the longest border of the text's first n characters behind which `cell` follows; 0 if
+-- it follows behind none
 pub record IsNextBorder (text : List ℕ) (n : ℕ) (cell : Cell) (next : ℕ) : Type 0 where
   pub some : 0 < next → GoesOn text n cell (next - 1)
   pub most : (b : ℕ) → GoesOn text n cell b → b < next

@@ -8,7 +8,7 @@ use Rattle.trac_language.specs.Form.{Form}
 abbrev pub form_at : List Form → ℕ → Form
 form_at forms k = slice_index_or forms k (record { name = []; body = []; pointer = 0 })
 
--- its name, its body and its pointer
+-- the name of the form at a place; below, its body and its pointer
 abbrev pub name_at : List Form → ℕ → Text
 name_at forms k = (form_at forms k).name
 

@@ -16,7 +16,7 @@ abbrev pub mixed : Text → ℕ
 mixed [] = 0
 mixed (c ∷ name) = (mixed name + c) % 2 ^ 64 * 11400714819323198485 % 2 ^ 64
 
--- the hash of a name, the upper half of that number: there the search for the name begins
+-- the hash of a name, at which the search for it begins: the upper half of the name's mixed characters
 abbrev pub hash : Text → ℕ
 hash name = mixed name / 2 ^ 32
 
@@ -37,11 +37,11 @@ home_place table k = slots table + quarter table + k
 abbrev pub cell_at : List Cell → ℕ → Cell
 cell_at table i = slice_index_or table i (Byte 0)
 
--- the slot that a search from a hash looks at after i others
+-- the slot that a search from the hash `number` looks at after i others
 abbrev pub slot : List Cell → ℕ → ℕ → ℕ
 slot table number i = bit_and (number + i) (slots table - 1)
 
--- a slot that was never used
+-- whether a slot was never used
 abbrev pub is_blank : Cell → Bool
 is_blank (Byte _) = true
 is_blank (Call _ _) = false
@@ -49,7 +49,7 @@ is_blank Comma = false
 is_blank (Gap _) = false
 is_blank (Head _) = false
 
--- a slot that no form has
+-- whether no form has a slot
 abbrev pub is_open : Cell → Bool
 is_open (Byte _) = true
 is_open (Call _ _) = true
@@ -57,7 +57,7 @@ is_open Comma = true
 is_open (Gap _) = true
 is_open (Head _) = false
 
--- a search from a hash comes to slot s after `after` others, none of them blank
+-- a search from the hash `number` comes to slot s after `after` others, none of them blank
 pub record IsReached (table : List Cell) (number s after : ℕ) : Type 0 where
   pub within : after < slots table
   pub slot_is : s ≡ slot table number after
@@ -73,26 +73,26 @@ pub record IsEntry (table : List Cell) (name : Text) (start k s after : ℕ) : T
 abbrev pub HasEntry : List Cell → Text → ℕ → ℕ → Type 0
 HasEntry table name start k = (s : ℕ) × ((after : ℕ) × IsEntry table name start k s after)
 
--- the slot is that of form k, which is one of so many but that at the gap
+-- slot s is that of form k, which is one of the first n forms but is not form `gap`
 pub record IsHeld (table : List Cell) (n gap k s : ℕ) : Type 0 where
   pub within : k < n
   pub there : k ≢ gap
   pub home : cell_at table (home_place table k) ≡ Head s
 
--- each of so many forms but that at the gap has its entry, and what stands in a slot is one of them
+-- each of the first n forms but form `gap` has its entry, and each form in a slot is one of these
 pub record IsIndexBut
     (table : List Cell) (n gap : ℕ) (name : ℕ → Text) (start : ℕ → ℕ) : Type 0 where
   pub roomy : n ≤ quarter table
   pub all : (k : ℕ) → k < n → k ≢ gap → HasEntry table (name k) (start k) k
   pub only : (s k : ℕ) → s < slots table → cell_at table s ≡ Head k → IsHeld table n gap k s
 
--- the table is one of the forms
+-- the table is an index of the forms
 abbrev pub IsIndex : List Cell → List Form → Type 0
 IsIndex table forms =
     IsIndexBut table (length forms) (length forms) (name_at forms)
     (λ k. length (flat_forms (take k forms)))
 
--- there is no table, or it is one of the forms
+-- there is no table, or the table is an index of the forms
 abbrev pub IsIndexed : List Cell → List Form → Type 0
 IsIndexed table forms = 0 < length table → IsIndex table forms
 
@@ -100,7 +100,7 @@ IsIndexed table forms = 0 < length table → IsIndex table forms
 abbrev pub IsKept : List Cell → List Cell → Type 0
 IsKept was now = (now ≡ was) ⊎ (now ≡ [])
 
--- the slot is the first open one for a name of that hash
+-- slot s is open, and a search from the hash `number` comes to it
 pub record IsOpenAfter (table : List Cell) (number s after : ℕ) : Type 0 where
   pub reached : IsReached table number s after
   pub free : is_open (cell_at table s) ≡ true
@@ -108,7 +108,7 @@ pub record IsOpenAfter (table : List Cell) (number s after : ℕ) : Type 0 where
 abbrev pub IsOpenFor : List Cell → ℕ → ℕ → Type 0
 IsOpenFor table number s = (after : ℕ) × IsOpenAfter table number s after
 
--- the table with form k in a slot
+-- the table with form k, which begins at `start`, in slot s
 abbrev pub with_entry : List Cell → ℕ → ℕ → ℕ → List Cell
 with_entry table s k start =
     set (set (set table s (Head k)) (start_place table k) (Head start))
@@ -137,22 +137,22 @@ pub record HasHome (table : List Cell) (k : ℕ) : Type 0 where
 abbrev pub buried : List Cell → ℕ → List Cell
 buried table k = set table (home_in table k) Comma
 
--- the table with form k renumbered as form k - 1, which begins so many cells lower
+-- the table with form k renumbered as form k - 1, beginning `less` cells lower
 abbrev pub forward : List Cell → ℕ → ℕ → List Cell
 forward table k less = with_entry table (home_in table k) (k - 1) (start_in table k - less)
 
--- the table with form k beginning so many cells lower
+-- the table with form k beginning `less` cells lower
 abbrev pub earlier : List Cell → ℕ → ℕ → List Cell
 earlier table k less = set table (start_place table k) (Head (start_in table k - less))
 
--- where so many forms begin, once those behind form k and
--- before form `end` begin so many cells earlier
+-- where each form begins, once the forms behind form k and
+-- before form `end` begin `less` cells earlier
 abbrev pub started : ℕ → ℕ → ℕ → (ℕ → ℕ) → ℕ → ℕ
 started k end less start =
     λ j. if nat_le j k then start j else (if nat_lt j end then start j - less else start j)
 
--- the table is one of so many forms, of which those behind
--- form k begin so many cells from the front or more
+-- the table is an index of n forms, of which those behind
+-- form k begin at place `less` or behind it
 pub record StartsFrom
     (table : List Cell) (k n less : ℕ) (name : ℕ → Text) (start : ℕ → ℕ) : Type 0 where
   pub index : IsIndexBut table n n name start

@@ -40,7 +40,7 @@ pub record AreForms (cells : List Cell) : Type 0 where
   pub whole : flat_forms (forms_in cells) ≡ cells
   pub bounded : length cells ≤ 16777216
 
--- the same of a slice of cells, which are so many forms
+-- a slice of cells is those of `count` forms and nothing else, and has no more cells than a block
 pub record AreCellsOfForms (cells : List Cell) (count : ℕ) : Type 0 where
   pub whole : flat_forms (forms_in (map seen cells)) ≡ map seen cells
   pub bounded : length cells ≤ 16777216
@@ -67,17 +67,17 @@ head_number (Some (Head n)) = n
 abbrev pub head_at : List Cell → ℕ → ℕ
 head_at cells i = head_number (slice_get cells i)
 
--- the form at place k begins there; behind the last the cells end
+-- the form at place k begins at `start`; for the place behind the last form, the cells end there
 pub record IsPlace (forms : List Form) (k start : ℕ) : Type 0 where
   pub within : k ≤ length forms
   pub start_is : start ≡ start_of forms k
 
--- there is a form at place k, and it begins there
+-- there is a form at place k, and it begins at `start`
 pub record IsLocated (forms : List Form) (k start : ℕ) : Type 0 where
   pub within : k < length forms
   pub start_is : start ≡ start_of forms k
 
--- the item in a cell of the store
+-- the item in a cell of the store, a gap of ordinal 0 if there is no cell
 abbrev pub item_of_cell : Option Cell → Item
 item_of_cell None = item.Gap 0
 item_of_cell (Some cell) = item_of cell
@@ -85,7 +85,7 @@ item_of_cell (Some cell) = item_of cell
 abbrev pub stored_item : List Cell → ℕ → Item
 stored_item cells i = item_of_cell (slice_get cells i)
 
--- the form at the place has the name, and begins there
+-- the form at place k has the name, and begins at `start`
 pub record IsFoundAt (forms : List Form) (name : Text) (k start : ℕ) : Type 0 where
   pub named : IsNamedAt forms name k
   pub start_is : start ≡ start_of forms k

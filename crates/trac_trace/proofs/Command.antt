@@ -103,7 +103,7 @@ module _ {c : Command} {m : ArgMatches} (p : IsParsedFrom c m) (is : app_of c �
     pub number_is : (id : Text) {low high : ℕ} {r : Option ℕ} → IsRead low high (one_text (found_of m) id) r → (n : ℕ) → r ≡ Some n → number_of id (matches_of trace_command words) ≡ Some n
     number_is id read n e = sym (ap (option_map number) (text id)) ∙ read.value n e
 
-    -- and what `get_flag` gives
+    -- what `get_flag` gives is the flag of the matches
     pub flag_is : {k : ℕ} {id default : Text} → IsPlaced k id default (flag_of id) → (flag : Bool) → (one_text (found_of m) id ≡ None → flag ≡ false)
         → (one_text (found_of m) id ≡ Some (codes "true") → flag ≡ true) → (one_text (found_of m) id ≡ Some (codes "false") → flag ≡ false)
         → has_flag id (matches_of trace_command words) ≡ flag

@@ -48,7 +48,7 @@ views_command name =
     (numbers_command name (codes "1000000")) from_option) to_option) last_option)
     width_option) columns_option) calls_flag) forms_flag) warn_flag
 
--- the same, of the name `trac_trace`
+-- the command line of the program `trac_trace`
 abbrev pub trace_command : App
 trace_command = views_command (codes "trac_trace")
 
@@ -63,8 +63,8 @@ AreViewsOf rows v = (number_of (codes "from") rows ≡ Some v.from)
     × (has_flag (codes "forms") rows ≡ v.forms)
     × (has_flag (codes "warn") rows ≡ v.warn)
 
--- what the words don't give is all steps, none of them the last, 100 bytes of a text, lines of any
--- length, and no flag
+-- the views that the words don't give: all steps, no limit to the last ones, 100 bytes of a text, lines
+-- of any length, and no flag
 abbrev pub HasDefaultViews : List Text → Views → Type 0
 HasDefaultViews words v =
     (gives trace_command words (codes "from") ≡ false → v.from ≡ 1)
@@ -76,7 +76,7 @@ HasDefaultViews words v =
     × (gives trace_command words (codes "forms") ≡ false → v.forms ≡ false)
     × (gives trace_command words (codes "warn") ≡ false → v.warn ≡ false)
 
--- `--version` stands alone behind the program's name
+-- whether `--version` stands alone behind the program's name
 abbrev pub is_version : List Text → Bool
 is_version (name ∷ word ∷ []) = bytes_eq word (codes "--version")
 is_version _ = false
@@ -91,6 +91,6 @@ place_of_check (word ∷ words) =
 abbrev pub options_len : List Text → ℕ
 options_len words = if is_version words then 1 else place_of_check words
 
--- `--check` stands among the words
+-- whether `--check` stands among the words
 abbrev pub has_check : List Text → Bool
 has_check words = nat_lt (options_len words) (length words) && not (is_version words)

@@ -4,13 +4,14 @@ use Rattle.trac_language.specs.declared.fate.Fate.{Fate}
 use Rattle.trac_language.specs.declared.fate.Fate.TheVariants.{Halted, InputEnded, OutputFailed}
 use Rattle.trac_lines.specs.Lines.{status_of}
 
--- the exit status after a run with this fate, as that of `trac`; what was printed is kept in memory
+-- the exit status of `trac_trace` after a run with this fate: that of `trac`, but for output that failed,
+-- which here is kept in memory
 abbrev pub traced_status : Fate → ℕ
 traced_status OutputFailed = 6
 traced_status fate = status_of fate
 
--- the status after a run with this fate and so many warnings: a fault is told by its own status, and 7
--- says that there are warnings
+-- the status after a run with this fate, and with as many warnings as the number says: a fault has its own
+-- status, and 7 says that there are warnings
 abbrev pub warned_status : Fate → ℕ → ℕ
 warned_status Halted zero = 0
 warned_status Halted (suc n) = 7
@@ -18,7 +19,7 @@ warned_status InputEnded zero = 0
 warned_status InputEnded (suc n) = 7
 warned_status fate n = traced_status fate
 
--- the worse of two statuses: each other one is worse than that of warnings, and any than 0
+-- the worse of two statuses: 0 is the best, 7 the next, and of the others the greater is worse
 abbrev pub worse : ℕ → ℕ → ℕ
 worse a b =
     if a == 0 then b

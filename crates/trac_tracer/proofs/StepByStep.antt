@@ -92,11 +92,12 @@ ends-any false peak same width m old new told = told
 abbrev pub so_far : (top : ℕ) → MachineState → (depth : ℕ) → Stream → (out : Text) → LastNumbers → List ℕ → ShownSoFar
 so_far top m depth s out last text = record { at = moment (with_peak top m) s out; depth = depth; last = last; text = text }
 
--- a step of a machine in which so many calls were open and then so many
+-- a step from machine m to `next`, in which `before` calls were open before it and `depth` after it
 abbrev pub step_of : MachineState → ℕ → Option Fate → (needed : ℕ) → (printed : Text) → MachineState → ℕ → StepDone
 step_of m before answer needed printed next depth = record { old = m; depth_before = before; answer = answer; needed = needed; printed = printed; new = next; depth = depth }
 
--- the run of the definition led here and was shown so, behind a head that was written first
+-- the definition's run led from `start` to machine m, and was shown: `new` is `old` with the head and with the text
+-- of all steps so far
 pub record IsShown (views : Views) (start : MachineState) (bytes : Stream) (head : List ℕ) (old new : Option (List ℕ)) (top : ℕ) (m : MachineState) (depth : ℕ) (s : Stream) (last : LastNumbers) : Type 0 where
   pub count : ℕ
   pub out : Text
@@ -155,7 +156,7 @@ are-lines views looked told m next before around depth answer needed arguments n
           (calls (told_so ∙ is_shown) (ap has_steps told_is ∙ others))));
     }
 
--- the same lines, whatever the peak was
+-- the lines of a step don't depend on the peak before it
 told-so : (views : Views) (top least needed found : ℕ) (m next : MachineState) (before depth : ℕ) (answer : Option Fate) (printed lines : List ℕ) → needed ≡ found → AreLinesOf views (step_of m before answer found printed (with_peak 0 next) depth) lines → AreLinesOf views (step_of (with_peak top m) before answer needed printed (with_peak least next) depth) lines
 told-so views top least needed found m next before depth answer printed lines same told =
     record {
@@ -174,7 +175,7 @@ told-so views top least needed found m next before depth answer printed lines sa
     }
 
 module _ (views : Views) (start : MachineState) (bytes : Stream) (head : List ℕ) (old new newer : Option (List ℕ)) (top : ℕ) (m next : MachineState) (before depth : ℕ) (s t : Stream) (last : LastNumbers) (held printed : List ℕ) (no_peak : m.peak ≡ 0) (empty : held ≡ []) (shown : IsShown views start bytes head old new top m before s last) where
-  -- the text of these lines is behind that of those before
+  -- the text of a step's lines is written behind that of the earlier steps
   wrote-more : (text : List ℕ) → Appends new newer text → Appends old newer (head ++ (shown.text ++ text))
   wrote-more text wrote =
       subst (Appends old newer) (append_assoc head shown.text text) (Appends-trans old new newer (head ++ shown.text) text shown.wrote wrote)
@@ -184,7 +185,7 @@ module _ (views : Views) (start : MachineState) (bytes : Stream) (head : List �
       let same = need-any m.memory (state_of (moment m s held)).input shown.out held empty in
       omega (arith, same, no_peak)
 
-  -- one step more
+  -- one step more was shown, and the run goes on
   pub shown-more : (taken lines : List ℕ) → m.room ≡ start.room → s.bytes ≡ taken ++ t.bytes → Answers (moment m s held) None (moment next t printed) → AreLinesOf views (step_of m before None next.peak printed (with_peak 0 next) depth) lines → Appends new newer (folded_text views.columns 0 lines) → IsShown views start bytes head old newer (max top next.peak) (with_peak 0 next) depth t (with_step next.steps lines last)
   shown-more taken lines room_is took answers told wrote =
       let goes_on = framed-answers shown.out top m next s t held printed None no_peak empty answers in
@@ -265,7 +266,7 @@ counted-again views m next after before depth answer needed printed lines needed
     subst (λ n. AreLinesOf views (step_of m before answer n printed (with_peak 0 next) depth) lines) needed_is
     (subst (λ a. AreLinesOf views (step_of m before answer needed printed a depth) lines) after_is told)
 
--- one step more, as it was told
+-- one step more was shown, by the lines that were told of it
 pub shown-on : (views : Views) (start : MachineState) (bytes : Stream) (head : List ℕ) (old new newer : Option (List ℕ)) (top more needed number : ℕ) (m next after : MachineState) (before depth : ℕ) (s t : Stream) (last newest : LastNumbers) (held printed lines taken : List ℕ) → m.room ≡ start.room → m.peak ≡ 0 → held ≡ [] → s.bytes ≡ taken ++ t.bytes → Answers (moment m s held) None (moment next t printed) → IsShown views start bytes head old new top m before s last → AreLinesOf views (step_of m before None needed printed after depth) lines → needed ≡ next.peak → after ≡ with_peak 0 next → more ≡ max top needed → number ≡ after.steps → newest ≡ with_step number lines last → Appends new newer (folded_text views.columns 0 lines) → IsShown views start bytes head old newer more after depth t newest
 shown-on views start bytes head old new newer top more needed number m next after before depth s t last newest held printed lines taken room_is no_peak empty took answers shown told needed_is after_is more_is number_is newest_is wrote =
     let here = counted-again views m next after before depth None needed printed lines needed_is after_is told in

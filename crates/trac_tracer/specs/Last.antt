@@ -6,11 +6,11 @@ pub record LastNumbers : Type 0 where
   pub numbers : List ℕ
   pub most : ℕ
 
--- the last of these numbers, so many or all
+-- the last `most` of the numbers, or all if there are fewer
 abbrev pub last_of : ℕ → List ℕ → List ℕ
 last_of most numbers = drop (length numbers - most) numbers
 
--- with a step of which these lines are shown, if there are any
+-- the last numbers with that of a step, if `lines` were shown of it
 abbrev pub with_step : ℕ → List ℕ → LastNumbers → LastNumbers
 with_step number lines last =
     if length lines == 0 then last

@@ -2,7 +2,7 @@
 use Rattle.std.specs.Prelude.{◌≡◌, ◌++◌, true, false, List, ℕ}
 use Rattle.trac_tracer.specs.declared.record.Record.{Record}
 
--- the record holds these bytes too; if there was no memory for them, it says so and stays as it was
+-- the record holds `bytes` too; if there was no memory for them, it is not whole from then on
 pub record KeepsRead (bytes : List ℕ) (old new : Record) : Type 0 where
   pub whole :
       new.is_whole ≡ true →

@@ -27,20 +27,20 @@ abbrev pub touched_of : Option Function → Touched
 touched_of None = Nothing
 touched_of (Some function) = touched_by function
 
--- a form, where there is one
+-- the text of a form, null if there is none
 abbrev pub found_text : ℕ → Option Form → List ℕ
 found_text width None = []
 found_text width (Some form) = form_text width form
 
--- the form of a name, where a call that can touch these forms can have made or changed it
+-- the text of the form that a call names, if a call that can touch such forms makes or changes it; else null
 abbrev pub made_text : ℕ → Touched → Option Form → List ℕ
 made_text width Nothing form = []
 made_text width First form = found_text width form
 made_text width Each form = []
 made_text width All form = []
 
--- what is kept of a call before it is performed: its arguments, what they name, and the
--- names of the forms that it deletes
+-- what is kept of a call before it is performed: its `arguments`, what they name, and the
+-- line of the forms that it deletes
 pub record IsKept (memory : Memory) (width : ℕ) (mark : CallMark) (arguments : List Cell)
     (named : Named) (deleted : List ℕ) : Type 0 where
   pub neutral : List Cell
@@ -51,7 +51,7 @@ pub record IsKept (memory : Memory) (width : ℕ) (mark : CallMark) (arguments :
   pub deleted_is :
       deleted ≡ deleted_text width (touched_of named.function) memory.forms arguments
 
--- the lines of a call of which this was kept, with its value, by the machine after it
+-- the lines of a call, by what was kept of it before, its value, what it printed, and the machine after it
 abbrev pub call_text : Views → CallMark → (depth : ℕ) → List Cell → Named → (deleted : List ℕ)
     → (value : List Cell) → (printed : List ℕ) → MachineState → List ℕ
 call_text views mark depth arguments named deleted value printed m =
@@ -63,15 +63,15 @@ call_text views mark depth arguments named deleted value printed m =
     views.width
     else (if views.forms then changes_text m.steps form deleted else [])
 
--- the call that was seen before a step, where there is one
+-- the lines of the call that was seen before a step, null if none was seen
 abbrev pub seen_text : Views → Option CallMark → (depth : ℕ) → List Cell → Named
     → (deleted : List ℕ) → (value : List Cell) → (printed : List ℕ) → MachineState → List ℕ
 seen_text views None depth arguments named deleted value printed m = []
 seen_text views (Some mark) depth arguments named deleted value printed m =
     call_text views mark depth arguments named deleted value printed m
 
--- the lines of a step that was seen before, where the steps themselves aren't shown: how many characters
--- it dropped, and the call that it performed; none where it was not done
+-- the lines of a step in a view that doesn't show steps themselves: how many characters the step dropped,
+-- and the call that it performed; null if the step wasn't done
 abbrev pub step_lines : Bool → Views → Before → (depth : ℕ) → List Cell → Named
     → (deleted : List ℕ) → (value : List Cell) → (printed : List ℕ) → MachineState → List ℕ
 step_lines true views before depth arguments named deleted value printed m =
@@ -79,12 +79,12 @@ step_lines true views before depth arguments named deleted value printed m =
     ++ seen_text views before.call depth arguments named deleted value printed m
 step_lines false views before depth arguments named deleted value printed m = []
 
--- the value of the call that was seen, which is null where the run is over
+-- `value` is that of the call that was seen; it is null if the run is over
 abbrev pub IsValueAfter : Option Fate → Before → MachineState → List Cell → Type 0
 IsValueAfter None before m value = SeesValue m before.call before.active value
 IsValueAfter (Some fate) before m value = value ≡ []
 
--- these are the lines of a step in the views of calls and of forms, by what was kept of its call
+-- `new` is `old` with the lines of a step in the views of calls and of forms, by what was kept of its call
 abbrev pub TellsCall : Views → Before → Option Fate → (depth : ℕ) → List Cell → Named
     → (deleted : List ℕ) → (printed : List ℕ) → MachineState → (old new : List ℕ) → Type 0
 TellsCall views before fate depth arguments named deleted printed m old new =

@@ -18,16 +18,16 @@ use Rattle.trac_views.specs.declared.views.Views.{Views}
 use Rattle.trac_tracer.specs.Last.{LastNumbers, with_step}
 use Rattle.trac_tracer.specs.ShownCalls.{IsKept, TellsCall}
 
--- the views, of all steps
+-- the views, for all steps
 abbrev pub all_steps : Views → Views
 all_steps views = record views { from = 1; to = 2 ^ 64 - 1 }
 
--- the views, of the steps from this one on
+-- the views, for the steps from step `first` on
 abbrev pub views_from : ℕ → Views → Views
 views_from first views = record views { from = max views.from first; last = 0 }
 
--- a step from one machine to another, in which so many calls were open and then so many, which was
--- answered so, needed so many cells and printed this
+-- a step from machine `old` to `new`: how many calls were open before it and after it, what it answered,
+-- the cells that it needed, and what it printed
 pub record StepDone : Type 0 where
   pub old : MachineState
   pub depth_before : ℕ
@@ -37,8 +37,8 @@ pub record StepDone : Type 0 where
   pub new : MachineState
   pub depth : ℕ
 
--- the lines of a step: none where it isn't shown; where the steps themselves are shown, all that is told
--- of it; and else the call that it performed, by what was kept of that call before
+-- the lines of a step: none if it isn't shown; if steps themselves are shown, all that is told of the
+-- step; else the call that the step performed, by what was kept of that call before
 pub record AreLinesOf (views : Views) (done : StepDone) (lines : List ℕ) : Type 0 where
   pub before : Before
   pub arguments : List Cell
@@ -66,7 +66,7 @@ pub record ShownSoFar : Type 0 where
   pub last : LastNumbers
   pub text : List ℕ
 
--- no step of it is shown yet
+-- a run that begins at `start`, of which no step is shown yet
 abbrev pub none_shown : Views → Moment → ShownSoFar
 none_shown views start = record {
   at = start;
@@ -75,7 +75,7 @@ none_shown views start = record {
   text = [];
 }
 
--- with the lines of a step that led to a moment
+-- a run that is shown, with the lines of one more step: `lines` are the step's own, `all` is what is written
 abbrev pub with_lines : Views → (lines all : List ℕ) → Moment → (depth : ℕ) → ShownSoFar → ShownSoFar
 with_lines views lines all at depth old = record {
   at = at;
@@ -84,7 +84,7 @@ with_lines views lines all at depth old = record {
   text = old.text ++ folded_text views.columns 0 all;
 }
 
--- the step from one to another that was answered so
+-- the step from `old` to `new`, as what is shown of it is told
 abbrev pub step_between : ShownSoFar → Option Fate → (needed : ℕ) → (printed : Text) → ShownSoFar → StepDone
 step_between old answer needed printed new = record {
   old = old.at.machine;
@@ -96,7 +96,7 @@ step_between old answer needed printed new = record {
   depth = new.depth;
 }
 
--- one step more was done, and its lines were written
+-- one step from `old` to `new` was done, and its lines were written
 pub record ShowsStep (views : Views) (old new : ShownSoFar) : Type 0 where
   pub printed : Text
   pub lines : List ℕ
@@ -105,13 +105,13 @@ pub record ShowsStep (views : Views) (old new : ShownSoFar) : Type 0 where
   pub tells : AreLinesOf views (step_between old None (need (state_of old.at)) printed new) lines
   pub new_is : new ≡ with_lines views lines lines new.at new.depth old
 
--- so many steps more
+-- n shown steps lead from `old` to `new`
 abbrev pub ShowsSteps : Views → ℕ → (old new : ShownSoFar) → Type 0
 ShowsSteps views zero old new = new ≡ old
 ShowsSteps views (suc n) old new =
     (middle : ShownSoFar) × (ShowsSteps views n old middle × ShowsStep views middle new)
 
--- the step with which the run was over, and how it ended
+-- the step that ended the run with `fate`, and the lines on the end, were written
 pub record ShowsLast (views : Views) (fate : Fate) (old new : ShownSoFar) : Type 0 where
   pub printed : Text
   pub needed : ℕ
@@ -124,8 +124,8 @@ pub record ShowsLast (views : Views) (fate : Fate) (old new : ShownSoFar) : Type
   pub ends : TellsEnd views fate new.at.machine.peak new.at.machine lines all
   pub new_is : new ≡ with_lines views lines all new.at new.depth old
 
--- the definition's run over a source that gives these bytes, in this room and with this allowance, was
--- shown in this text; it ended with this fate, and this is the first of the last steps that are shown
+-- `text` shows the definition's run in `room` cells and with at most `allowance` steps, over a source with
+-- the bytes `old`, up to its end with `fate`; `first` is the first of the last steps that are shown
 pub record ShowsRun (views : Views) (room allowance : ℕ) (old new : Stream) (fate : Fate)
     (first : ℕ) (text : List ℕ) : Type 0 where
   pub count : ℕ

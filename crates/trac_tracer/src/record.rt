@@ -13,7 +13,7 @@ use std::io::Read;
 pub struct Record {
     /// The bytes, as far as there was memory for them.
     pub bytes: Vec<u8>,
-    /// There was memory for all of them.
+    /// Whether there was memory for all of them.
     pub is_whole: bool,
 }
 

@@ -119,8 +119,8 @@ impl Shown {
         )
     }
 
-    /// Adds the lines of what a step did. `machine` is the machine after it. Fails only if memory
-    /// runs out.
+    /// Adds the lines of what a step did. `machine` is the machine after it, `need` the cells that it needed, and
+    /// `printed` the bytes that it printed. Fails only if memory runs out.
     pub fn tell(
         &mut self,
         before: &Before,

@@ -174,7 +174,7 @@ fn write_folded<W: Write>(
     write(output, &lines)
 }
 
-/// Writes all the bytes.
+/// Writes all the bytes to the output. Fails if the output does.
 pub fn write<W: Write>(output: &mut W, bytes: &[u8]) -> Result<(), TraceError>
     ensures { OnOk result (Appends (W.contents output.old) (W.contents output.new) bytes.now) }
 {

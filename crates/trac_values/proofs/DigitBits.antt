@@ -35,7 +35,7 @@ digit_of_bits l k a b c h ea eb ec =
     ∙ ap (λ x. octal_digit a x (get_or l (3 * k + 2) false)) eb
     ∙ ap (octal_digit a b) ec)
 
--- there is none past the last
+-- no octal digit of bits stands past the last
 pub no_digit : (l : Bits) (k : ℕ) → length l ≤ 3 * k → slice_get (octal l) k ≡ None
 no_digit l k h = let long = length-octal l in slice_get_past (octal l) k (omega arith)
 
@@ -160,7 +160,7 @@ module _ (t u : Text) where
       let q = flat_map bits_of_digit (padded_text long u) in
       ap (λ l. slice_get (octal l) k) (union_is long is) ∙ no_digit (bitwise ◌||◌ p q) k (omega (arith, length-padded_text, length-bits_of, length-bitwise))
 
-  -- and the intersection
+  -- the intersection of two bit strings
   intersection_is : (short : ℕ) → short ≡ min (length t) (length u) → intersection (flat_map bits_of_digit t) (flat_map bits_of_digit u) ≡ bitwise ◌&&◌ (flat_map bits_of_digit (drop (length t - short) t)) (flat_map bits_of_digit (drop (length u - short) u))
   intersection_is short is =
       let p = flat_map bits_of_digit t in
@@ -194,7 +194,7 @@ module _ (t u : Text) where
       let lb = length-bitwise ◌&&◌ p q (omega arith) in
       ap (λ l. slice_get (octal l) k) (intersection_is short is) ∙ no_digit (bitwise ◌&&◌ p q) k (omega arith)
 
--- and the complement
+-- the complement of a bit string
 pub complement_at : (t : Text) (k x : ℕ) → k < length t → x ≡ get_or t k 48 → is_octal x ≡ true → slice_get (octal (complement (flat_map bits_of_digit t))) k ≡ Some (bit_xor x 7)
 complement_at t k x h is ox =
     let l = flat_map bits_of_digit t in

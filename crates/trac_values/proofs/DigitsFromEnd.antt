@@ -30,7 +30,7 @@ value-append xs ys = after-append 0 xs ys ∙ after_is (digits_value 10 xs) ys
 front_digit : (c : ℕ) (cs : List ℕ) → digits_value 10 (c ∷ cs) ≡ digit_value c * 10 ^ length cs + digits_value 10 cs
 front_digit c cs = let e = after_is (0 * 10 + digit_value c) cs in omega (arith, e)
 
--- one digit more before those that were read
+-- the value of digits with one more digit before them
 pub value_before : (text : List ℕ) (n d : ℕ) → 0 < n → n ≤ length text → digit_value (get_or text (n - 1) 0) ≡ d → digits_value 10 (drop (n - 1) text) ≡ digits_value 10 (drop n text) + d * 10 ^ (length text - n)
 value_before text n d pos le is =
     let next : n - 1 + 1 ≡ n = omega arith in
@@ -41,7 +41,7 @@ value_before text n d pos le is =
     let power : digit_value (get_or text (n - 1) 0) * 10 ^ length (drop (n - 1 + 1) text) ≡ d * 10 ^ (length text - n) = ap (λ k. k * 10 ^ length (drop (n - 1 + 1) text)) is ∙ ap (λ k. d * 10 ^ k) long in
     omega (arith, whole, first, rest, power)
 
--- at most 18 digits, with one before them
+-- the value of at most 18 digits, with one more digit before them, fits in 64 bits
 pub fits_before : (k v p d : ℕ) → k < 19 → p ≡ 10 ^ k → v < 10 ^ k → d < 10 → (d * p < 2 ^ 64) × (v + d * p < 2 ^ 64) × (p * 10 < 2 ^ 64) × (v + d * p < 10 ^ (k + 1)) × (p * 10 ≡ 10 ^ (k + 1))
 fits_before k v p d lt is below digit =
     let base : 0 < 10 = omega arith in

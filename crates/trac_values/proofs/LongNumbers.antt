@@ -2,11 +2,11 @@
 use Rattle.trac_values.proofs.Imports.{◌≡◌, ℕ, ◌+◌, ◌-◌, ◌*◌, ◌/◌, ◌%◌, ◌<◌, min, pos, neg_ℤ, sym, ap, ◌∙◌, refl, arith, ⊎_elim, mod-add-mod, mod-eq_of_lt, Bool, true, false, ◌+ℤ◌, if◌then◌else◌, digits_value, cases_Bool, int_rem_euclid, mul-mod_first, mod_below, div-add-mod', ints}
 use Rattle.trac_values.proofs.Imports.{int_rem_euclid_is, Text, before_digits, digits, ends_with, number}
 
--- one more digit, up to a limit
+-- the value of digits with one more digit, up to a limit
 pub limited_more : (v c limit : ℕ) → min (min v limit * 10 + c) limit ≡ min (v * 10 + c) limit
 limited_more v c limit = omega arith
 
--- one more digit, modulo a divisor
+-- the value of digits with one more digit, modulo a divisor
 pub rest_more : (v c n : ℕ) → (v % n * 10 + c) % n ≡ (v * 10 + c) % n
 rest_more v c n = sym (mod-add-mod (v % n * 10) n c) ∙ ap (λ m. (m + c) % n) (mul-mod_first v 10 n) ∙ mod-add-mod (v * 10) n c
 

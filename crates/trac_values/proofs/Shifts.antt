@@ -64,7 +64,7 @@ rotation_same d r l is =
     by_same (λ i. bit_at l (int_rem_euclid (pos i +ℤ pos r) (pos (length l)))) (length l) (λ i. bit_at l (int_rem_euclid (pos i +ℤ d) (pos (length l))))
     (λ i within. ap (bit_at l) (sym (rest_moved i (length l) r d (omega arith) is)))
 
--- once round at most
+-- a place less than two lengths away, modulo the length
 pub wrapped : (m n : ℕ) → n ≤ m → m < n + n → m % n ≡ m - n
 wrapped m n le lt =
     let e : n + (m - n) ≡ m = omega arith in

@@ -8,7 +8,7 @@ module _ (p : ℕ → Bool) where
   length-suffix : (t : Text) → length (drop (length t - suffix_len p t) t) ≡ suffix_len p t
   length-suffix t = omega (arith, length-drop (length t - suffix_len p t) t, suffix_len-le-length p t)
 
-  -- each of its characters passes
+  -- each character of the longest suffix passes the test
   suffix_passes : (t : Text) (k : ℕ) → k < length (drop (length t - suffix_len p t) t) → p (get_or (drop (length t - suffix_len p t) t) k 0) ≡ true
   suffix_passes t k h =
       let n = suffix_len p t in

@@ -7,14 +7,14 @@ module _ (p : ℕ → Bool) (cells : List Cell) where
   read : (i : ℕ) → i < length cells → get_or (text_of_cells cells) i 0 ≡ character_of (get_or cells i (Cell.Byte 0))
   read i h = get_or-map character_of cells i (Cell.Byte 0) 0 h
 
-  -- one more character from the end passes
+  -- one more character passes the test, seen from the end
   pub suffix_more : (n : ℕ) → 0 < n → n ≤ length cells → p (character_of (get_or cells (n - 1) (Cell.Byte 0))) ≡ true → n + suffix_len p (text_of_cells cells) ≡ length cells + suffix_len p (take n (text_of_cells cells)) → n - 1 + suffix_len p (text_of_cells cells) ≡ length cells + suffix_len p (take (n - 1) (text_of_cells cells))
   suffix_more n pos le passes so_far =
       let long = length-map cells character_of in
       let here = suffix_len-take_yes p (text_of_cells cells) n 0 pos (omega arith) (ap p (read (n - 1) (omega arith)) ∙ passes) in
       omega arith
 
-  -- the next doesn't
+  -- the next character from the end doesn't pass the test
   pub suffix_stops : (n : ℕ) → 0 < n → n ≤ length cells → p (character_of (get_or cells (n - 1) (Cell.Byte 0))) ≡ false → n + suffix_len p (text_of_cells cells) ≡ length cells + suffix_len p (take n (text_of_cells cells)) → n ≡ length (take (length (text_of_cells cells) - suffix_len p (text_of_cells cells)) (text_of_cells cells))
   suffix_stops n pos le stops so_far =
       let long = length-map cells character_of in

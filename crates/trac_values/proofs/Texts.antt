@@ -9,7 +9,7 @@ pub read : (cells : List Cell) (i c : ℕ) → i < length cells → c ≡ charac
 read cells i c lt is = get_or-map character_of cells i (Cell.Byte 0) 0 lt ∙ sym is
 
 module _ (a b : List Cell) (i : ℕ) where
-  -- one more character is the same
+  -- the first characters of two texts are the same, and one more is
   pub same_more : i < length a → length a ≡ length b → take i (text_of_cells a) ≡ take i (text_of_cells b) → get_or (text_of_cells a) i 0 ≡ get_or (text_of_cells b) i 0 → take (i + 1) (text_of_cells a) ≡ take (i + 1) (text_of_cells b)
   same_more lt long so_far here =
       take_more_same (text_of_cells a) (text_of_cells b) i 0 (omega (arith, length-text)) (omega (arith, length-text)) so_far here
@@ -18,7 +18,7 @@ module _ (a b : List Cell) (i : ℕ) where
 pub read_at : (cells : List Cell) (i c d : ℕ) → i < length cells → c ≡ character_of (get_or cells i (Cell.Byte 0)) → c ≡ get_or (text_of_cells cells) i d
 read_at cells i c d lt is = is ∙ sym (get_or-map character_of cells i (Cell.Byte 0) d lt)
 
--- it passes a test that each character passes
+-- a character that was read passes a test that each character of the text passes
 pub read_passes : (p : ℕ → Bool) (cells : List Cell) (i c : ℕ) → EachIs p (text_of_cells cells) → i < length cells → c ≡ character_of (get_or cells i (Cell.Byte 0)) → p c ≡ true
 read_passes p cells i c each lt is =
     ap p (read_at cells i c 0 lt is) ∙ each i (omega (arith, length-text))

@@ -4,7 +4,7 @@ use Rattle.trac_values.proofs.Imports.{same_lists, places, cond, before_digits, 
 use Rattle.trac_values.proofs.DigitsFromEnd.{value-append}
 
 module _ (p : ℕ → Bool) where
-  -- where all of the first pass, those of the second follow
+  -- if all characters of the first text pass the test, those of the second are counted too
   through : (xs ys : List ℕ) → prefix_len p xs ≡ length xs → prefix_len p (xs ++ ys) ≡ length xs + prefix_len p ys
   through [] ys all = omega arith
   through (x ∷ xs) ys all = go (p x) (through xs ys) all
@@ -13,7 +13,7 @@ module _ (p : ℕ → Bool) where
       go true rest all = omega (arith, rest (omega (arith, all)))
       go false rest all = absurd (omega (arith, all))
 
-  -- and else none of the second counts
+  -- if not all characters of the first text pass the test, none of the second counts
   within : (xs ys : List ℕ) → prefix_len p xs < length xs → prefix_len p (xs ++ ys) ≡ prefix_len p xs
   within [] ys less = absurd (omega (arith, less))
   within (x ∷ xs) ys less = go (p x) (within xs ys) less
@@ -107,7 +107,7 @@ module _ (cells : List Cell) (n : ℕ) (few : n ≤ length cells) where
         ∙ ap (λ k. digits_value 10 (digits front) * 10 ^ k + digits_value 10 back) long
         ∙ ap (λ t. digits_value 10 (digits front) * 10 ^ size + digits_value 10 t) (sym all-digits)
 
--- fewer than so many digits
+-- a number of at most 19 digits is below 10 ^ 19
 pub below-power : (v k : ℕ) → k ≤ 19 → v < 10 ^ k → v < 10 ^ 19
 below-power v k few below =
     let base : 0 < 10 = omega arith in

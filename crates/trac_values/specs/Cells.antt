@@ -9,10 +9,10 @@ use Rattle.trac_space.specs.Texts.{text_of_cells, IsByte}
 abbrev pub IsText : List Cell → Type 0
 IsText cells = All IsByte cells × (length cells ≤ 16777216)
 
--- the number at the end of their text
+-- the number at the end of the text of cells
 abbrev pub number_in : List Cell → ℤ
 number_in cells = number (text_of_cells cells)
 
--- the bit string at the end of their text
+-- the bit string at the end of the text of cells
 abbrev pub bits_in : List Cell → Bits
 bits_in cells = bits (text_of_cells cells)

@@ -32,7 +32,7 @@ bits_of_cells cells = flat_map bits_of_digit (text_of_cells cells)
 abbrev pub signed : Bool → ℕ → ℤ
 signed negative size = if negative then neg_ℤ (pos size) else pos size
 
--- filled with the digit 0 at the left, up to a length
+-- a text filled with the digit 0 at the left, up to `long` digits
 abbrev pub padded_text : ℕ → Text → Text
 padded_text long text = replicate (long - length text) 48 ++ text
 

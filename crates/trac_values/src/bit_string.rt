@@ -30,7 +30,8 @@ fn octal_digits_start(cells: &[Cell]) -> usize
     start
 }
 
-/// The longest suffix of octal digits.
+/// The octal digits of the bit string at the end of a text: its longest suffix of the digits 0 to 7, which
+/// may have no cell.
 pub fn octal_digits(cells: &[Cell]) -> &[Cell]
     ensures digits { text_of_cells result.now ≡ octal_digits (text_of_cells cells.now) }
     ensures octal { IsOctal result.now }
@@ -64,8 +65,9 @@ fn aligned_digit(digits: &[Cell], long: usize, place: usize) -> u8
     }
 }
 
-/// The octal digit at place `k` of the union of two bit strings, None past its end. Computes with the
-/// characters of the digits, since these differ only in their last three bits.
+/// The octal digit at place `k`, from 0 at the left, of the union of two bit strings, None past its end. `a`
+/// and `b` are their octal digits. Computes with the characters of the digits, which differ only in their
+/// last three bits.
 pub fn union_digit(a: &[Cell], b: &[Cell], k: u32) -> Option<u8>
     requires left { IsOctal a.now }
     requires right { IsOctal b.now }
@@ -80,7 +82,8 @@ pub fn union_digit(a: &[Cell], b: &[Cell], k: u32) -> Option<u8>
     Some(aligned_digit(a, long, place) | aligned_digit(b, long, place))
 }
 
-/// The octal digit at place `k` of the intersection of two bit strings, None past its end.
+/// The octal digit at place `k`, from 0 at the left, of the intersection of two bit strings, None past its
+/// end. `a` and `b` are their octal digits.
 pub fn intersection_digit(a: &[Cell], b: &[Cell], k: u32) -> Option<u8>
     requires left { IsOctal a.now }
     requires right { IsOctal b.now }
@@ -96,7 +99,8 @@ pub fn intersection_digit(a: &[Cell], b: &[Cell], k: u32) -> Option<u8>
     Some(character_of(&a[place + a.len() - short]) & character_of(&b[place + b.len() - short]))
 }
 
-/// The octal digit at place `k` of the complement of a bit string, None past its end.
+/// The octal digit at place `k`, from 0 at the left, of the complement of the bit string that `digits`
+/// gives, None past its end.
 pub fn complement_digit(digits: &[Cell], k: u32) -> Option<u8>
     requires { IsOctal digits.now }
     ensures { result ≡ slice_get (octal (complement (bits_of_cells digits.now))) k }
@@ -137,7 +141,8 @@ fn shifted_bit(digits: &[Cell], by: Count, place: usize) -> bool
     }
 }
 
-/// The octal digit at place `k` of a shifted bit string, None past its end. It is never inlined: else the
+/// The octal digit at place `k`, from 0 at the left, of the bit string that `digits` gives, shifted by `by`
+/// bits, to the left unless `by` is negative; None past its end. The function is never inlined: else the
 /// compiler computes its places first when another function's digit is asked for.
 #[inline(never)]
 pub fn shifted_digit(digits: &[Cell], by: Count, k: u32) -> Option<u8>
@@ -171,8 +176,8 @@ fn rotated_bit(digits: &[Cell], by: u32, place: usize) -> bool
     }
 }
 
-/// The octal digit at place `k` of a bit string rotated to the left by `by` bits, None past its end. The
-/// string has more than `by` bits.
+/// The octal digit at place `k`, from 0 at the left, of the bit string that `digits` gives, rotated to the
+/// left by `by` bits; None past its end. The string must have more than `by` bits.
 #[inline(never)]
 pub fn rotated_digit(digits: &[Cell], by: u32, k: u32) -> Option<u8>
     requires octal { IsOctal digits.now }

@@ -132,7 +132,7 @@ fn negated(value: Option<i128>) -> Option<i128>
     value?.checked_neg()
 }
 
-/// Whether the last of these characters is this one.
+/// Whether the last of the cells, which are all characters, is `character`.
 #[inline(always)]
 fn is_last(cells: &[Cell], character: u8) -> bool
     requires { All IsByte cells.now }

@@ -23,6 +23,6 @@ module _ (width told : ℕ) (last : Option SizedForm) (forms : List Form) (whole
       ∙ append_assoc now (form_at_text width next 0 forms) (largest_text width (5 - (told + 1)) (Some next) forms)
       ∙ sym (ap (λ o. now ++ rest o) found) ∙ split
 
-  -- there is no next one
+  -- no form is left to tell
   pub told_all : next_largest last 0 forms None ≡ None → now ≡ whole
   told_all none = sym (append-nil now) ∙ sym (ap (λ o. now ++ rest o) none) ∙ split

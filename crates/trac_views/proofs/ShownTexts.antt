@@ -7,12 +7,12 @@ use Rattle.std.proofs.lemmas.Str.{IsUtf8-from_is_utf8, is_utf8-from_IsUtf8}
 use Rattle.trac_views.specs.Shown.{is_whole}
 use Rattle.trac_views.specs.Told.{blanks_text}
 
--- fewer bytes are not so many bytes of UTF-8
+-- fewer than n bytes don't begin with n bytes of UTF-8
 pub whole_no : (n : ℕ) (bytes : List ℕ) → length bytes < n → false ≡ is_whole n bytes
 unfolding is_whole
 whole_no n bytes short = rw (lt-leb n (length bytes) short) refl
 
--- of enough bytes, so many are tested
+-- of at least n bytes, the first n are tested
 pub whole_is : (n : ℕ) (bytes : List ℕ) (b : Bool) → n ≤ length bytes → b ≡ is_utf8 (take n bytes) → b ≡ is_whole n bytes
 unfolding is_whole
 whole_is n bytes b enough is = rw (le-leb n (length bytes) enough) is
@@ -27,7 +27,7 @@ utf8_test P Q (Err e) bytes said = go (is_utf8 bytes) refl
     go true is = absurd (said.0 (IsUtf8-from_is_utf8 bytes is))
     go false is = sym is
 
--- the blanks of one call more
+-- the blanks of one more call stand behind `old`
 pub indent_step : (old now new : List ℕ) (depth k : ℕ) → k < depth → now ++ blanks_text (depth - k) ≡ old ++ blanks_text depth
     → new ≡ now ++ codes "  " → new ++ blanks_text (depth - (k + 1)) ≡ old ++ blanks_text depth
 indent_step old now new depth k low so_far is =

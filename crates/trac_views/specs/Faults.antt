@@ -19,7 +19,7 @@ use Rattle.trac_views.specs.Lines.{dropped_text, end_text, output_text, step_tex
 use Rattle.trac_views.specs.Told.{form_line, is_fault, meta_text, open_calls_text, parts_text}
 use Rattle.trac_views.specs.Told.{where_text}
 
--- the step behind so many is one of those that are shown
+-- whether the step after `done` others is shown
 abbrev pub is_told : Views → ℕ → Bool
 is_told views done =
     nat_le views.from (one_more done) && nat_le (one_more done) views.to
@@ -32,8 +32,8 @@ IsNeutralIn memory neutral = neutral_of neutral ≡ neutral_in memory
 abbrev pub IsNeutral : MachineState → List Cell → Type 0
 IsNeutral m neutral = IsNeutralIn m.memory neutral
 
--- the line of a step that was seen before, and its need, of the machine after it, cut to a width, and
--- that of what it dropped
+-- `new` is `old` with the line of a step, by what was seen before it, its need, and the machine `m` after it,
+-- and with the line of what the step dropped
 abbrev pub TellsDone : ℕ → Before → ℕ → MachineState → (old new : List ℕ) → Type 0
 TellsDone width before need m old new =
     (neutral : List Cell) × ((active : List Cell) × (IsNeutral m neutral
@@ -41,19 +41,21 @@ TellsDone width before need m old new =
     × (new ≡ (old ++ step_text width m.steps before.rule before.size need neutral active)
     ++ dropped_text before.drops))))
 
--- that line, where the step was done, and the line of what it printed, where it printed
+-- `new` is `old` with the lines of a step, if it was done, and with the line of what it printed, if it
+-- printed anything
 abbrev pub TellsPrinted : Bool → ℕ → Before → ℕ → List ℕ → MachineState → (old new : List ℕ)
     → Type 0
 TellsPrinted true width before need printed m old new =
     (line : List ℕ) × (TellsDone width before need m old line × (new ≡ line ++ output_text printed))
 TellsPrinted false width before need printed m old new = new ≡ old ++ output_text printed
 
--- the same, of a step that was done where more steps are done now
+-- `new` is `old` with the lines of a step and of what it printed; the step was done if machine `m` after it
+-- has done more steps than the one before
 abbrev pub TellsStep : ℕ → Before → ℕ → List ℕ → MachineState → (old new : List ℕ) → Type 0
 TellsStep width before need printed m old new =
     TellsPrinted (nat_lt before.done m.steps) width before need printed m old new
 
--- the cells that each part of a machine's block holds, whose neutral string has so many
+-- the cells that each part of a machine's block holds, if its neutral string has `neutral` cells
 abbrev pub parts_of : MachineState → ℕ → Parts
 parts_of m neutral = record {
   forms = size m.memory - neutral - length m.memory.active;
@@ -62,29 +64,29 @@ parts_of m neutral = record {
   free = m.room - size m.memory;
 }
 
--- the line of these cells
+-- the line of the cells of each part
 abbrev pub parts_line : Parts → List ℕ
 parts_line parts = parts_text parts.forms parts.neutral parts.active parts.free
 
--- the lines on a fault
+-- `new` is `old` with the lines on a fault; `string` is where the string that was read last began
 abbrev pub TellsFault : ℕ → Place → MachineState → (old new : List ℕ) → Type 0
 TellsFault width string m old new =
     (neutral : List Cell) × (IsNeutral m neutral
     × (new ≡ old ++ where_text (one_more m.steps) string ++ open_calls_text width neutral
     ++ largest_text width 5 None m.memory.forms ++ parts_line (parts_of m (length neutral))))
 
--- the forms and the meta character at the end, where forms are shown
+-- the lines of the forms and of the meta character at the end of a run, if forms are shown
 abbrev pub forms_text : Views → MachineState → List ℕ
 forms_text views m =
     if views.forms then flat_map (form_line views.width) m.memory.forms ++ meta_text m.memory.meta
     else []
 
--- what is told of a fault, with some place in the input, where there was one
+-- `new` is `old` with the lines on a fault, for some place in the input, if there was a fault
 abbrev pub TellsWhere : Bool → ℕ → MachineState → (old new : List ℕ) → Type 0
 TellsWhere true width m old new = (string : Place) × TellsFault width string m old new
 TellsWhere false width m old new = new ≡ old
 
--- how the run ended, the forms, and where it ended by a fault, what is told of that
+-- `new` is `old` with how the run ended, with the forms, and with the lines on a fault, if that ended it
 abbrev pub TellsEnd : Views → Fate → ℕ → MachineState → (old new : List ℕ) → Type 0
 TellsEnd views fate peak m old new =
     TellsWhere (is_fault fate) views.width m

@@ -65,14 +65,14 @@ name_text row.Character = codes "character    "
 abbrev pub column_text : ℕ → List ℕ
 column_text n = drop (min (length (decimal n)) 6) (codes "      ") ++ decimal n
 
--- the line above those of the views
+-- the line above the lines of a view: that of calls, of forms or of steps
 abbrev pub head_text : Bool → Bool → List ℕ
 head_text true forms = codes "  step  call\n"
 head_text false true = codes "  step  form\n"
 head_text false false =
     codes "  step  rule           size  need  neutral string|active string\n"
 
--- so many cells need no cut to a width
+-- whether `len` cells need no cut to a width; a width of 0 sets no bound
 abbrev pub is_short : ℕ → ℕ → Bool
 is_short width len = (width == 0) || nat_le len width
 
@@ -94,7 +94,7 @@ step_text width number rule size need neutral active =
 abbrev pub printed_text : List ℕ → List ℕ
 printed_text bytes = codes "        prints: " ++ bytes_text bytes ++ codes "\n"
 
--- the same, and nothing where nothing was printed
+-- the line of what a step printed, null if it printed nothing
 abbrev pub output_text : List ℕ → List ℕ
 output_text [] = []
 output_text (b ∷ bytes) = printed_text (b ∷ bytes)
@@ -105,30 +105,30 @@ drop_line n =
     codes "        drops: " ++ decimal n
     ++ codes " characters, since a left parenthesis has no match\n"
 
--- the same, and nothing where it dropped none
+-- the line of how many characters a step dropped, null if it dropped none
 abbrev pub dropped_text : ℕ → List ℕ
 dropped_text n = if n == 0 then [] else drop_line n
 
--- a byte that no character of UTF-8 begins with, but that stands within one
+-- whether a byte is one that no character of UTF-8 begins with, but that stands within one
 abbrev pub is_within : ℕ → Bool
 is_within b = nat_le 128 b && nat_le b 191
 
--- a byte goes into the next line: it has no column left in its own
+-- whether a byte goes into the next line, since `at` columns of its own are taken and no more are left
 abbrev pub is_folded : ℕ → ℕ → ℕ → Bool
 is_folded columns at b =
     nat_lt 0 columns && (nat_le columns at && (not (b == 10) && not (is_within b)))
 
--- a byte in front of which so many columns of its line are taken
+-- a byte before which `at` columns of its line are taken, in the next line if no column is left
 abbrev pub byte_at : ℕ → ℕ → ℕ → List ℕ
 byte_at columns at b = if is_folded columns at b then codes "\n          " ++ b ∷ [] else b ∷ []
 
--- how many columns are taken behind it
+-- how many columns of a line are taken behind a byte, if `at` are taken before it
 abbrev pub column_behind : ℕ → ℕ → ℕ → ℕ
 column_behind columns at b =
     if is_folded columns at b then 11
     else (if b == 10 then 0 else (if is_within b then at else min (at + 1) (2 ^ 32 - 1)))
 
--- a text whose lines have at most so many columns, behind so many of a line
+-- a text folded to lines of at most `columns` columns, where `at` columns of its first line are taken
 abbrev pub folded_text : ℕ → ℕ → List ℕ → List ℕ
 folded_text columns at [] = []
 folded_text columns at (b ∷ text) =
@@ -143,7 +143,7 @@ fate_text Steps = codes "allowance used up"
 fate_text InputFailed = codes "input failed"
 fate_text OutputFailed = codes "no memory for what is printed"
 
--- the last line
+-- the last line of a trace: how the run ended, its steps and its peak
 abbrev pub end_text : Fate → ℕ → ℕ → List ℕ
 end_text fate steps peak =
     fate_text fate ++ codes ": " ++ decimal steps

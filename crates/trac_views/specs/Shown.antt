@@ -8,11 +8,11 @@ use Rattle.trac_space.specs.declared.cell.Cell.{Cell}
 use Rattle.trac_space.specs.declared.cell.Cell.TheVariants.{Byte, Call, Comma, Gap, Head}
 use Rattle.trac_views.specs.Lines.{byte_text}
 
--- so many bytes at the head are UTF-8
+-- whether the first n bytes are UTF-8
 unfoldable pub is_whole : ℕ → List ℕ → Bool
 is_whole n bytes = nat_le n (length bytes) && is_utf8 (take n bytes)
 
--- a control of the direction of writing stands first
+-- whether bytes begin with a control of the direction of writing
 abbrev pub turns_direction : List ℕ → Bool
 turns_direction [] = false
 turns_direction (a ∷ []) = false
@@ -23,15 +23,15 @@ turns_direction (a ∷ b ∷ c ∷ bytes) =
     && ((c == 142) || (c == 143) || (nat_le 170 c && nat_le c 174)))
     || ((a == 226) && (b == 129) && nat_le 166 c && nat_le c 169)
 
--- a character beyond ASCII that is no control character can begin so
+-- whether bytes can begin with a character beyond ASCII that is no control character
 abbrev pub begins_character : List ℕ → Bool
 begins_character [] = false
 begins_character (a ∷ []) = nat_le 128 a
 begins_character (a ∷ b ∷ bytes) =
     nat_le 128 a && not (a == 194 && nat_lt b 160) && not (turns_direction (a ∷ b ∷ bytes))
 
--- how many bytes the character has that stands first, where that is a whole character of UTF-8
--- beyond ASCII and no control character, and 0 otherwise
+-- how many bytes the first character has, if that is a whole character of UTF-8 beyond ASCII and no
+-- control character; else 0
 abbrev pub character_length : List ℕ → ℕ
 character_length bytes =
     if not (begins_character bytes) then 0
@@ -40,16 +40,16 @@ character_length bytes =
     else (if is_whole 4 bytes then 4
     else 0)))
 
--- how many bytes are left of a whole character at the first of these bytes, where so many are left
--- of one that was begun
+-- how many of the bytes go on or begin a whole character: `left` of one that was begun, if that isn't 0;
+-- else all of the character that begins there
 unfoldable pub left_at : ℕ → List ℕ → ℕ
 left_at left bytes = if left == 0 then character_length bytes else left
 
--- a byte: as it is where some of a whole character are left, or else escaped
+-- a byte as it is, if it is one of the `left` bytes of a whole character, or else escaped
 abbrev pub shown_byte : ℕ → ℕ → List ℕ
 shown_byte left b = if left == 0 then byte_text b else b ∷ []
 
--- the bytes, where so many are left of a whole character
+-- a text as it is shown, whose first `left` bytes are the rest of a whole character
 abbrev pub shown_from : ℕ → List ℕ → List ℕ
 shown_from left [] = []
 shown_from left (b ∷ bytes) =
@@ -59,17 +59,17 @@ shown_from left (b ∷ bytes) =
 abbrev pub shown_text : List ℕ → List ℕ
 shown_text bytes = shown_from 0 bytes
 
--- a text of so many bytes needs no cut
+-- whether a text of `len` bytes needs no cut to a width; a width of 0 sets no bound
 abbrev pub fits : ℕ → ℕ → Bool
 fits width len = (width == 0) || nat_le len width
 
--- the byte at a place goes on a character of UTF-8
+-- whether the byte at a place goes on a character of UTF-8
 abbrev pub goes_on : List ℕ → ℕ → Bool
 goes_on bytes place =
     nat_lt place (length bytes)
     && nat_le 128 (get_or bytes place 0) && nat_lt (get_or bytes place 0) 192
 
--- the place before or behind, where that is so
+-- the place before, if the byte at the place goes on a character; below, the place behind
 abbrev pub step_back : List ℕ → ℕ → ℕ
 step_back bytes place = if goes_on bytes place then place - 1 else place
 
@@ -99,7 +99,7 @@ raw_cell Comma = codes "<,>"
 raw_cell (Gap _) = []
 raw_cell (Head _) = []
 
--- how a call of this mode begins
+-- the characters with which a call of a mode begins
 abbrev pub opening_text : Mode → List ℕ
 opening_text Active = codes "#("
 opening_text Neutral = codes "##("

@@ -34,12 +34,13 @@ form_text width form = cut_text width form.name ++ codes ": " ++ cut_text width 
 abbrev pub form_line : ℕ → Form → List ℕ
 form_line width form = codes "form " ++ form_text width form ++ codes "\n"
 
--- two blanks, and two more for each of so many calls
+-- two blanks, and two more for each of `depth` calls
 abbrev pub blanks_text : ℕ → List ℕ
 blanks_text zero = codes "  "
 blanks_text (suc depth) = codes "  " ++ blanks_text depth
 
--- the same for the calls that are open around one; of more than 20 it is that of 20 and their number
+-- what indents a call that has `depth` calls around it: two blanks, and two more for each of these; with more
+-- than 20 of them the blanks for 20, and the number of calls
 abbrev pub indent_text : ℕ → List ℕ
 indent_text depth =
     if nat_le depth 20 then blanks_text depth
@@ -52,20 +53,20 @@ oddity_text (Some NoFunction) = codes " [no function]"
 oddity_text (Some NoForm) = codes " [no form]"
 oddity_text (Some Default) = codes " [default]"
 
--- a text, or nothing where what is to stand behind it is empty
+-- a text, or null if what is to stand behind it is empty
 abbrev pub unless_empty : List ℕ → Bool → List ℕ
 unless_empty text true = []
 unless_empty text false = text
 
--- the value, what was printed, and the form that was made or changed, where there are such
+-- a call's value, what it printed, and the form that it made or changed; each left out if it is empty
 abbrev pub results_text : List Cell → List ℕ → List ℕ → ℕ → List ℕ
 results_text value printed form width =
     unless_empty (codes " = ") (length value == 0) ++ cut_text width (flat_map raw_cell value)
     ++ unless_empty (codes " prints ") (length printed == 0) ++ cut_text width printed
     ++ unless_empty (codes " form ") (length form == 0) ++ form
 
--- the line of a call: its step, the call, indented by those around it, its results, the forms that
--- it deleted, and what is odd about it
+-- the line of a call: the number of its step, the call, indented by the calls around it, its results, the
+-- forms that it deleted, and what is odd about it
 abbrev pub called_text : ℕ → Mode → ℕ → List Cell → List Cell → List ℕ → List ℕ → List ℕ
     → Option Oddity → ℕ → List ℕ
 called_text number mode depth arguments value printed form deleted oddity width =
@@ -73,28 +74,28 @@ called_text number mode depth arguments value printed form deleted oddity width 
     ++ cut_text width (flat_map raw_cell arguments) ++ codes ")"
     ++ results_text value printed form width ++ deleted ++ oddity_text oddity ++ codes "\n"
 
--- one of the arguments behind the first is this text: one that stands behind a comma mark
+-- whether one of the arguments behind the first, each of which a comma mark begins, is `name`
 abbrev pub is_argument : List Cell → Text → Bool
 is_argument [] name = false
 is_argument (cell ∷ cells) name =
     (is_comma cell && is_same (text_of_cells (argument_of cells 0)) name) || is_argument cells name
 
--- the line of the form that a call made or changed, or of those that it deleted
+-- the line of the form that a call made or changed, or of the forms that it deleted
 abbrev pub change_line : ℕ → List ℕ → List ℕ → List ℕ
 change_line number form deleted =
     column_text number ++ codes " " ++ unless_empty (codes " form ") (length form == 0)
     ++ form ++ deleted ++ codes "\n"
 
--- the same, where there are such
+-- the line of what a call did to forms, null if it made, changed and deleted none
 abbrev pub changes_text : ℕ → List ℕ → List ℕ → List ℕ
 changes_text number form deleted =
     if (length form == 0) && (length deleted == 0) then [] else change_line number form deleted
 
--- the steps are shown where no other view is
+-- whether steps are shown: if no other view is asked for
 abbrev pub has_steps : Views → Bool
 has_steps views = not views.calls && not views.forms
 
--- what becomes of the strings is shown with the steps and with the calls
+-- whether what becomes of the strings is shown: in the view of steps and in that of calls
 abbrev pub has_strings : Views → Bool
 has_strings views = has_steps views || views.calls
 
@@ -111,28 +112,29 @@ event_text views (Called call) =
     call.value.now call.printed.now call.form.now call.deleted.now call.oddity views.width
     else (if views.forms then changes_text call.number call.form.now call.deleted.now else [])
 
--- that a form of this name is deleted
+-- the words that a form of the name `name` is deleted
 abbrev pub deletion : ℕ → Text → List ℕ
 deletion width name = codes " deletes " ++ cut_text width name
 
--- that a form is deleted
+-- the words that a form is deleted
 abbrev pub form_deleted : ℕ → Form → List ℕ
 form_deleted width form = deletion width form.name
 
--- the first of these arguments where it names a form, unless a later one is the same
+-- the words that the form which the first argument names is deleted; null if it names none, or if a later
+-- argument is the same
 abbrev pub first_deleted : ℕ → List Form → List Cell → List ℕ
 first_deleted width forms arguments =
     let name = argument_of arguments 0 in
     if is_none (form_of name forms) || is_argument arguments (text_of_cells name) then []
     else deletion width (text_of_cells name)
 
--- those of the arguments behind the function's name that name a form, each once
+-- the words that the forms which arguments behind the function's name name are deleted, each once
 abbrev pub named_deleted : ℕ → List Form → List Cell → List ℕ
 named_deleted width forms [] = []
 named_deleted width forms (cell ∷ cells) =
     (if is_comma cell then first_deleted width forms cells else []) ++ named_deleted width forms cells
 
--- the forms that a call with these arguments deletes, which can delete so many
+-- the words on the forms that a call with `arguments` deletes, of the forms that it can touch
 abbrev pub deleted_text : ℕ → Touched → List Form → List Cell → List ℕ
 deleted_text width Nothing forms arguments = []
 deleted_text width First forms arguments = []
@@ -149,7 +151,7 @@ open_line width mode arguments =
     codes "open call: " ++ opening_text mode ++ cut_text width (flat_map raw_cell arguments)
     ++ codes "\n"
 
--- what is told of a cell before others: where it is the mark of a call that isn't passed over
+-- the line of the open call whose mark a cell is; null if it is no mark, or if `skip` calls are still left out
 abbrev pub open_text : ℕ → ℕ → Cell → List Cell → List ℕ
 open_text skip width (Byte _) cells = []
 open_text skip width (Call mode _) cells =
@@ -158,17 +160,17 @@ open_text skip width Comma cells = []
 open_text skip width (Gap _) cells = []
 open_text skip width (Head _) cells = []
 
--- how many calls are still passed over behind a cell
+-- how many open calls are still left out behind a cell
 abbrev pub skip_behind : ℕ → Cell → ℕ
 skip_behind skip cell = if is_call cell then skip - 1 else skip
 
--- the lines of the open calls without the outermost of them, whose number is given
+-- the lines of the open calls, but for the outermost `skip` of them
 abbrev pub opened_text : ℕ → ℕ → List Cell → List ℕ
 opened_text skip width [] = []
 opened_text skip width (cell ∷ cells) =
     open_text skip width cell cells ++ opened_text (skip_behind skip cell) width cells
 
--- how many calls are open around those that are told, where there are such
+-- the line on the `skip` open calls around those that have lines, null if there are none
 abbrev pub around_text : ℕ → List ℕ
 around_text skip =
     if skip == 0 then [] else (codes "open calls around these: " ++ decimal skip ++ codes "\n")
@@ -179,18 +181,18 @@ open_calls_text width neutral =
     let skip = count_by is_call neutral - 5 in
     around_text skip ++ opened_text skip width neutral
 
--- a place in the input
+-- the words for a place in the input
 abbrev pub place_text : Place → List ℕ
 place_text place =
     codes "line " ++ decimal place.line ++ codes ", column " ++ decimal place.column
 
--- the line of the step that was not done, and of where the string began that was read last
+-- the line on the step that was not done, and on where the string that was read last began
 abbrev pub where_text : ℕ → Place → List ℕ
 where_text step place =
     codes "at step " ++ decimal step ++ codes ", in the string that begins at "
     ++ place_text place ++ codes "\n"
 
--- the line of the cells of each part
+-- the line of the cells of each part of the block
 abbrev pub parts_text : ℕ → ℕ → ℕ → ℕ → List ℕ
 parts_text forms neutral active free =
     codes "cells: forms " ++ decimal forms ++ codes ", neutral string " ++ decimal neutral
@@ -200,7 +202,7 @@ parts_text forms neutral active free =
 abbrev pub meta_text : ℕ → List ℕ
 meta_text meta = codes "meta character: " ++ byte_text meta ++ codes "\n"
 
--- a run that ended so ended by a fault
+-- whether a run that ended with a fate ended by a fault
 abbrev pub is_fault : Fate → Bool
 is_fault Halted = false
 is_fault InputEnded = false

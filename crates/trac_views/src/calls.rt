@@ -29,11 +29,13 @@ pub enum Oddity {
 pub struct Called<'a> {
     /// The step that performed it.
     pub number: u64,
+    /// How the call was opened.
     pub mode: Mode,
     /// How many calls are open around it.
     pub depth: usize,
     /// The function's name and the arguments, with a comma mark between two.
     pub arguments: &'a [Cell],
+    /// The value of the call.
     pub value: &'a [Cell],
     /// The bytes that it printed.
     pub printed: &'a [u8],
@@ -41,6 +43,7 @@ pub struct Called<'a> {
     pub form: &'a [u8],
     /// The forms that it deleted, as `push_deleted` shows them.
     pub deleted: &'a [u8],
+    /// What is odd about the call, if anything is.
     pub oddity: Option<Oddity>,
 }
 
@@ -69,7 +72,7 @@ pub fn push_call(
     push(line, b"\n")
 }
 
-// Adds two blanks, and two more for each call that is open around this one. If they are many, adds
+// Adds two blanks, and two more for each call that is open around a call. If they are many, adds
 // their number instead.
 fn push_indent(line: &mut Vec<u8>, depth: usize) -> Result<(), AllocError>
     ensures { OnOk result (line.new.items ≡ line.old.items ++ indent_text depth) }

@@ -64,7 +64,8 @@ fn push_named(
     Ok(())
 }
 
-// Adds the first of these arguments if it names a form and no later argument is the same.
+// Adds that the form which the first of the arguments names is deleted, if there is such a form and no later
+// argument is the same.
 fn push_first(
     line: &mut Vec<u8>,
     alloc: Global,
@@ -96,7 +97,7 @@ fn push_deletion(
     push_name(line, alloc, name, width)
 }
 
-// Whether one of the arguments behind the first is this text.
+// Whether one of the arguments behind the first is `name`.
 fn is_argument(arguments: &[Cell], name: &[Cell]) -> bool
     ensures { result ≡ is_argument arguments.now (text_of_cells name.now) }
 {

@@ -187,7 +187,7 @@ fn is_whole(bytes: &[u8], len: usize) -> bool
     str::from_utf8(&bytes[..len]).is_ok()
 }
 
-/// Adds cells as the views show them, cut to a width. Fails only if memory runs out.
+/// Adds cells as the views show them, cut to `width` bytes as by `push_cut`. Fails only if memory runs out.
 pub fn push_cells_cut(
     line: &mut Vec<u8>,
     alloc: Global,
@@ -224,7 +224,7 @@ fn push_raw_cell(bytes: &mut Vec<u8>, cell: &Cell) -> Result<(), AllocError>
     }
 }
 
-/// Adds a text that cells hold, cut to a width. Fails only if memory runs out.
+/// Adds a text that cells hold, cut to `width` bytes as by `push_cut`. Fails only if memory runs out.
 pub fn push_name(
     line: &mut Vec<u8>,
     alloc: Global,
@@ -249,7 +249,7 @@ fn push_characters(bytes: &mut Vec<u8>, cells: &[Cell]) -> Result<(), AllocError
     Ok(())
 }
 
-/// How a call of this mode begins.
+/// The characters with which a call of this mode begins (Mooers 1966).
 pub fn opening(mode: Mode) -> &'static [u8]
     ensures { result.now ≡ opening_text mode }
 {

@@ -9,7 +9,7 @@ use crate::printed::Printed;
 use std::alloc::{AllocError, Global};
 use trac_core::{Forms, StoredForm, show_form};
 
-/// Adds a form: its name and, behind a colon, its body as `pf` displays it, both cut to a width.
+/// Adds a form: its name and, behind a colon, its body as `pf` displays it, both cut to `width` bytes.
 /// Fails only if memory runs out.
 pub fn push_form(
     line: &mut Vec<u8>,

@@ -80,8 +80,8 @@ fn push_sized(
     push(lines, b"\n")
 }
 
-/// The largest of the forms that come after `last` in this order, the first of equally large ones.
-/// None if none comes after it.
+/// The largest of the forms that come after `last`, the first of equally large ones. A form comes after
+/// another if it is smaller, or equally large and defined later. None if no form comes after `last`.
 pub fn next_largest(forms: Forms, last: Option<SizedForm>) -> Option<SizedForm>
     ensures { result ≡ next_largest last 0 forms.entry None }
 {

@@ -1,5 +1,6 @@
 //! What can be seen of a run, as lines of text: steps, calls, changes of forms, and the end with what stands
-//! in the block then. The form of these lines is this processor's own choice.
+//! in the block then. The form of these lines is this processor's own choice. If a function that adds to a
+//! list fails, what the list then holds is unspecified.
 #![tactic(auto)]
 
 mod calls;

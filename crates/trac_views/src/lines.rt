@@ -53,8 +53,8 @@ pub fn head(views: &Views) -> &'static [u8]
     }
 }
 
-/// Adds the line of a step, with the cells of both strings after it, each cut to a width. Fails
-/// only if memory runs out.
+/// Adds the line of a step, with the cells of both strings after it, each cut to `width` cells
+/// unless that is 0. Fails only if memory runs out.
 pub fn push_step(
     line: &mut Vec<u8>,
     step: &Step,

@@ -14,7 +14,7 @@ pub struct Views {
     pub from: u64,
     /// The last step that is shown.
     pub to: u64,
-    /// How many of the last steps are shown that there is something to show of; 0 for all.
+    /// How many steps are shown, the last ones of which there is something to show; 0 for all.
     pub last: u64,
     /// The most bytes of a text that are shown, 0 for all.
     pub width: u32,
@@ -43,14 +43,14 @@ impl Views {
         self.has_steps() || self.calls
     }
 
-    /// Whether a step is shown.
+    /// Whether step `number`, from 1, is shown.
     pub fn has(&self, number: u64) -> bool
         ensures { result ≡ (nat_le self.now.from number && nat_le number self.now.to) }
     {
         self.from <= number && number <= self.to
     }
 
-    /// These views, of all steps.
+    /// These views, for all steps.
     pub fn of_all_steps(&self) -> Views
         ensures { result ≡ record self.now { from = 1; to = 2 ^ 64 - 1 } }
     {
@@ -61,14 +61,14 @@ impl Views {
         }
     }
 
-    /// Where the last steps begin that are shown of a run of `steps` steps.
+    /// The number of the first of the last `last` steps, in a run of `steps` steps.
     pub fn first_of(&self, steps: u64) -> u64
         ensures { result ≡ min (steps - self.now.last + 1) (2 ^ 64 - 1) }
     {
         steps.saturating_sub(self.last).saturating_add(1)
     }
 
-    /// These views, of the steps from this one on.
+    /// These views, for the steps from step `first` on.
     pub fn beginning_at(&self, first: u64) -> Views
         ensures { result ≡ record self.now { from = max self.now.from first; last = 0 } }
     {

@@ -24,8 +24,8 @@ pub on_ok : {A E : Type 0} (r : Result A E) (P Q : Type 0) → (P → Q) → OnO
 on_ok (Ok x) P Q f p = f p
 on_ok (Err e) P Q f p = p
 
--- What the functions that note warnings go by.
+-- The lemmas for the functions that note warnings.
 pub ruleset keeping = (kept_same, kept_more, kept_pushed)
 
--- What the functions that say which warning they note go by.
+-- The lemmas for the functions whose contracts say which warnings they note.
 pub ruleset saying = (kept_same, kept_more, kept_pushed, said_pushed)

@@ -19,7 +19,7 @@ module _ {K T : Type 0} (f : K → T) where
       ∙ ap (λ o. match_ordering o (f key ∷ f x ∷ map f keys) (f x ∷ map f keys) (f x ∷ map f (insert_key cmp keys key))) (same key x)
       ∙ ap (λ t. match_ordering (to (f key) (f x)) (f key ∷ f x ∷ map f keys) (f x ∷ map f keys) (f x ∷ t)) (map_insert cmp to same keys key)
 
--- one time more than before, and once where there was none before
+-- a warning counts once more than before, and once if it was not given before
 pub with_one : (times : Option ℕ) → more (unwrap_or times 0) 1 ≡ once_more times
 with_one None = refl
 with_one (Some n) = refl

@@ -58,7 +58,7 @@ next_gaps old new whole k next i d cells items ending less added is all =
     ap (λ n. new ++ gaps_behind n (drop (i + 1) cells) items ending) is
     ∙ added_first old new (gap_behind cell k items ending) others whole added here
 
--- the calls from one on that are still open, and those behind it
+-- the warning of one more open call was added, and the warnings of the calls behind it are left
 pub next_open : (old new whole : List Said) (k : ℕ) (d : Origin) (calls : List Origin) → k < length calls
     → new ≡ old ++ of_text OpenCall (get_or calls k d) [] ∷ [] → old ++ open_warnings (drop k calls) ≡ whole
     → new ++ open_warnings (drop (k + 1) calls) ≡ whole
@@ -69,7 +69,7 @@ next_open old new whole k d calls less added all =
 last_first : {A : Type 0} (xs ys : List A) (x : A) → xs ≡ ys ++ x ∷ [] → reverse xs ≡ x ∷ reverse ys
 last_first xs ys x is = ap reverse is ∙ reverse-append ys (x ∷ [])
 
--- what is said behind the end of the last of these strings, and behind those of the others
+-- what is said of the end of the last string was added, and what is said of the others' ends is left
 pub next_end : (rule : ScanningRule) (active : ℕ) (here : Origin) (calls : List Origin) (told new whole : List Said) (is_unmatched : Bool)
     (string : OpenString) (strings others : List OpenString) → nat_lt string.rest active ≡ false → strings ≡ others ++ string ∷ []
     → is_unmatched ≡ (nat_lt active string.rest && is_protection rule)

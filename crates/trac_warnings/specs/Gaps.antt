@@ -4,23 +4,23 @@ use Rattle.trac_language.specs.declared.item.Item.{Item}
 use Rattle.trac_language.specs.declared.item.Item.TheVariants.{Byte, Gap}
 use Rattle.trac_language.specs.Text.{Text}
 
--- a comma, a parenthesis, a number sign or a gap ends a name
+-- whether an item ends a name: a comma, a parenthesis, a number sign or a gap does
 abbrev pub ends_name : Item → Bool
 ends_name (Byte c) = (c == 44) || (c == 40) || (c == 41) || (c == 35)
 ends_name (Gap k) = true
 
--- the item is this character
+-- whether the item is the character c
 abbrev pub is_character : ℕ → Item → Bool
 is_character c (Byte b) = b == c
 is_character c (Gap k) = false
 
--- the items begin with the text
+-- whether the items begin with the text
 abbrev pub begins : Text → List Item → Bool
 begins [] items = true
 begins (c ∷ text) [] = false
 begins (c ∷ text) (item ∷ items) = is_character c item && begins text items
 
--- the text stands in the name at the head of the items, or begins there
+-- whether the text begins in the name at the head of the items
 abbrev pub begins_in_name : Text → List Item → Bool
 begins_in_name text [] = false
 begins_in_name text (item ∷ items) =
@@ -33,7 +33,7 @@ behind_opening (first ∷ []) = []
 behind_opening (first ∷ second ∷ items) =
     if is_character 35 first && is_character 40 second then items else []
 
--- the text begins in the name of a call: in what stands behind a number sign and a left parenthesis,
+-- whether the text begins in the name of a call: in what stands behind a number sign and a left parenthesis,
 -- before what ends a name
 abbrev pub stands_in_name : Text → List Item → Bool
 stands_in_name text [] = false

@@ -29,21 +29,21 @@ use Rattle.trac_warnings.specs.declared.warning.Suspicion.TheVariants.{Ignored, 
 use Rattle.trac_warnings.specs.declared.warning.Suspicion.TheVariants.{ReadsAlways, GapInName}
 use Rattle.trac_warnings.specs.declared.warning.Warning.{Warning}
 
--- the warning of a text
+-- the warning of a text at an origin
 abbrev pub of_text : Suspicion → Origin → List ℕ → Said
 of_text suspicion origin text =
     record { origin = origin; suspicion = suspicion; count = 0; text = text }
 
--- the warning of these cells, where it applies
+-- the warning of a text's cells at an origin, if it applies
 abbrev pub where_so : Bool → Suspicion → Origin → List Cell → List Said
 where_so true suspicion origin cells = of_text suspicion origin (text_of_cells cells) ∷ []
 where_so false suspicion origin cells = []
 
--- whether there is a cell
+-- whether an argument is given: whether it has a cell
 abbrev pub is_given : List Cell → Bool
 is_given cells = not (length cells == 0)
 
--- so many comma marks, and those of the cells, as far as 32 bits go
+-- n and the number of comma marks among the cells, as far as 32 bits go
 abbrev pub commas_behind : ℕ → List Cell → ℕ
 commas_behind n [] = n
 commas_behind n (cell ∷ cells) =
@@ -57,17 +57,17 @@ commas_of cells = commas_behind 0 cells
 abbrev pub function_of : List Cell → Option Function
 function_of arguments = function_named (text_of_cells (argument_of arguments 0))
 
--- whether it is said of a name that it is no function's
+-- whether a suspicion is that no function has a name
 abbrev pub is_no_function : Suspicion → Bool
 is_no_function NoFunction = true
 is_no_function _ = false
 
--- what is suspicious in the name of a call, by the form that has it
+-- what is suspicious in the name of a call: if a form has that name, that it is a form's
 abbrev pub with_form : Option Form → Suspicion → Suspicion
 with_form None suspicion = suspicion
 with_form (Some form) suspicion = FormAsFunction
 
--- what is suspicious in the name of a call; that a form has it is only said where it is no function's
+-- what is suspicious in the name of a call; that a form has the name is only said if no function has it
 abbrev pub suspicion_of_call : List Form → List Cell → Option Suspicion
 suspicion_of_call forms name =
     option_map (λ s. if is_no_function s then with_form (form_of name forms) s else s)
@@ -78,46 +78,47 @@ abbrev pub name_warnings : Option Suspicion → Origin → List Cell → List Sa
 name_warnings None origin name = []
 name_warnings (Some suspicion) origin name = where_so true suspicion origin name
 
--- where the argument behind so many was written, if it is given and was written in the same text as the call
+-- where an argument was written, if it is given and was written in the same text as the call
 abbrev pub written_with : Option Origin → Ending → List Cell → Option Origin
 written_with None ending cells = None
 written_with (Some place) ending cells =
     if option_eq nat_eq place.form ending.begin.form && is_given cells then Some place else None
 
--- the same by how many arguments the function takes notice of
+-- where the first argument that a function ignores was written, if it is given and was written in the same text
+-- as the call; `most` is how many arguments the function takes notice of
 abbrev pub ignored_place : ℕ → Ending → Option Origin
 ignored_place most ending =
     written_with (slice_get ending.places.now most) ending (argument_of ending.arguments.now (most + 1))
 
--- the warning of these cells at a place
+-- the warning that a function ignores an argument, if that was written at a place
 abbrev pub ignored_at : Option Origin → List Cell → List Said
 ignored_at None cells = []
 ignored_at (Some place) cells = where_so true Ignored place cells
 
--- the warning of the argument behind so many
+-- the warning that a function ignores an argument, by how many arguments it takes notice of
 abbrev pub ignored_behind : Option ℕ → Ending → List Said
 ignored_behind None ending = []
 ignored_behind (Some most) ending =
     ignored_at (ignored_place most ending) (argument_of ending.arguments.now (most + 1))
 
--- whether the argument at a place is the default value of a function, or one of two from which it chooses
+-- whether the argument at a place is the default value of a function, or one of the two from which it chooses
 abbrev pub is_chosen : Option Function → ℕ → Bool
 is_chosen None place = false
 is_chosen (Some function) place =
     option_eq nat_eq (default_place function) (Some place) || (takes_branches function && nat_le 3 place)
 
--- whether the last argument so far of a call is its default value, or one of two from which it chooses
+-- whether the last argument so far of a call is its default value, or one of the two from which the call chooses
 abbrev pub is_in_default : List Cell → Bool
 is_in_default around = is_chosen (function_of around) (commas_of around)
 
--- what is suspicious in a call in this argument of another one, which ends the run or reads
+-- what is suspicious in a call that ends the run or reads and stands in the last argument of the call `around`
 abbrev pub inside : Function → List Cell → Option Suspicion
 inside Halt around = Some HaltInside
 inside ReadString around = if is_in_default around then Some ReadsAlways else None
 inside ReadCharacter around = if is_in_default around then Some ReadsAlways else None
 inside _ around = None
 
--- the warning of that, where the call around it was written in the same text
+-- the warning of a call that ends the run or reads inside another call of the same text
 abbrev pub nested : Function → Ending → List Said
 nested function ending =
     if ending.is_inside
@@ -142,7 +143,7 @@ compares_at (Some function) place = takes_branches function && nat_le place 2
 abbrev pub is_compared : List Cell → Bool
 is_compared around = compares_at (function_of around) (commas_of around)
 
--- whether it is the function that calls a form
+-- whether a function is `cl`, which calls a form
 abbrev pub calls_form : Option Function → Bool
 calls_form (Some CallForm) = true
 calls_form _ = false
@@ -153,28 +154,28 @@ is_missing function name ending =
     (not (has_default function ending.arguments.now) && not (is_compared ending.around.now))
     && is_written (text_of_cells name) ending.input.now
 
--- which argument stands behind a cell, where this one stands before it
+-- the number of the argument behind a cell, if argument k stands before it
 abbrev pub next_text : Cell → ℕ → ℕ
 next_text cell k = if is_comma cell then min (k + 1) (2 ^ 32 - 1) else k
 
--- the warning of an argument of `ss` that stands in the name of a call among these items
+-- the warning of argument k of `ss`, if it stands in the name of a call among the items of a body
 abbrev pub gap_at : ℕ → List Item → Ending → List Said
 gap_at k items ending =
     let text = argument_of ending.arguments.now k in
     where_so (nat_lt 1 k && (is_given text && stands_in_name (text_of_cells text) items)) GapInName
     ending.begin text
 
--- the warning of the argument behind a cell, where this one stands before it
+-- the warning of the argument of `ss` that begins behind a cell, if argument k stands before the cell
 abbrev pub gap_behind : Cell → ℕ → List Item → Ending → List Said
 gap_behind cell k items ending = if is_comma cell then gap_at (next_text cell k) items ending else []
 
--- the warnings of the arguments that are left, where this one stands before them
+-- the warnings of the arguments of `ss` that begin in the cells, if argument k stands before them
 abbrev pub gaps_behind : ℕ → List Cell → List Item → Ending → List Said
 gaps_behind k [] items ending = []
 gaps_behind k (cell ∷ cells) items ending =
     gap_behind cell k items ending ++ gaps_behind (next_text cell k) cells items ending
 
--- the warnings of all arguments
+-- the warnings of all arguments of `ss` that stand in the name of a call among the items of a body
 abbrev pub gap_warnings : List Item → Ending → List Said
 gap_warnings items ending = gaps_behind 0 ending.arguments.now items ending
 
@@ -190,7 +191,7 @@ takes_part CallCharacter = true
 takes_part CallNumber = true
 takes_part _ = false
 
--- whether something is left of a form, or the call provides for the case that nothing is
+-- whether something of a form is left to take, or the call provides for the case that nothing is
 abbrev pub is_provided : Function → Form → Ending → Bool
 is_provided function form ending =
     nat_lt form.pointer (length form.body) || (has_default function ending.arguments.now
@@ -203,12 +204,12 @@ of_body function form ending =
     else (if takes_part function && not (is_provided function form ending)
     then of_text NothingLeft ending.begin form.name ∷ [] else [])
 
--- the warnings of the form that a call names, or of its name where there is none
+-- the warnings of the form that a call names, or of the name if no form has it
 abbrev pub of_form : Function → Option Form → List Cell → Ending → List Said
 of_form function None name ending = where_so (is_missing function name ending) NoForm ending.begin name
 of_form function (Some form) name ending = of_body function form ending
 
--- the same, where the function needs a form
+-- the warnings of the form that a call names, or of the name if no form has it; none if the function needs no form
 abbrev pub form_warnings : Function → List Form → Ending → List Said
 form_warnings function forms ending =
     let name = argument_of ending.arguments.now 1 in
@@ -223,10 +224,10 @@ function_warnings (Some function) forms ending =
     ignored_behind (most_arguments function) ending
     ++ (nested function ending ++ form_warnings function forms ending)
 
--- the warnings of a call that is about to be performed, among these forms
+-- the warnings of a call that is about to be performed, while `forms` are there
 abbrev pub call_warnings : List Form → Ending → List Said
 call_warnings forms ending = function_warnings (function_of ending.arguments.now) forms ending
 
--- warnings are added, which say this
+-- `new` are the warnings `old` and others, which say `more`
 abbrev pub Warns : {A : Type 0} → List (Warning A) → List (Warning A) → List Said → Type 0
 Warns old new more = map said new ≡ map said old ++ more

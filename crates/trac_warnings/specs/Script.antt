@@ -22,14 +22,14 @@ at_place suspicion place text =
 abbrev pub mark_warnings : Text → List Said
 mark_warnings input = if begins_with_mark input then at_place Mark 0 [] ∷ [] else []
 
--- the last byte of a text that stands at a place, apart from layout and blanks, and its own place; the one
--- before it where the text has none
+-- the place and the byte of the last byte of a text that is no layout and no blank, for a text that stands at
+-- `place`; `last` if the text has none
 abbrev pub last_seen : Option (ℕ × ℕ) → ℕ → Text → Option (ℕ × ℕ)
 last_seen last place [] = last
 last_seen last place (c ∷ text) =
     last_seen (if is_layout c || (c == 32) then last else Some (place, c)) (place + 1) text
 
--- such a byte, unless it is a letter, a digit or a right parenthesis
+-- a byte and its place, unless the byte is a letter, a digit or a right parenthesis
 abbrev pub as_meta : Option (ℕ × ℕ) → Option (ℕ × ℕ)
 as_meta None = None
 as_meta (Some last) = if is_ascii_alphanumeric last.1 || (last.1 == 41) then None else Some last
@@ -39,7 +39,7 @@ abbrev pub other_meta : Text → Option (ℕ × ℕ)
 other_meta input =
     if list_any (λ c. c == 39) input then None else as_meta (last_seen None 0 input)
 
--- the warning of that byte
+-- the warning of a byte that seems to end the strings of a script
 abbrev pub meta_warnings : Option (ℕ × ℕ) → List Said
 meta_warnings None = []
 meta_warnings (Some found) = at_place OtherMeta found.0 (found.1 ∷ []) ∷ []
@@ -49,27 +49,28 @@ abbrev pub behind_digits : Text → Text
 behind_digits [] = []
 behind_digits (c ∷ text) = if nat_le 48 c && nat_le c 57 then behind_digits text else c ∷ text
 
--- a blank and what opens a call or a protected text
+-- whether a text begins with a blank and what opens a call or a protected text
 abbrev pub opens_line : Text → Bool
 opens_line (a ∷ b ∷ text) = (a == 32) && ((b == 35) || (b == 40) || (b == 58))
 opens_line text = false
 
--- a line begins with a number and, behind a blank, with a call or a parenthesis
+-- whether a line begins with a number and, behind a blank, with a call or a parenthesis
 abbrev pub is_numbered : Text → Bool
 is_numbered line =
     nat_lt (length (behind_digits line)) (length line) && opens_line (behind_digits line)
 
--- the warning of so many numbered lines, of which this is the first
+-- the warning of `count` numbered lines, of which the first begins at `first`; none of fewer than three
 abbrev pub few_lines : Option ℕ → ℕ → List Said
 few_lines None count = []
 few_lines (Some first) count = if nat_le 3 count then at_place LineNumbers first [] ∷ [] else []
 
--- the first place, and else this one
+-- the place that was found first, or `place` if none was found
 abbrev pub first_of : Option ℕ → ℕ → Option ℕ
 first_of None place = Some place
 first_of (Some first) place = Some first
 
--- the warning of numbered lines, where so many stand before a text at a place, which may begin a line
+-- the warning of numbered lines, of which `count` stand before a text at `place`, the first at `first`; `is_head`:
+-- the text begins a line
 abbrev pub numbered_lines : Option ℕ → ℕ → Bool → ℕ → Text → List Said
 numbered_lines first count is_head place [] = few_lines first count
 numbered_lines first count is_head place (c ∷ text) =
@@ -86,13 +87,13 @@ spelled_at None is_told is_behind_sign place (c ∷ text) =
     if (c == 40) && ((not is_told && not is_behind_sign) && names_function 44 text)
     then at_place NoNumberSign place (take 2 text) ∷ [] else []
 
--- whether the next parenthesis was warned of, behind a character
+-- whether the next parenthesis behind the character c was warned of already
 abbrev pub told_behind : Option Suspicion → Bool → ℕ → Bool
 told_behind (Some Bracket) is_told c = false
 told_behind (Some suspicion) is_told c = true
 told_behind None is_told c = not (c == 40) && is_told
 
--- the warnings of the spelling of a text at a place
+-- the warnings of the spelling of a text at a place of the input
 abbrev pub spelled : (is_told is_behind_sign : Bool) → ℕ → Text → List Said
 spelled is_told is_behind_sign place [] = []
 spelled is_told is_behind_sign place (c ∷ text) =

@@ -7,13 +7,13 @@ use Rattle.trac_language.specs.Text.{Text}
 use Rattle.trac_warnings.specs.declared.warning.Suspicion.{Suspicion}
 use Rattle.trac_warnings.specs.declared.warning.Suspicion.TheVariants.{Colon, Blank, Bracket}
 
--- a text begins with the name of a function and, behind it, a comma or this parenthesis
+-- whether a text begins with the name of a function and, behind it, a comma or the given parenthesis
 abbrev pub names_function : ℕ → Text → Bool
 names_function parenthesis (a ∷ b ∷ c ∷ text) =
     ((c == 44) || (c == parenthesis)) && is_some (function_named (a ∷ b ∷ []))
 names_function parenthesis text = false
 
--- a text begins with this parenthesis and the name of a function, which a comma or the other one ends
+-- whether a text begins with `parenthesis` and the name of a function, which a comma or `other` ends
 abbrev pub opens : ℕ → ℕ → Text → Bool
 opens parenthesis other [] = false
 opens parenthesis other (c ∷ text) = (c == parenthesis) && names_function other text

@@ -4,7 +4,7 @@ use Rattle.std.specs.List.{starts_with}
 use Rattle.trac_language.specs.Text.{Text}
 use Rattle.trac_language.specs.Rule.{is_layout}
 
--- the bytes of a byte order mark in UTF-8 stand first
+-- whether bytes begin with a byte order mark in UTF-8
 abbrev pub begins_with_mark : List ℕ → Bool
 begins_with_mark bytes = starts_with (λ a b. a == b) bytes (239 ∷ 187 ∷ 191 ∷ [])
 

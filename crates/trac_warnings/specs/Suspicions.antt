@@ -15,7 +15,7 @@ use Rattle.trac_warnings.specs.declared.warning.Suspicion.TheVariants.{ReadsAlwa
 use Rattle.trac_warnings.specs.declared.warning.Suspicion.TheVariants.{OpenCall, Protection, Dropped, EndInside}
 use Rattle.trac_warnings.specs.declared.warning.Suspicion.TheVariants.{OpenString}
 
--- what is said of it, before the name, the text or the number
+-- the sentence on a suspicion, before the name, the text or the number
 abbrev pub sentence_of : Suspicion → Text
 sentence_of Mark = codes "a byte order mark stands before the script"
 sentence_of OtherMeta =
@@ -50,7 +50,7 @@ abbrev pub left_out : List Text
 left_out =
     codes "sb" ∷ codes "fb" ∷ codes "eb" ∷ codes "tn" ∷ codes "tf" ∷ codes "mo" ∷ []
 
--- whether a name, in letters of either case, is one of them
+-- whether a name, in letters of either case, is that of a function that this processor leaves out
 abbrev pub is_left_out : Text → Bool
 is_left_out name = list_any (bytes_eq (map to_ascii_lowercase name)) left_out
 

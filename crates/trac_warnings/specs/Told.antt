@@ -29,7 +29,7 @@ use Rattle.trac_warnings.specs.declared.warning.Warning.{Warning}
 use Rattle.trac_warnings.specs.declared.watch.OpenString.{OpenString}
 use Rattle.trac_warnings.specs.declared.watch.Watch.{Watch}
 
--- how many cells of the active string stand behind a string, 0 where there is none
+-- how many cells of the active string stand behind a string, 0 if there is no string
 abbrev pub rest_of : Option OpenString → ℕ
 rest_of None = 0
 rest_of (Some string) = string.rest
@@ -50,19 +50,19 @@ abbrev pub is_protection : ScanningRule → Bool
 is_protection row.Protection = true
 is_protection _ = false
 
--- whether it is a function of arithmetic
+-- whether a function is one of arithmetic
 abbrev pub is_arithmetic : Option Function → Bool
 is_arithmetic (Some (Arithmetic operation)) = true
 is_arithmetic _ = false
 
--- whether the call that a step performed gives no default value and has a null value: behind the step the
--- strings have so many cells
+-- whether the call that a step performed gives no default value and has a null value; after the step the strings
+-- have `active` and `neutral` cells
 abbrev pub is_null : {A : Type 0} → Watch A → Before → (active neutral : ℕ) → Bool
 is_null watch before active neutral =
     (length (argument_of watch.arguments.items 3) == 0)
     && (nat_lt active before.active && nat_le neutral (watch.neutral - length watch.arguments.items - 1))
 
--- where the innermost call was written, and else where its value was
+-- where the innermost call was written; where its value was, if no call is known
 abbrev pub call_place : {A : Type 0} → Watch A → Origin
 call_place watch = unwrap_or (slice_get watch.calls.items (length watch.calls.items - 1)) watch.value
 
@@ -78,11 +78,11 @@ rule_warnings row.Protection watch before active neutral = drop_warnings watch b
 rule_warnings row.EndOfCall watch before active neutral = result_warnings watch before active neutral
 rule_warnings _ watch before active neutral = []
 
--- all but the last
+-- all items but the last
 abbrev pub without_last : {A : Type 0} → List A → List A
 without_last items = take (length items - 1) items
 
--- where the calls were written that are open behind a step by a rule
+-- where the calls that are open after a step by a rule were written
 abbrev pub calls_behind : {A : Type 0} → ScanningRule → Watch A → List Origin
 calls_behind row.Idling watch = []
 calls_behind row.ActiveCall watch = watch.calls.items ++ place_of watch ∷ []
@@ -90,12 +90,12 @@ calls_behind row.NeutralCall watch = watch.calls.items ++ place_of watch ∷ []
 calls_behind row.EndOfCall watch = without_last watch.calls.items
 calls_behind _ watch = watch.calls.items
 
--- strings, the last first, which was read when at most so many calls were open
+-- strings, the last first, in which the last counts at most `depth` calls that were open when it was read
 abbrev pub lowered : ℕ → List OpenString → List OpenString
 lowered depth [] = []
 lowered depth (string ∷ strings) = record string { depth = min string.depth depth } ∷ strings
 
--- the strings that are scanned behind a step by a rule, the last first
+-- the strings that are scanned after a step by a rule, the last first
 abbrev pub strings_behind : {A : Type 0} → ScanningRule → Watch A → List OpenString
 strings_behind row.Idling watch = []
 strings_behind row.EndOfCall watch =
@@ -106,7 +106,7 @@ strings_behind _ watch = reverse watch.strings.items
 abbrev pub is_ended_at : List ℕ → (end meta : ℕ) → Bool
 is_ended_at input end meta = option_eq nat_eq (slice_get input end) (Some meta)
 
--- where the first character apart from layout stands between two places of the input
+-- where the first character that is no layout stands between two places of the input
 abbrev pub begin_of_text : List ℕ → (start end : ℕ) → ℕ
 begin_of_text input start end = more start (layout_len (take (end - start) (drop start input)))
 
@@ -116,13 +116,13 @@ text_warnings input start end meta =
     let begin = begin_of_text input start end in
     where_so (not (is_ended_at input end meta) && nat_lt begin end) NotEnded (in_input begin) []
 
--- the warning of what a step read whose value has so many characters
+-- the warning of a string that a step read from place `read` of the input on, if its value has `len` characters
 abbrev pub read_warnings : Awaits → Before → List ℕ → (read len : ℕ) → List Said
 read_warnings awaits.Text before input read len =
     text_warnings input (min read (length input)) (end_of_text input read len) before.meta
 read_warnings _ before input read len = []
 
--- the strings with one that was read up to a place, unless nothing of it is active; so many calls are open
+-- the strings with one that was read up to place `end`, unless nothing of it is active; `depth` calls are open
 abbrev pub with_string :
     Before → List ℕ → (end active depth : ℕ) → List OpenString → List OpenString
 with_string before input end active depth strings =
@@ -135,19 +135,20 @@ with_string before input end active depth strings =
     } ∷ strings
     else strings
 
--- the strings behind what a step read whose value has so many characters
+-- the strings with the one that a step read from place `read` of the input on, if it read one; its value has
+-- `len` characters
 abbrev pub strings_read :
     Awaits → Before → List ℕ → (read len active depth : ℕ) → List OpenString → List OpenString
 strings_read awaits.Text before input read len active depth strings =
     with_string before input (end_of_text input read len) active depth strings
 strings_read _ before input read len active depth strings = strings
 
--- whether it is said of characters that they were dropped
+-- whether a suspicion is that characters were dropped
 abbrev pub tells_dropped : Suspicion → Bool
 tells_dropped Dropped = true
 tells_dropped _ = false
 
--- whether that is what was said last
+-- whether something was said, and that is that characters were dropped
 abbrev pub is_dropped : Option Said → Bool
 is_dropped None = false
 is_dropped (Some said) = tells_dropped said.suspicion
@@ -161,7 +162,7 @@ abbrev pub open_warnings : List Origin → List Said
 open_warnings [] = []
 open_warnings (call ∷ calls) = of_text OpenCall call [] ∷ open_warnings calls
 
--- the warnings of the left parentheses and of the calls that a string leaves open at its end, which is here
+-- the warnings of the left parentheses and of the calls that a string leaves open at its end, which is at `here`
 abbrev pub left_open : (is_unmatched is_told : Bool) → Origin → List Origin → List Said
 left_open true is_told here calls = where_so (not is_told) Protection here []
 left_open false is_told here calls = open_warnings calls
@@ -175,8 +176,8 @@ end_warnings is_unmatched is_told here calls string =
     ++ where_so (string.is_ended && (is_unmatched || nat_lt string.depth (length calls)))
     EndInside (in_input string.end) []
 
--- all that is said behind the ends of these strings, the last first, of those that end where so many cells
--- are active
+-- what was `told`, with the warnings of the strings, the last first, that end while `active` cells are left in
+-- the active string
 abbrev pub ended :
     ScanningRule → ℕ → Origin → List Origin → List Said → List OpenString → List Said
 ended rule active here calls told [] = told
@@ -185,20 +186,20 @@ ended rule active here calls told (string ∷ strings) =
     else ended rule active here calls (told ++ end_warnings (nat_lt active string.rest && is_protection rule)
     (is_dropped_last told) here calls string) strings
 
--- the strings that don't end there
+-- the strings, the last first, that don't end while `active` cells are left in the active string
 abbrev pub not_ended : ℕ → List OpenString → List OpenString
 not_ended active [] = []
 not_ended active (string ∷ strings) =
     if nat_lt string.rest active then string ∷ strings else not_ended active strings
 
--- the strings that are scanned behind a step, the last first, before those leave that end
+-- the strings that are scanned after a step, the last first, with those that end there
 abbrev pub strings_scanned : {A : Type 0} → Before → List ℕ → (len active : ℕ) → Watch A → List OpenString
 strings_scanned before input len active watch =
     strings_read before.awaits before input watch.read len active
     (length (calls_behind before.rule watch)) (strings_behind before.rule watch)
 
--- all that is said behind a step that was done, whose value has so many characters, and behind which the
--- strings have so many cells
+-- all that is said of a step that was done, whose value has `len` characters, and after which the strings have
+-- `active` and `neutral` cells
 abbrev pub told_behind : {A : Type 0} → Before → List ℕ → (len active neutral : ℕ) → Watch A → List Said
 told_behind before input len active neutral watch =
     ended before.rule active (place_of watch) (calls_behind before.rule watch)
@@ -206,7 +207,7 @@ told_behind before input len active neutral watch =
     ++ read_warnings before.awaits before input watch.read len)
     (strings_scanned before input len active watch)
 
--- a step was done: its warnings are added, and the calls and the strings are those that are open then
+-- the warnings of a step that was done are added, and the calls and the strings are those that are open after it
 abbrev pub TellsAll : {A : Type 0} → Before → MachineState → List ℕ → (old new : Watch A) → Type 0
 TellsAll before m input old new =
     (value : List Cell) × ((neutral : List Cell) × (SeesValue m before.call before.active value

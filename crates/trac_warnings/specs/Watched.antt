@@ -16,7 +16,7 @@ use Rattle.trac_warnings.specs.declared.warning.Suspicion.{Suspicion}
 use Rattle.trac_warnings.specs.declared.warning.Warning.{Warning}
 use Rattle.trac_warnings.specs.declared.watch.Watch.{Watch}
 
--- nothing was seen yet
+-- a watch has seen nothing yet
 abbrev pub IsFresh : {A : Type 0} → Watch A → Type 0
 IsFresh watch = (watch.warnings.items ≡ []) × (watch.read ≡ 0) × (watch.runs.items ≡ [])
     × (watch.strings.items ≡ []) × (watch.calls.items ≡ []) × (watch.commas.items ≡ [])
@@ -31,7 +31,7 @@ pub record Said : Type 0 where
 abbrev pub said : {A : Type 0} → Warning A → Said
 said w = record { origin = w.origin; suspicion = w.suspicion; count = w.count; text = w.text.items }
 
--- another warning is added, which says this
+-- `new` are the warnings `old` and one more, which says `more`
 abbrev pub Adds : {A : Type 0} → List (Warning A) → List (Warning A) → Said → Type 0
 Adds old new more = map said new ≡ map said old ++ more ∷ []
 
@@ -68,24 +68,24 @@ Moves before m old new = (value : Origin)
     × (reverse new.runs.items ≡ moved before.rule before.active (length m.memory.active) value
     (reverse old.runs.items)))
 
--- where a text ends of so many characters that was read at a place of the input
+-- where a text of `len` characters that was read at place `read` of the input ends
 abbrev pub end_of_text : List ℕ → ℕ → ℕ → ℕ
 end_of_text input read len = min (more (min read (length input)) len) (length input)
 
--- behind a string that ends at a place, and behind the meta character where it stands there
+-- `new` is the place behind a string that ends at `end`, and behind the meta character if that stands there
 abbrev pub EndsText : List ℕ → (end meta new : ℕ) → Type 0
 EndsText input end meta new =
     (slice_get input end ≡ Some meta → new ≡ more end 1)
     × ((slice_get input end ≡ Some meta → ⊥) → new ≡ end)
 
--- by what the step reads whose value has so many characters
+-- where the input is read after a step, by what the step reads, if its value has `len` characters
 abbrev pub ReadsLen : Awaits → Before → List ℕ → (len old new : ℕ) → Type 0
 ReadsLen awaits.Nothing before input len old new = new ≡ old
 ReadsLen awaits.Text before input len old new =
     EndsText input (end_of_text input old len) before.meta new
 ReadsLen awaits.Byte before input len old new = new ≡ min (more old len) (length input)
 
--- where the input is read behind a step
+-- `new` is where the input is read after a step before which it was read at `old`
 abbrev pub Reads : Before → MachineState → List ℕ → ℕ → ℕ → Type 0
 Reads before m input old new = (value : List Cell)
     × (SeesValue m before.call before.active value

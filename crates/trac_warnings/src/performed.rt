@@ -26,18 +26,20 @@ use trac_space::{Cell, character_of};
 pub struct Ending<'a> {
     /// The arguments, with a comma mark between two.
     pub arguments: &'a [Cell],
-    /// Where the call was written, and each argument behind its name.
+    /// Where the call was written.
     pub begin: Origin,
+    /// Where each argument behind the name was written.
     pub places: &'a [Origin],
     /// The arguments so far of the call around it; null if there is none.
     pub around: &'a [Cell],
-    /// Whether that call was written in the same text.
+    /// Whether the call around it was written in the same text.
     pub is_inside: bool,
-    /// What is known of the input.
+    /// The bytes of the input that are known, from its front.
     pub input: &'a [u8],
 }
 
-/// Adds what is suspicious in a call that a machine is about to perform. An error means that memory ran out.
+/// Adds what is suspicious in a call that a machine is about to perform. An error means that memory ran out;
+/// the earlier warnings stay.
 #[tactic(auto, using(crate::proofs::Keeping::keeping))]
 pub fn look_at_call<A: Allocator + Copy>(
     warnings: &mut Vec<Warning<A>, A>,
@@ -98,7 +100,7 @@ fn look_at_ignored<A: Allocator + Copy>(
     warn(warnings, alloc, Suspicion::Ignored, place, ignored)
 }
 
-// Where the argument behind `most` was written. None if it is null or wasn't written in the same text as the
+// Where argument `most` + 1 was written. None if it is null or wasn't written in the same text as the
 // call.
 fn ignored_place(most: u32, ending: &Ending) -> Option<Origin>
     requires { most < 2 ^ 32 - 1 }

@@ -8,7 +8,7 @@ use trac_core::is_layout;
 use trac_functions::function::function_named;
 use trac_space::Cell;
 
-/// What is nearly the beginning of a call at the head of a text.
+/// What is nearly the beginning of a call at the head of a text. None if nothing is.
 pub fn spelling_of(text: &[u8]) -> Option<Suspicion>
     ensures { result ≡ spelling_of text.now }
 {
@@ -35,7 +35,7 @@ fn opens(parenthesis: u8, other: u8, text: &[u8]) -> bool
     }
 }
 
-/// Whether a text begins with the name of a function and, behind it, a comma or this parenthesis.
+/// Whether a text begins with the name of a function and, behind it, a comma or `parenthesis`.
 pub fn names_function(parenthesis: u8, text: &[u8]) -> bool
     ensures value { result ≡ names_function parenthesis text.now }
     ensures long { result ≡ true → 3 ≤ length text.now }

@@ -4,7 +4,7 @@ ghost use Rattle.trac_warnings.specs.Strings.{begins_with_mark, layout_len};
 
 use trac_core::is_layout;
 
-/// Whether the bytes of a byte order mark in UTF-8 stand first.
+/// Whether the input begins with a byte order mark in UTF-8.
 pub fn begins_with_mark(input: &[u8]) -> bool
     ensures { result ≡ begins_with_mark input.now }
 {

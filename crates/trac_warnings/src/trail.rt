@@ -26,7 +26,7 @@ impl Run {
     }
 }
 
-/// The origin of the first character of the runs, of which the first stands last. None if there are none.
+/// The origin of the first character. The first of the runs stands last. None if there are no runs.
 pub fn first_origin(runs: &[Run]) -> Option<Origin>
     ensures { result ≡ first_origin (reverse runs.now) }
 {
@@ -36,7 +36,8 @@ pub fn first_origin(runs: &[Run]) -> Option<Origin>
     }
 }
 
-/// Puts characters in front. An error means that memory ran out; then nothing has changed.
+/// Puts `len` characters that were written from `origin` on in front of the runs. An error means that memory
+/// ran out; then nothing has changed.
 pub fn push_run<A: Allocator>(
     runs: &mut Vec<Run, A>,
     origin: Origin,
@@ -52,7 +53,8 @@ pub fn push_run<A: Allocator>(
     Ok(())
 }
 
-/// Removes the first characters, or all if there are fewer. An error means that memory ran out.
+/// Removes the first `count` characters of the runs, or all if there are fewer. An error means that memory
+/// ran out.
 pub fn take_run<A: Allocator>(runs: &mut Vec<Run, A>, count: usize) -> Result<(), AllocError>
     ensures { OnOk result (reverse runs.new.items ≡ taken count (reverse runs.old.items)) }
 {

@@ -61,7 +61,7 @@ pub enum Suspicion {
 #[derive(Drop)]
 #[derive_where(Debug, PartialEq, Eq, PartialOrd, Ord)]
 pub struct Warning<A: Allocator> {
-    /// Where what it warns of was written.
+    /// Where the name, the text or the character that it warns of was written.
     pub origin: Origin,
     pub suspicion: Suspicion,
     /// How many characters it warns of, 0 if none.

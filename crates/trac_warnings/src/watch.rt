@@ -111,7 +111,7 @@ impl<A: Allocator + Copy> Watch<A> {
         self.warnings.as_slice()
     }
 
-    /// Takes the last of these warnings away. None if none is left.
+    /// Takes away the last warning of the last step that it saw, and gives it. None if none is left.
     pub fn take_warning(&mut self) -> Option<Warning<A>>
         ensures left { self.old.warnings.items ≡ self.new.warnings.items ++ option_to_list result }
         ensures some { IsSome result ↔ (0 < length self.old.warnings.items) }
@@ -218,8 +218,8 @@ impl<A: Allocator + Copy> Watch<A> {
         self.calls.last().copied().unwrap_or(self.origin())
     }
 
-    /// Looks at a machine after a step. `input` has at least the bytes that the machine has read.
-    /// Fails only if memory runs out.
+    /// Looks at a machine after a step, before which `look` gave `before`. `input` has at least the bytes that
+    /// the machine has read. Fails only if memory runs out.
     pub fn tell(
         &mut self,
         before: &Before,
@@ -309,8 +309,8 @@ impl<A: Allocator + Copy> Watch<A> {
         }
     }
 
-    // Where the first character of the active string was written, and where it is read next where
-    // nothing is active.
+    // Where the first character of the active string was written; if nothing is active, where the input is
+    // read next.
     fn origin(&self) -> Origin
         ensures { result ≡ origin_at self.now.read (first_origin (reverse self.now.runs.items)) }
     {
@@ -385,8 +385,8 @@ impl<A: Allocator + Copy> Watch<A> {
         self.origin_of_argument(value).unwrap_or(self.value)
     }
 
-    // Where the argument was written that is the value of the call that the step performs. None if
-    // its value is no argument.
+    // Where the value of the call that the step performs was written, if it is an argument of the call. None
+    // if it is none.
     fn origin_of_argument(&self, value: &[Cell]) -> Option<Origin> {
         let arguments = self.arguments.as_slice();
         let function = function_named(argument(arguments, 0))?;
@@ -520,8 +520,8 @@ impl<A: Allocator + Copy> Watch<A> {
         Ok(())
     }
 
-    // Whether the call that was performed gives no default value and has a null value: the strings have so
-    // many cells behind it.
+    // Whether the call that was performed gives no default value and has a null value; after it the strings
+    // have `active` and `neutral` cells.
     fn is_null(&self, before: &Before, active: usize, neutral: usize) -> bool
         ensures { result ≡ is_null self.now before.now active neutral }
     {
@@ -552,8 +552,8 @@ impl<A: Allocator + Copy> Watch<A> {
         Ok(())
     }
 
-    // Follows the active string over a step, which put a value there that was written at this
-    // origin.
+    // Follows the active string over a step, which may have put a value there that was written at
+    // `value`.
     fn move_on(
         &mut self,
         before: &Before,
@@ -838,8 +838,8 @@ fn arguments_around(neutral: &[Cell], outer: Option<CallMark>, mark: usize) -> &
     }
 }
 
-// Where each argument behind the name was written, of the innermost call, which has these
-// arguments. `commas` has the places of the arguments of all open calls.
+// Where each argument behind the name of the innermost call was written; `arguments` are the call's cells.
+// `commas` has the places of the arguments of all open calls.
 fn places_of<'c>(commas: &'c [Origin], arguments: &[Cell]) -> &'c [Origin]
     ensures { result.now ≡ places_of commas.now arguments.now }
 {

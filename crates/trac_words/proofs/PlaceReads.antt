@@ -141,7 +141,7 @@ is_other a b e same =
     let yes = (bytes_eq-Decides a b).1 same in
     cc
 
--- the name is not null, nor of those flags, and nothing else has it
+-- the name is not null, it is not that of `--help` or `--version`, and no other rule has it
 owned : (name : Text) (k : ℕ) (rules : List Rule) → is_own_name name k rules ≡ true
     → (name ≡ [] → ⊥) × (name ≡ codes "help" → ⊥) × (name ≡ codes "version" → ⊥) × (only_at name k (map (λ (r : Rule). r.id) rules) ≡ true)
 owned name k rules own =
@@ -314,7 +314,7 @@ module _ (c : Command) (m : ArgMatches) (p : IsParsedFrom c m) (app : App) (is :
       let read = reads (without_minus text.0) text.1 in
       is_read E G 32 low high (without_minus text.0) _ r text.1 read only (signed_reads E G 32 low high text.0 r read only fits text.2)
 
-  -- and of an option of `u64`
+  -- what `get_one` gives of an option of `u64`: the number of its text, in the range
   pub unsigned_read : slice_get app.top.rules k ≡ Some (number_option name (parser.Unsigned low high) default)
       → ((u : Text) (x : Result ℕ E) → G u x → ParsesUnsigned 64 10 u x)
       → IsRead low high (one_text (found_of m) name) r

@@ -25,7 +25,7 @@ number_option name numbers default = record (new_rule name) {
 unfoldable pub cells_option : Rule
 cells_option = number_option (codes "cells") (parser.Signed (pos 1) (pos 16777216)) (codes "65536")
 
--- with this default
+-- the option `--steps N`, with a default
 unfoldable pub steps_option : Text → Rule
 steps_option = number_option (codes "steps") (parser.Unsigned 1 1000000000000)
 
@@ -36,11 +36,11 @@ report_flag = record (new_rule (codes "report")) {
   parser = Some parser.Bool;
 }
 
--- `NAME [--cells N] [--steps N]`, with this default of the steps
+-- the command line `NAME [--cells N] [--steps N]`, with a default of the steps
 unfoldable pub numbers_command : Text → Text → App
 numbers_command name steps = with_rule (with_rule (new_app name) cells_option) (steps_option steps)
 
--- the same, with `[--report]` where it reports
+-- the command line `NAME [--cells N] [--steps N]`, with `[--report]` if the program reports
 unfoldable pub command_of : Text → Text → Bool → App
 command_of name steps true = with_rule (numbers_command name steps) report_flag
 command_of name steps false = numbers_command name steps
@@ -53,11 +53,11 @@ number t = digits_value 10 (without_leading_plus t)
 abbrev pub number_of : Text → List Row → Option ℕ
 number_of name rows = option_map number (one_of name rows)
 
--- the matches give a flag
+-- whether the matches give a flag
 abbrev pub has_flag : Text → List Row → Bool
 has_flag name rows = option_map_or (λ t. bytes_eq t (codes "true")) (one_of name rows) false
 
--- the settings are the values of the matches, of a command that reports or doesn't
+-- the settings `s` are the values of the matches; `reports`: the command has the flag `--report`
 abbrev pub AreValuesOf : Bool → List Row → Settings → Type 0
 AreValuesOf reports rows s = (number_of (codes "cells") rows ≡ Some s.cells)
     × (number_of (codes "steps") rows ≡ Some s.steps)
@@ -70,11 +70,11 @@ given_rows command words =
     let given = argument_words command words in
     (settled rules (walk rules (names_of (built command)) nothing_held given).held).rows
 
--- the words give the option
+-- whether the words give an option
 abbrev pub gives : App → List Text → Text → Bool
 gives command words name = has_row name (given_rows command words)
 
--- what the words don't give is 65536 cells, so many steps and no report
+-- the settings that the words don't give: 65536 cells, `steps` steps and no report
 abbrev pub HasDefaults : App → ℕ → List Text → Settings → Type 0
 HasDefaults command steps words s =
     (gives command words (codes "cells") ≡ false → s.cells ≡ 65536)

@@ -1,8 +1,8 @@
 use Rattle.trac_c.proofs.Imports.{◌≡◌, ◌-◌, ◌≤◌, None, Some, Fate, Goes, stands}
 use Rattle.trac_c.proofs.turn.go_on.Given as goal
 
--- so many steps are done, the run is not over, and no device has failed; where the run was over
--- before, no step is done
+-- `done` steps are done, the run is not over, and no device has failed; where the run was over
+-- before the turn, no step is done
 abbrev pub invariant-loop-done : goal.invariant-loop-done
 invariant-loop-done l =
     record {

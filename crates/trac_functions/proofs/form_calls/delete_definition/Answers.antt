@@ -11,7 +11,7 @@ left old new ts sound all same name =
     let means = λ (meta : ℕ) (input : Input). ap (λ forms. silent (world forms meta input)) all in
     ([], null-value DeleteDefinition (name ∷ ts) old new sound means (λ _. refl) same)
 
--- one name is taken, and the form that it names left
+-- one name was taken, and the form that it names was removed
 leaves : (now new : Contents) (a b : Arguments) → AreArguments now a → a.from ≤ a.end → texts now b ≡ drop 1 (texts now a) → (forms : List Form) → new ≡ record now { forms = forms } → forms ≡ without (argument (texts now a) 0) now.forms → unnamed (texts new b) new.forms ≡ unnamed (texts now a) now.forms
 leaves now new a b are some rest forms is gone =
     ap (λ cells. unnamed (texts_from cells b.from b.end) new.forms) (ap (λ (w : Contents). w.neutral) is)

@@ -1,7 +1,7 @@
 use Rattle.trac_space.proofs.Imports.{◌≡◌, ℕ, ◌+◌, ◌-◌, ◌≤◌, List, length, take, replicate, arith, rules, take-length, places, same_lists, elements, put_mid, Cell, Byte}
 use Rattle.trac_space.proofs.block.blank_by.Goals as goal
 
--- blank cells over those behind blank cells
+-- n more cells are blank, behind `done` blank cells
 more-blank : (was part new : List Cell) (done n : ℕ) → done + n ≤ length was → n ≤ length part → take done was ≡ replicate done (Byte 0) → part ≡ replicate (length part) (Byte 0) → new ≡ take (done + n - done) part → take (done + n) (put_mid done (done + n - done) was new) ≡ replicate (done + n) (Byte 0)
 more-blank was part new done n within few before blank is =
     rw is (same_lists _ _ (search (rules, places)) (λ i d less. grind (arith, elements)))

@@ -1,7 +1,7 @@
 use Rattle.trac_space.proofs.Imports.{◌≡◌, replicate, ◌+◌, ◌*◌, length, Byte}
 use Rattle.trac_space.proofs.block.put_blanks.Given as goal
 
--- what is put so far are blank cells, so many parts of them
+-- what is put so far are blank cells, `_part` parts of them
 abbrev pub invariant-loop-part : goal.invariant-loop-part
 invariant-loop-part l =
     record {

@@ -1,7 +1,7 @@
 use Rattle.trac_space.proofs.Imports.{◌≡◌, ◌≤◌, ◌-◌, take, false, length, ◌==◌, list_any}
 use Rattle.trac_space.proofs.byte_search.count_blocks.Given as goal
 
--- the byte doesn't stand among those so far
+-- `stop` doesn't stand among the bytes so far
 abbrev pub invariant-loop-done : goal.invariant-loop-done
 invariant-loop-done l =
     record {

@@ -1,7 +1,7 @@
 use Rattle.trac_space.proofs.Imports.{◌-◌, ◌<◌, All, drop, take, IsByte}
 use Rattle.trac_space.proofs.copies.are_all_characters.Given as goal
 
--- so many characters stand there
+-- `done` characters stand from `at` on
 abbrev pub invariant-loop-done : goal.invariant-loop-done
 invariant-loop-done l =
     record {

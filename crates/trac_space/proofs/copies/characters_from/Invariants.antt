@@ -2,7 +2,7 @@ use Rattle.trac_space.proofs.Imports.{◌-◌}
 use Rattle.trac_space.proofs.Characters.{AreUpTo}
 use Rattle.trac_space.proofs.copies.characters_from.Given as goal
 
--- so many characters stand there
+-- `count` characters stand from `start` on
 abbrev pub invariant-loop-count : goal.invariant-loop-count
 invariant-loop-count l = AreUpTo l.cells l.start l.most l.count
 

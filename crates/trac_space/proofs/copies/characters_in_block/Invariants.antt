@@ -2,7 +2,7 @@ use Rattle.trac_space.proofs.Imports.{◌-◌}
 use Rattle.trac_space.proofs.Characters.{AreUpTo}
 use Rattle.trac_space.proofs.copies.characters_in_block.Given as goal
 
--- so many characters begin the block
+-- `count` characters begin the block of eight cells at `at`
 abbrev pub invariant-loop-count : goal.invariant-loop-count
 invariant-loop-count l = AreUpTo l.cells l.at 8 l.count
 

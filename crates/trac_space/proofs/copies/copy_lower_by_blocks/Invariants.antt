@@ -1,7 +1,7 @@
 use Rattle.trac_space.proofs.Imports.{◌≡◌, ◌-◌, ◌<◌, drop, paste}
 use Rattle.trac_space.proofs.copies.copy_lower_by_blocks.Given as goal
 
--- so many cells are at their place
+-- `done` cells are at their place
 abbrev pub invariant-loop-done : goal.invariant-loop-done
 invariant-loop-done l =
     record {

@@ -1,7 +1,7 @@
 use Rattle.trac_space.proofs.Imports.{◌-◌, ◌≡◌, ◌≤◌, All, drop, take, paste, NoComma, IsInRun, turned}
 use Rattle.trac_space.proofs.copies.copy_turned.Given as goal
 
--- so many characters are at their place, and no comma mark stands behind the last
+-- `count` characters are at their place, and no comma mark stands among them from `last` on
 abbrev pub invariant-loop-count : goal.invariant-loop-count
 invariant-loop-count l =
     record {

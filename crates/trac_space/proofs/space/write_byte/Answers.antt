@@ -1,7 +1,7 @@
 use Rattle.trac_space.proofs.Imports.{◌≡◌, ℕ, ◌+◌, ◌<◌, List, [], ◌∷◌, ◌++◌, length, take, drop, set, get_or, ◌∙◌, arith, drop_more, take_more, map-append, set_at, append_assoc, length-map, length-take-le, Cell, Byte, bytes, written_up_to}
 use Rattle.trac_space.proofs.space.write_byte.Goals as goal
 
--- one byte more is written
+-- one byte more of a text is written
 written-more : (text : List ℕ) (was now : List Cell) (i : ℕ) → length was ≡ length text → i < length text → now ≡ written_up_to i text was → set now i (Byte (get_or text i 0)) ≡ bytes (take (i + 1) text) ++ drop (i + 1) was
 written-more text was now i same within is =
     let cell = Byte (get_or text i 0) in

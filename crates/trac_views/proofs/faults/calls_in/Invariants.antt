@@ -3,7 +3,7 @@ use Rattle.std.specs.Prelude.{count_by}
 use Rattle.trac_space.specs.Cells.{is_call}
 use Rattle.trac_views.proofs.faults.calls_in.Given as goal
 
--- the marks among the cells so far, which are no more than these
+-- `count` is how many call marks are among the cells so far
 abbrev pub invariant-loop-cell : goal.invariant-loop-cell
 invariant-loop-cell l =
     record {

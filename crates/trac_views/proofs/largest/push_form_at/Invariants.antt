@@ -2,7 +2,7 @@ use Rattle.std.proofs.Common.{◌≡◌}
 use Rattle.trac_views.specs.Largest.{form_at_text}
 use Rattle.trac_views.proofs.largest.push_form_at.Given as goal
 
--- nothing is told yet, and the form is among those that are left
+-- no line was added yet, and the form is among the forms that are left
 abbrev pub invariant-loop-form : goal.invariant-loop-form
 invariant-loop-form l =
     record {

@@ -3,7 +3,7 @@ use Rattle.std.specs.Prelude.{reverse}
 use Rattle.trac_warnings.specs.Origins.{taken}
 use Rattle.trac_warnings.proofs.trail.take_run.Given as goal
 
--- what is left to take from the runs that are left gives what is wanted
+-- the runs that are left, without the characters that are left to take, are the runs that are wanted
 abbrev pub invariant-loop : goal.invariant-loop
 invariant-loop g l =
     record {

@@ -45,7 +45,7 @@ cells c =
     signed_read c.in_ok-command.command c.in_ok-matches.matches c.in_ok-matches.ensures.parsed _ c.in_ok-command.ensures says.plain 0 (codes "cells") (codes "65536") 1 16777216
     says.cells_own _ (λ bs x. ParsesUnsigned 32 10 bs x × ExplainsUnsignedError 10 bs x × HasUnsignedDigitsIfOk bs x) c.get_one.result c.get_one.ensures.value says.cells_at (λ u x g. g.0) (omega arith)
 
--- and of `--steps`
+-- what `get_one` gives of `--steps`: the number of its text, in the range
 steps : (c : After-get_one-2) → IsRead 1 1000000000000 (one_text (found_of c.in_ok-matches.matches) (codes "steps")) c.get_one-2.result
 unfolding steps_option
 steps c =
@@ -53,7 +53,7 @@ steps c =
     unsigned_read c.in_ok-command.command c.in_ok-matches.matches c.in_ok-matches.ensures.parsed _ c.in_ok-command.ensures says.plain 1 (codes "steps") c.args.default_steps.now 1 1000000000000
     says.steps_own _ (λ bs x. ParsesUnsigned 64 10 bs x × ExplainsUnsignedError 10 bs x × HasUnsignedDigitsIfOk bs x) c.get_one-2.result c.get_one-2.ensures.value says.steps_at (λ u x g. g.0)
 
--- and what `get_flag` gives of `--report`, where the command has that flag
+-- what `get_flag` gives of `--report`, if the command has that flag
 report : (c : After-has_report-report)
     → (c.args.reports && option_map_or (λ t. bytes_eq t (codes "true")) (one_text (found_of c.in_ok-matches.matches) (codes "report")) false) ≡ c.has_report-report.result
 unfolding report_flag

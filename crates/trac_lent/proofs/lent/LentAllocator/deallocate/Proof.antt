@@ -1,4 +1,4 @@
--- It does nothing.
+-- Freeing lent memory does nothing.
 use Rattle.std.proofs.Common.{refl, lit<, w64}
 use Rattle.std.specs.Prelude.{ℕ, ◌^◌, ◌<◌, T, List, [], ◌∷◌}
 use seplogic.Ra.Ura.{Ura}

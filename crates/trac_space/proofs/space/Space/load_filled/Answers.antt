@@ -36,7 +36,7 @@ more c =
     let s = c.self.inside in
     filled (map under (slice_range s.cells.now (s.store + c.args.first) (s.store + c.args.first + (c.args.end - c.args.first)))) (slice_range s.cells.now c.args.a c.args.b)
 
--- and as it is seen
+-- what is put, as contracts see it
 is_seen : (c : After-fill_cells) → map seen (slice_range c.self.inside.cells.now (c.self.inside.store + c.args.first) (c.self.inside.store + c.args.end)) ≡ slice_range c.args.self.now.neutral c.args.first c.args.end → map seen (more c) ≡ filled (map under (slice_range c.args.self.now.neutral c.args.first c.args.end)) (slice_range c.args.self.now.store c.args.a c.args.b)
 is_seen c shown_given =
     let s = c.self.inside in

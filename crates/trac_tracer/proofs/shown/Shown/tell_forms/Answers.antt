@@ -5,7 +5,7 @@ use Rattle.trac_views.specs.Told.{form_line, meta_text}
 use Rattle.trac_views.proofs.Texts.{on_ok}
 use Rattle.trac_tracer.proofs.shown.Shown.tell_forms.Goals as goal
 
--- two texts behind a first one, where they are asked for
+-- two texts stand behind a first one, if they are asked for
 asked : (forms : Bool) (old one new a b : List ℕ) → forms ≡ true → one ≡ old ++ a → new ≡ one ++ b → new ≡ old ++ (if forms then a ++ b else [])
 asked true old one new a b on first last = last ∙ ap (λ (x : List ℕ). x ++ b) first ∙ append_assoc old a b
 asked false old one new a b on first last = absurd cc
