@@ -2,9 +2,11 @@
 //! it and that a caller needs has its name here too.
 #![tactic(auto)]
 
+mod attempt;
 mod call;
 mod delivery;
 mod display;
+mod idling;
 mod input_output;
 mod machine;
 mod rules;

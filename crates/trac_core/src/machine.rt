@@ -14,10 +14,10 @@ ghost use Rattle.trac_forms.specs.Contents.{IsSound};
 ghost use Rattle.trac_functions.specs.Calls.{KeepsRoom};
 ghost use Rattle.trac_functions.specs.Flat.{memory_of};
 
+use crate::attempt::Attempt;
 use crate::call::perform_pending;
-use crate::scan::{
-    Attempt, IDLING_STEPS, Pending, begin_idling, may_begin_idling, scan_once, scan_steps,
-};
+use crate::idling::{IDLING_STEPS, begin_idling, may_begin_idling};
+use crate::scan::{Pending, scan_once, scan_steps};
 use std::marker::Model;
 use trac_devices::{Sink, Source};
 use trac_forms::Work;

@@ -1,15 +1,12 @@
 //! The scanner: the rules that perform no call.
-ghost use Rattle.std.specs.Prelude.{◌≡◌, ◌+◌, ◌<◌, ◌≤◌, [], ℕ, length};
+ghost use Rattle.std.specs.Prelude.{◌≡◌, ◌+◌, ◌<◌, ◌≤◌, ℕ, length};
 ghost use Rattle.std.specs.Prelude.{take, drop, slice_get, IsTrue, ◌↔◌, None, Some, All};
 ghost use Rattle.std.specs.Prelude.{MatchOption};
 ghost use Rattle.trac_space.specs.Texts.{text_of_cells, IsByte};
 ghost use Rattle.trac_forms.specs.Contents.{used, IsSound};
-ghost use Rattle.trac_core.specs.Attempts.{Scans, Scanned, NoneFailed};
+ghost use Rattle.trac_core.specs.Attempts.{Scans};
 ghost use Rattle.trac_core.specs.StepsInRow.{IsOrdinary, IsLayout, Advances, SomeSteps};
 ghost use Rattle.trac_core.specs.StepsInRow.{ComesTo, AsksFor, IsPlainFrom, KeepsPlain, kind_of};
-ghost use Rattle.trac_core.specs.StepsInRow.{idling_begun, idling_loaded};
-ghost use Rattle.std.specs.Bool.{OnTrue, OnFalse};
-ghost use Rattle.trac_language.specs.Store.{cells};
 ghost use Rattle.trac_core.specs.Rules.{Begins, Opens};
 ghost use Rattle.trac_space.specs.Calls.{IsLastCall};
 ghost use Rattle.trac_functions.specs.Calls.{KeepsRoom};
@@ -18,38 +15,12 @@ use crate::machine::closing::closed_call;
 use crate::rules::{ScanningRule, rule_of};
 use crate::runs::{KINDS, layout_characters, matching, ordinary_characters};
 use trac_forms::Work;
-use trac_language::{Fate, Mode};
+use trac_language::Mode;
 use trac_space::{Cell, byte_in};
-
-/// The idling procedure, which reads and scans a string and
-/// prints what is left of it (Mooers 1966).
-const IDLING: &[u8; 11] = b"#(ps,#(rs))";
-
-/// What the neutral string holds behind those steps of the idling procedure which come before its two
-/// right parentheses.
-const BEGUN: &[Cell] = &[
-    Cell::Call(Mode::Active, 0),
-    Cell::Byte(b'p'),
-    Cell::Byte(b's'),
-    Cell::Comma,
-    Cell::Call(Mode::Active, 0),
-    Cell::Byte(b'r'),
-    Cell::Byte(b's'),
-];
-
-/// How many steps `begin_idling` makes.
-pub(crate) const IDLING_STEPS: u64 = 8;
 
 // Up to this many characters of a run in a call are moved as they are looked at; a longer run is long.
 // Up to twelve, the compiler makes code without a loop.
 const FEW: u64 = 12;
-
-/// What the try of a step came to, and the cells that it needed.
-#[derive(Clone, Copy, Debug, PartialEq, Eq)]
-pub(crate) struct Attempt {
-    pub(crate) fate: Option<Fate>,
-    pub(crate) need: u32,
-}
 
 /// The cells of the active string.
 #[inline(always)]
@@ -333,68 +304,6 @@ fn after_first<'a>(work: &'a Work, most: u64) -> &'a [Cell]
 {
     let all = work.active_len();
     work.active_part(1, most.min(u64::from(all)) as u32)
-}
-
-/// The active string is empty: the neutral string is cleared,
-/// and the idling procedure becomes the active string.
-pub(crate) fn load_idling(work: &mut Work) -> Attempt
-    requires { work.old.active ≡ [] }
-    ensures scanned { Scanned result.fate result.need work.old work.new }
-    ensures fate { NoneFailed result.fate }
-    ensures forms { work.new.forms ≡ work.old.forms }
-    ensures fits { result.need ≤ work.old.room }
-    ensures keeps { KeepsRoom work.old work.new }
-{
-    if load_procedure(work) {
-        Attempt {
-            fate: None,
-            need: work.used(),
-        }
-    } else {
-        Attempt {
-            fate: Some(Fate::Workspace),
-            need: 0,
-        }
-    }
-}
-
-/// The neutral string is cleared, and the idling procedure becomes the active string, which is empty,
-/// if there are cells for it.
-#[inline(always)]
-fn load_procedure(work: &mut Work) -> bool
-    requires { work.old.active ≡ [] }
-    ensures loaded { IsTrue result ↔ (cells work.old.forms + 11 ≤ work.old.room) }
-    ensures procedure { OnTrue result (work.new ≡ idling_loaded work.old) }
-    ensures full { OnFalse result (work.new ≡ record work.old { neutral = [] }) }
-    ensures keeps { KeepsRoom work.old work.new }
-{
-    work.clear_neutral();
-    work.load_active(IDLING)
-}
-
-/// Whether `most` steps and the room are enough for `begin_idling`. The active string is empty.
-#[inline(always)]
-pub(crate) fn may_begin_idling(work: &Work, most: u64) -> bool
-    requires { work.now.active ≡ [] }
-    ensures { IsTrue result ↔ (8 ≤ most) × (cells work.now.forms + 11 ≤ work.now.room) }
-{
-    most >= IDLING_STEPS && work.free() + work.neutral_len() >= 11
-}
-
-/// The active string is empty. Makes eight steps: the idling procedure is loaded, and its two calls
-/// are opened and their names scanned. Gives the cells that the first of these steps needs; the others
-/// need no more.
-#[inline(never)]
-pub(crate) fn begin_idling(work: &mut Work) -> u32
-    requires empty { work.old.active ≡ [] }
-    requires room { cells work.old.forms + 11 ≤ work.old.room }
-    ensures begun { work.new ≡ idling_begun work.old }
-    ensures need { result ≡ cells work.old.forms + 11 }
-    ensures keeps { KeepsRoom work.old work.new }
-{
-    work.set_strings(BEGUN, b"))");
-    // Each of the two call marks stands for two characters.
-    work.used() + 2
 }
 
 /// The text between a left parenthesis and its match is added unscanned; where there is no match

@@ -9,7 +9,8 @@ ghost use Rattle.trac_core.specs.Session.{next_function};
 
 use super::{Counters, Machine, ended};
 use crate::call::perform_pending_alone;
-use crate::scan::{IDLING_STEPS, Pending, begin_idling, may_begin_idling, scan_steps};
+use crate::idling::{IDLING_STEPS, begin_idling, may_begin_idling};
+use crate::scan::{Pending, scan_steps};
 use trac_forms::Work;
 use trac_language::{Fate, Function, Report};
 
