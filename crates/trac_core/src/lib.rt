@@ -10,6 +10,7 @@ mod idling;
 mod input_output;
 mod machine;
 mod rules;
+mod run_hints;
 mod runs;
 mod scan;
 mod streaming;

@@ -17,6 +17,7 @@ ghost use Rattle.trac_functions.specs.Flat.{memory_of};
 use crate::attempt::Attempt;
 use crate::call::perform_pending;
 use crate::idling::{IDLING_STEPS, begin_idling, may_begin_idling};
+use crate::run_hints::RunHints;
 use crate::scan::{Pending, scan_once, scan_steps};
 use std::marker::Model;
 use trac_devices::{Sink, Source};
@@ -352,10 +353,9 @@ fn run_to_end<I: Source, O: Sink>(
     let mut peak = at.peak;
     // The cells of the first step since a call: those that perform none need no more than it does.
     let mut need = work.used();
-    let mut plain = work.neutral_len();
-    let mut long = 0;
+    let mut hints = RunHints::new(work.neutral_len());
     while left > 0 {
-        match scan_steps(work, left, &mut plain, &mut long) {
+        match scan_steps(work, left, &mut hints) {
             Ok(done) => {
                 left -= done;
                 peak = peak.max(need);
@@ -364,8 +364,7 @@ fn run_to_end<I: Source, O: Sink>(
                 peak = peak.max(begin_idling(work));
                 left -= IDLING_STEPS;
                 need = work.used();
-                plain = work.neutral_len();
-                long = 0;
+                hints = RunHints::new(work.neutral_len());
             }
             Err(pending) => {
                 let last = perform_pending(work, pending, meta, source, sink);
@@ -375,8 +374,7 @@ fn run_to_end<I: Source, O: Sink>(
                 left -= 1;
                 peak = peak.max(last.need);
                 need = work.used();
-                plain = work.neutral_len();
-                long = 0;
+                hints = RunHints::new(work.neutral_len());
             }
         }
     }
