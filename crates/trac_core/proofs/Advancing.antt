@@ -8,7 +8,7 @@ use Rattle.trac_core.proofs.Moments.{one_passed, goes_on-passes, peak_after-same
 use Rattle.trac_core.proofs.StepsInRow.{peak-some, tried-scanned}
 use Rattle.trac_core.proofs.Scanning.{scans-idling}
 use Rattle.trac_core.specs.StepsInRow.{idling_begun, idling_loaded}
-use Rattle.trac_core.proofs.Idling.{idling-advances, idling-sound}
+use Rattle.trac_core.proofs.IdlingSteps.{idling-advances, idling-sound}
 use Rattle.trac_core.proofs.RunningOn.{IsNeed}
 
 -- the counters after so many steps, with this peak

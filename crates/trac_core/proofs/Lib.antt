@@ -20,5 +20,5 @@ pub mod PlainEnds
 pub mod OrdinaryBlocks
 pub mod ArgumentRuns
 pub mod OpenCalls
-pub mod Idling
+pub mod IdlingSteps
 mod Imports

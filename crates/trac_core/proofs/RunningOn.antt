@@ -7,7 +7,7 @@ use Rattle.trac_core.proofs.Reported.{reported, left-behind, report_of, course_t
 use Rattle.trac_core.proofs.StepsInRow.{passes-smaller, peak-some, tried-scanned}
 use Rattle.trac_core.proofs.Scanning.{scans-idling}
 use Rattle.trac_core.specs.StepsInRow.{idling_begun, idling_loaded}
-use Rattle.trac_core.proofs.Idling.{idling-advances, idling-sound}
+use Rattle.trac_core.proofs.IdlingSteps.{idling-advances, idling-sound}
 
 -- the counters where so many steps are left
 abbrev pub with_left : (allowance left peak : ℕ) → Counters

@@ -18,10 +18,12 @@ ghost use Rattle.trac_devices.specs.Devices.{Stream};
 ghost use Rattle.trac_core.specs.StepsInRow.{AsksFor, IsPlainFrom};
 ghost use Rattle.trac_functions.specs.Calls.{KeepsRoom};
 
+use crate::attempt::Attempt;
 use crate::delivery::{finish_call, is_active_call};
 use crate::display::print_form;
+use crate::idling::load_idling;
 use crate::input_output::{change_meta, print_string, read_character, read_string};
-use crate::scan::{Attempt, InnermostCall, Pending, load_idling};
+use crate::scan::{InnermostCall, Pending};
 use trac_devices::{Sink, Source};
 use trac_forms::Work;
 use trac_functions::arguments::{Arguments, CallResult};

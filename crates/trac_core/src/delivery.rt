@@ -8,7 +8,7 @@ ghost use Rattle.trac_core.specs.Attempts.{value_delivered, settled, fate_after,
 ghost use Rattle.trac_core.specs.Attempts.{Stands};
 ghost use Rattle.trac_functions.specs.Calls.{KeepsRoom};
 
-use crate::scan::Attempt;
+use crate::attempt::Attempt;
 use trac_forms::Work;
 use trac_functions::arguments::CallResult;
 use trac_language::{Fate, Mode};

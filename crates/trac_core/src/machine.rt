@@ -14,10 +14,11 @@ ghost use Rattle.trac_forms.specs.Contents.{IsSound};
 ghost use Rattle.trac_functions.specs.Calls.{KeepsRoom};
 ghost use Rattle.trac_functions.specs.Flat.{memory_of};
 
+use crate::attempt::Attempt;
 use crate::call::perform_pending;
-use crate::scan::{
-    Attempt, IDLING_STEPS, Pending, begin_idling, may_begin_idling, scan_once, scan_steps,
-};
+use crate::idling::{IDLING_STEPS, begin_idling, may_begin_idling};
+use crate::run_hints::RunHints;
+use crate::scan::{Pending, scan_once, scan_steps};
 use std::marker::Model;
 use trac_devices::{Sink, Source};
 use trac_forms::Work;
@@ -32,7 +33,7 @@ pub(crate) mod session;
 pub(crate) mod view;
 
 pub use advancing::Progress;
-pub use open_calls::{CallMark, OpenCall};
+pub use open_calls::{CallMark, NextCall, OpenCall};
 pub use session::Awaits;
 
 /// A processor over a lent block of cells, with an allowance of steps. It takes no other memory.
@@ -352,10 +353,9 @@ fn run_to_end<I: Source, O: Sink>(
     let mut peak = at.peak;
     // The cells of the first step since a call: those that perform none need no more than it does.
     let mut need = work.used();
-    let mut plain = work.neutral_len();
-    let mut long = 0;
+    let mut hints = RunHints::new(work.neutral_len());
     while left > 0 {
-        match scan_steps(work, left, &mut plain, &mut long) {
+        match scan_steps(work, left, &mut hints) {
             Ok(done) => {
                 left -= done;
                 peak = peak.max(need);
@@ -364,8 +364,7 @@ fn run_to_end<I: Source, O: Sink>(
                 peak = peak.max(begin_idling(work));
                 left -= IDLING_STEPS;
                 need = work.used();
-                plain = work.neutral_len();
-                long = 0;
+                hints = RunHints::new(work.neutral_len());
             }
             Err(pending) => {
                 let last = perform_pending(work, pending, meta, source, sink);
@@ -375,8 +374,7 @@ fn run_to_end<I: Source, O: Sink>(
                 left -= 1;
                 peak = peak.max(last.need);
                 need = work.used();
-                plain = work.neutral_len();
-                long = 0;
+                hints = RunHints::new(work.neutral_len());
             }
         }
     }

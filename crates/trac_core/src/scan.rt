@@ -1,55 +1,27 @@
 //! The scanner: the rules that perform no call.
-ghost use Rattle.std.specs.Prelude.{◌≡◌, ◌+◌, ◌<◌, ◌≤◌, [], ℕ, length};
+ghost use Rattle.std.specs.Prelude.{◌≡◌, ◌+◌, ◌<◌, ◌≤◌, ℕ, length};
 ghost use Rattle.std.specs.Prelude.{take, drop, slice_get, IsTrue, ◌↔◌, None, Some, All};
 ghost use Rattle.std.specs.Prelude.{MatchOption};
 ghost use Rattle.trac_space.specs.Texts.{text_of_cells, IsByte};
 ghost use Rattle.trac_forms.specs.Contents.{used, IsSound};
-ghost use Rattle.trac_core.specs.Attempts.{Scans, Scanned, NoneFailed};
+ghost use Rattle.trac_core.specs.Attempts.{Scans};
 ghost use Rattle.trac_core.specs.StepsInRow.{IsOrdinary, IsLayout, Advances, SomeSteps};
 ghost use Rattle.trac_core.specs.StepsInRow.{ComesTo, AsksFor, IsPlainFrom, KeepsPlain, kind_of};
-ghost use Rattle.trac_core.specs.StepsInRow.{idling_begun, idling_loaded};
-ghost use Rattle.std.specs.Bool.{OnTrue, OnFalse};
-ghost use Rattle.trac_language.specs.Store.{cells};
 ghost use Rattle.trac_core.specs.Rules.{Begins, Opens};
 ghost use Rattle.trac_space.specs.Calls.{IsLastCall};
 ghost use Rattle.trac_functions.specs.Calls.{KeepsRoom};
 
 use crate::machine::closing::closed_call;
 use crate::rules::{ScanningRule, rule_of};
+use crate::run_hints::RunHints;
 use crate::runs::{KINDS, layout_characters, matching, ordinary_characters};
 use trac_forms::Work;
-use trac_language::{Fate, Mode};
+use trac_language::Mode;
 use trac_space::{Cell, byte_in};
-
-/// The idling procedure, which reads and scans a string and
-/// prints what is left of it (Mooers 1966).
-const IDLING: &[u8; 11] = b"#(ps,#(rs))";
-
-/// What the neutral string holds behind those steps of the idling procedure which come before its two
-/// right parentheses.
-const BEGUN: &[Cell] = &[
-    Cell::Call(Mode::Active, 0),
-    Cell::Byte(b'p'),
-    Cell::Byte(b's'),
-    Cell::Comma,
-    Cell::Call(Mode::Active, 0),
-    Cell::Byte(b'r'),
-    Cell::Byte(b's'),
-];
-
-/// How many steps `begin_idling` makes.
-pub(crate) const IDLING_STEPS: u64 = 8;
 
 // Up to this many characters of a run in a call are moved as they are looked at; a longer run is long.
 // Up to twelve, the compiler makes code without a loop.
 const FEW: u64 = 12;
-
-/// What the try of a step came to, and the cells that it needed.
-#[derive(Clone, Copy, Debug, PartialEq, Eq)]
-pub(crate) struct Attempt {
-    pub(crate) fate: Option<Fate>,
-    pub(crate) need: u32,
-}
 
 /// The cells of the active string.
 #[inline(always)]
@@ -105,9 +77,7 @@ pub(crate) fn scan_once(work: &mut Work, plain: u32) -> Option<Pending>
     if let Some(place) = closed_call(work) {
         return Some(Pending::EndOfCall(InnermostCall { place, plain }));
     }
-    let mut plain = plain;
-    let mut long = 0;
-    match scan_steps(work, 1, &mut plain, &mut long) {
+    match scan_steps(work, 1, &mut RunHints::new(plain)) {
         Ok(_) => None,
         Err(pending) => Some(pending),
     }
@@ -115,20 +85,14 @@ pub(crate) fn scan_once(work: &mut Work, plain: u32) -> Option<Pending>
 
 /// Makes the steps of the rule that fits the beginning of the active string, at most `most`: a whole
 /// run of ordinary characters, in a call with the commas between them, or of layout characters, or
-/// one step of another rule that performs no call. From `plain` on no comma mark stands in the
-/// neutral string; `long` counts the long runs that followed one another before.
+/// one step of another rule that performs no call.
 #[inline(always)]
-pub(crate) fn scan_steps(
-    work: &mut Work,
-    most: u64,
-    plain: &mut u32,
-    long: &mut u32,
-) -> Result<u64, Pending>
+pub(crate) fn scan_steps(work: &mut Work, most: u64, hints: &mut RunHints) -> Result<u64, Pending>
     requires some { 0 < most }
-    requires plain { IsPlainFrom plain.old work.old.neutral }
+    requires plain { IsPlainFrom hints.old.plain_from work.old.neutral }
     requires sound { IsSound work.old }
     ensures comes { ComesTo result most work.old work.new }
-    ensures plain { IsPlainFrom plain.new work.new.neutral }
+    ensures plain { IsPlainFrom hints.new.plain_from work.new.neutral }
     ensures keeps { KeepsRoom work.old work.new }
 {
     match next_rule(work) {
@@ -138,19 +102,15 @@ pub(crate) fn scan_steps(
             protect(work);
             Ok(1)
         }
-        ScanningRule::Argument => Ok(begin_argument(work, most, plain, *long > 1)),
-        ScanningRule::ActiveCall => {
-            Ok(begin_call(work, 2, Mode::Active, most, plain, *long > 1))
-        }
-        ScanningRule::NeutralCall => {
-            Ok(begin_call(work, 3, Mode::Neutral, most, plain, *long > 1))
-        }
+        ScanningRule::Argument => Ok(begin_argument(work, most, hints)),
+        ScanningRule::ActiveCall => Ok(begin_call(work, 2, Mode::Active, most, hints)),
+        ScanningRule::NeutralCall => Ok(begin_call(work, 3, Mode::Neutral, most, hints)),
         ScanningRule::NumberSign => {
             add_number_sign(work);
             Ok(1)
         }
-        ScanningRule::EndOfCall => end_call(work, *plain),
-        ScanningRule::Character => Ok(add_characters(work, most, plain, long)),
+        ScanningRule::EndOfCall => end_call(work, hints.plain_from),
+        ScanningRule::Character => Ok(add_characters(work, most, hints)),
     }
 }
 
@@ -187,99 +147,99 @@ fn end_call(work: &mut Work, plain: u32) -> Result<u64, Pending>
 /// commas between them too. A run that follows two long ones, or stands in no call, is looked at
 /// before it is moved; a run with commas is not long. Gives how many steps these are.
 #[inline]
-fn add_characters(work: &mut Work, most: u64, plain: &mut u32, long: &mut u32) -> u64
+fn add_characters(work: &mut Work, most: u64, hints: &mut RunHints) -> u64
     requires some { 0 < most }
     requires first { (c : ℕ) ×
         ((slice_get (text_of_cells work.old.active) 0 ≡ Some c) × IsOrdinary c) }
-    requires plain { IsPlainFrom plain.old work.old.neutral }
+    requires plain { IsPlainFrom hints.old.plain_from work.old.neutral }
     requires sound { IsSound work.old }
     ensures passes { SomeSteps result most work.old work.new }
-    ensures plain { IsPlainFrom plain.new work.new.neutral }
+    ensures plain { IsPlainFrom hints.new.plain_from work.new.neutral }
     ensures keeps { KeepsRoom work.old work.new }
 {
-    let before = *plain;
-    let count = if *long > 1 || work.last_call().is_none() {
+    let before = hints.plain_from;
+    let count = if hints.long_runs_follow() || work.last_call().is_none() {
         add_long_run(work, most)
     } else {
-        add_run(work, most, plain)
+        add_run(work, most, hints)
     };
-    *long = if count >= FEW && *plain == before {
-        long.saturating_add(1)
-    } else {
-        0
-    };
+    let is_long = count >= FEW && hints.plain_from == before;
+    hints.count_run(is_long);
     count
 }
 
 /// A comma is deleted. Where a call is open, a new argument of the innermost begins, and what
 /// follows is added as by `add_characters`, unless long runs are. Gives how many steps they were.
 #[inline]
-fn begin_argument(work: &mut Work, most: u64, plain: &mut u32, long: bool) -> u64
+fn begin_argument(work: &mut Work, most: u64, hints: &mut RunHints) -> u64
     requires some { 0 < most }
     requires first { slice_get (text_of_cells work.old.active) 0 ≡ Some 44 }
-    requires plain { IsPlainFrom plain.old work.old.neutral }
+    requires plain { IsPlainFrom hints.old.plain_from work.old.neutral }
     requires sound { IsSound work.old }
     ensures passes { SomeSteps result most work.old work.new }
-    ensures plain { IsPlainFrom plain.new work.new.neutral }
+    ensures plain { IsPlainFrom hints.new.plain_from work.new.neutral }
+    ensures runs { hints.new.long_runs ≡ hints.old.long_runs }
     ensures keeps { KeepsRoom work.old work.new }
 {
     if work.last_call().is_none() {
         work.drop_active(1);
         return 1;
     }
-    if long {
+    if hints.long_runs_follow() {
         work.active_to_cell(1, Cell::Comma);
-        *plain = work.neutral_len();
+        hints.plain_from = work.neutral_len();
         return 1;
     }
-    add_run(work, most, plain)
+    add_run(work, most, hints)
 }
 
 /// Adds the ordinary characters and the commas at the front of the active string where a call is
 /// open, at most `most` and at most `FEW`. Gives how many steps these are: 0 where another character
 /// stands there.
 #[inline(always)]
-fn add_run(work: &mut Work, most: u64, plain: &mut u32) -> u64
+fn add_run(work: &mut Work, most: u64, hints: &mut RunHints) -> u64
     requires opened { (place : ℕ) × IsLastCall work.old.neutral place }
-    requires plain { IsPlainFrom plain.old work.old.neutral }
+    requires plain { IsPlainFrom hints.old.plain_from work.old.neutral }
     requires sound { IsSound work.old }
     ensures passes { Advances result work.old work.new }
     ensures few { result ≤ most }
     ensures some { (c : ℕ) → slice_get (text_of_cells work.old.active) 0 ≡ Some c →
         kind_of c ≤ 1 → 0 < most → 0 < result }
     ensures shorter { length work.new.active + result ≡ length work.old.active }
-    ensures plain { IsPlainFrom plain.new work.new.neutral }
+    ensures plain { IsPlainFrom hints.new.plain_from work.new.neutral }
+    ensures runs { hints.new.long_runs ≡ hints.old.long_runs }
     ensures keeps { KeepsRoom work.old work.new }
 {
     let reach = most.min(u64::from(work.active_len()));
     // A number that is known makes a shorter loop.
     if reach >= FEW {
-        add_run_within(work, FEW as u32, plain)
+        add_run_within(work, FEW as u32, hints)
     } else {
-        add_run_within(work, reach as u32, plain)
+        add_run_within(work, reach as u32, hints)
     }
 }
 
 /// Adds the ordinary characters and the commas among the first `reach` characters of the active
 /// string, up to the first other one, where a call is open. Gives how many steps these are.
 #[inline]
-fn add_run_within(work: &mut Work, reach: u32, plain: &mut u32) -> u64
+fn add_run_within(work: &mut Work, reach: u32, hints: &mut RunHints) -> u64
     requires opened { (place : ℕ) × IsLastCall work.old.neutral place }
     requires within { reach ≤ length work.old.active }
-    requires plain { IsPlainFrom plain.old work.old.neutral }
+    requires plain { IsPlainFrom hints.old.plain_from work.old.neutral }
     requires sound { IsSound work.old }
     ensures passes { Advances result work.old work.new }
     ensures few { result ≤ reach }
     ensures some { (c : ℕ) → slice_get (text_of_cells work.old.active) 0 ≡ Some c →
         kind_of c ≤ 1 → 0 < reach → 0 < result }
     ensures shorter { length work.new.active + result ≡ length work.old.active }
-    ensures plain { IsPlainFrom plain.new work.new.neutral }
+    ensures plain { IsPlainFrom hints.new.plain_from work.new.neutral }
+    ensures runs { hints.new.long_runs ≡ hints.old.long_runs }
     ensures keeps { KeepsRoom work.old work.new }
 {
     let before = work.neutral_len();
     let (count, last) = work.run_to_neutral(reach, KINDS);
     if last > 0 {
-        *plain = before + last;
+        hints.plain_from = before + last;
     }
     u64::from(count)
 }
@@ -335,68 +295,6 @@ fn after_first<'a>(work: &'a Work, most: u64) -> &'a [Cell]
     work.active_part(1, most.min(u64::from(all)) as u32)
 }
 
-/// The active string is empty: the neutral string is cleared,
-/// and the idling procedure becomes the active string.
-pub(crate) fn load_idling(work: &mut Work) -> Attempt
-    requires { work.old.active ≡ [] }
-    ensures scanned { Scanned result.fate result.need work.old work.new }
-    ensures fate { NoneFailed result.fate }
-    ensures forms { work.new.forms ≡ work.old.forms }
-    ensures fits { result.need ≤ work.old.room }
-    ensures keeps { KeepsRoom work.old work.new }
-{
-    if load_procedure(work) {
-        Attempt {
-            fate: None,
-            need: work.used(),
-        }
-    } else {
-        Attempt {
-            fate: Some(Fate::Workspace),
-            need: 0,
-        }
-    }
-}
-
-/// The neutral string is cleared, and the idling procedure becomes the active string, which is empty,
-/// if there are cells for it.
-#[inline(always)]
-fn load_procedure(work: &mut Work) -> bool
-    requires { work.old.active ≡ [] }
-    ensures loaded { IsTrue result ↔ (cells work.old.forms + 11 ≤ work.old.room) }
-    ensures procedure { OnTrue result (work.new ≡ idling_loaded work.old) }
-    ensures full { OnFalse result (work.new ≡ record work.old { neutral = [] }) }
-    ensures keeps { KeepsRoom work.old work.new }
-{
-    work.clear_neutral();
-    work.load_active(IDLING)
-}
-
-/// Whether `most` steps and the room are enough for `begin_idling`. The active string is empty.
-#[inline(always)]
-pub(crate) fn may_begin_idling(work: &Work, most: u64) -> bool
-    requires { work.now.active ≡ [] }
-    ensures { IsTrue result ↔ (8 ≤ most) × (cells work.now.forms + 11 ≤ work.now.room) }
-{
-    most >= IDLING_STEPS && work.free() + work.neutral_len() >= 11
-}
-
-/// The active string is empty. Makes eight steps: the idling procedure is loaded, and its two calls
-/// are opened and their names scanned. Gives the cells that the first of these steps needs; the others
-/// need no more.
-#[inline(never)]
-pub(crate) fn begin_idling(work: &mut Work) -> u32
-    requires empty { work.old.active ≡ [] }
-    requires room { cells work.old.forms + 11 ≤ work.old.room }
-    ensures begun { work.new ≡ idling_begun work.old }
-    ensures need { result ≡ cells work.old.forms + 11 }
-    ensures keeps { KeepsRoom work.old work.new }
-{
-    work.set_strings(BEGUN, b"))");
-    // Each of the two call marks stands for two characters.
-    work.used() + 2
-}
-
 /// The text between a left parenthesis and its match is added unscanned; where there is no match
 /// the active string becomes empty (this processor's own choice).
 #[inline(never)]
@@ -424,28 +322,22 @@ fn protect(work: &mut Work)
 /// mark stands last in the neutral one. What begins its name is added as by `add_run`, unless long
 /// runs are. Gives how many steps they were.
 #[inline(always)]
-fn begin_call(
-    work: &mut Work,
-    characters: u32,
-    mode: Mode,
-    most: u64,
-    plain: &mut u32,
-    long: bool,
-) -> u64
+fn begin_call(work: &mut Work, characters: u32, mode: Mode, most: u64, hints: &mut RunHints) -> u64
     requires some { 0 < most }
     requires one { 0 < characters }
     requires first { Opens mode characters (text_of_cells work.old.active) }
-    requires plain { IsPlainFrom plain.old work.old.neutral }
+    requires plain { IsPlainFrom hints.old.plain_from work.old.neutral }
     requires sound { IsSound work.old }
     ensures passes { SomeSteps result most work.old work.new }
-    ensures plain { IsPlainFrom plain.new work.new.neutral }
+    ensures plain { IsPlainFrom hints.new.plain_from work.new.neutral }
+    ensures runs { hints.new.long_runs ≡ hints.old.long_runs }
     ensures keeps { KeepsRoom work.old work.new }
 {
     work.active_to_cell(characters, Cell::Call(mode, 0));
-    if long {
+    if hints.long_runs_follow() {
         return 1;
     }
-    1 + add_run(work, most - 1, plain)
+    1 + add_run(work, most - 1, hints)
 }
 
 /// A number sign that opens no call goes to the end of the neutral string.

@@ -9,7 +9,9 @@ ghost use Rattle.trac_core.specs.Session.{next_function};
 
 use super::{Counters, Machine, ended};
 use crate::call::perform_pending_alone;
-use crate::scan::{IDLING_STEPS, Pending, begin_idling, may_begin_idling, scan_steps};
+use crate::idling::{IDLING_STEPS, begin_idling, may_begin_idling};
+use crate::run_hints::RunHints;
+use crate::scan::{Pending, scan_steps};
 use trac_forms::Work;
 use trac_language::{Fate, Function, Report};
 
@@ -98,10 +100,9 @@ fn go_alone(work: &mut Work, meta: &mut u8, plain: u32, at: Counters, most: u64)
     let mut left = reach;
     let mut peak = at.peak;
     let mut need = work.used();
-    let mut plain = plain;
-    let mut long = 0;
+    let mut hints = RunHints::new(plain);
     while left > 0 {
-        match scan_steps(work, left, &mut plain, &mut long) {
+        match scan_steps(work, left, &mut hints) {
             Ok(done) => {
                 left -= done;
                 peak = peak.max(need);
@@ -110,13 +111,12 @@ fn go_alone(work: &mut Work, meta: &mut u8, plain: u32, at: Counters, most: u64)
                 peak = peak.max(begin_idling(work));
                 left -= IDLING_STEPS;
                 need = work.used();
-                plain = work.neutral_len();
-                long = 0;
+                hints = RunHints::new(work.neutral_len());
             }
             Err(pending) => {
                 let last = match perform_pending_alone(work, pending, meta) {
                     Ok(last) => last,
-                    Err(function) => return going(reach - left, function, plain, at.steps, peak),
+                    Err(function) => return going(reach - left, function, hints, at.steps, peak),
                 };
                 if let Some(fate) = last.fate {
                     let report = ended(fate, last.need, at.steps + (reach - left), peak);
@@ -125,12 +125,11 @@ fn go_alone(work: &mut Work, meta: &mut u8, plain: u32, at: Counters, most: u64)
                 left -= 1;
                 peak = peak.max(last.need);
                 need = work.used();
-                plain = work.neutral_len();
-                long = 0;
+                hints = RunHints::new(work.neutral_len());
             }
         }
     }
-    going(reach, None, plain, at.steps, peak)
+    going(reach, None, hints, at.steps, peak)
 }
 
 /// `done` steps, behind which the run is over with this report.
@@ -154,11 +153,11 @@ fn over(done: u64, plain: u32, report: Report) -> Advance
 
 /// `done` steps after `steps` others, with this peak, and what the next one performs; the run goes
 /// on.
-fn going(done: u64, next: Option<Function>, plain: u32, steps: u64, peak: u32) -> Advance
+fn going(done: u64, next: Option<Function>, hints: RunHints, steps: u64, peak: u32) -> Advance
     requires { steps + done < 2 ^ 64 }
     ensures { result ≡ record {
       progress = record { done = done; next = next };
-      plain = plain;
+      plain = hints.plain_from;
       steps = steps + done;
       peak = peak;
       fate = None;
@@ -166,7 +165,7 @@ fn going(done: u64, next: Option<Function>, plain: u32, steps: u64, peak: u32) -
 {
     Advance {
         progress: Progress { done, next },
-        plain,
+        plain: hints.plain_from,
         steps: steps + done,
         peak,
         fate: None,

@@ -3,16 +3,17 @@ use Rattle.trac_core.specs.StepsInRow.{idling_begun}
 use Rattle.trac_core.proofs.Moments.{OnCourse, course-none}
 use Rattle.trac_core.proofs.RunningOn.{with_left, need-fits, need-counted, course-run, course-step, course-idling, ends-step, leaves-step, ends-allowance, leaves-allowance}
 use Rattle.trac_core.proofs.Sending.{sent-more}
+use Rattle.trac_core.specs.declared.run_hints.RunHints.{RunHints}
 use Rattle.trac_core.proofs.machine.run_to_end.Goals as goal
 
 pub loop-left-init : goal.loop-left-init
 loop-left-init g c =
-    let len = c.neutral_len-plain.ensures.value in
+    let len = ap (λ (h : RunHints). h.plain_from) c.new-hints.ensures ∙ c.neutral_len.ensures.value in
     record {
       few = omega arith;
       sound = c.requires.sound;
       room = refl;
-      plain = λ k d within. absurd (omega (arith, len, length-drop c.neutral_len-plain.result c.args.work.now.neutral));
+      plain = λ k d within. absurd (omega (arith, len, length-drop c.new-hints.result.plain_from c.args.work.now.neutral));
       peak = c.requires.peak;
       need = inl c.used-need.ensures.value;
       source_failures = refl;
@@ -64,7 +65,7 @@ loop-left-preserved-then-may_begin_idling g c =
     let none = subst (λ pending. AsksFor pending c.loop-left.work) c.in-Err-Idling.field-0-is c.in-Err-Idling.ensures.comes.1 in
     let may = c.if-may_begin_idling.ensures.0 refl in
     let h = c.begin_idling.ensures in
-    let len = c.neutral_len-plain-in-Err-Idling.ensures.value in
+    let len = ap (λ (h : RunHints). h.plain_from) c.new-hints-in-Err-Idling.ensures ∙ c.neutral_len-in-Err-Idling.ensures.value in
     let peak_is = c.max-peak-in-Err-Idling.ensures in
     let old = c.loop-left.work in
     let new = c.begin_idling.new.work in
@@ -75,7 +76,7 @@ loop-left-preserved-then-may_begin_idling g c =
       few = omega arith;
       sound = h.keeps.sound;
       room = h.keeps.room ∙ c.in-Err-Idling.ensures.keeps.room ∙ i.room;
-      plain = λ k d within. absurd (omega (arith, len, length-drop c.neutral_len-plain-in-Err-Idling.result new.neutral));
+      plain = λ k d within. absurd (omega (arith, len, length-drop c.new-hints-in-Err-Idling.result.plain_from new.neutral));
       peak = omega (arith, h.keeps.room, c.in-Err-Idling.ensures.keeps.room, i.peak, peak_is, fits, need);
       need = inl c.used-need-in-Err-Idling.ensures.value;
       source_failures = i.source_failures;
@@ -143,7 +144,7 @@ loop-left-preserved g c =
     let same = c.in-Err.ensures.comes.0 in
     let h = c.perform_pending-last.ensures in
     let none : c.perform_pending-last.result.fate ≡ None = c.in_default.is in
-    let len = c.neutral_len-plain-in-Err.ensures.value in
+    let len = ap (λ (h : RunHints). h.plain_from) c.new-hints-in-Err.ensures ∙ c.neutral_len-in-Err.ensures.value in
     let peak_is = c.max-peak-in-Err.ensures in
     let room = h.keeps.room ∙ c.in-Err.ensures.keeps.room in
     let inputs = ap (input_failures None) none in
@@ -152,7 +153,7 @@ loop-left-preserved g c =
       few = omega arith;
       sound = h.keeps.sound;
       room = room ∙ i.room;
-      plain = λ k d within. absurd (omega (arith, len, length-drop c.neutral_len-plain-in-Err.result c.perform_pending-last.new.work.neutral));
+      plain = λ k d within. absurd (omega (arith, len, length-drop c.new-hints-in-Err.result.plain_from c.perform_pending-last.new.work.neutral));
       peak = omega (arith, h.keeps.room, c.in-Err.ensures.keeps.room);
       need = inl c.used-need-in-Err.ensures.value;
       source_failures = omega (arith, i.source_failures, h.source.1, inputs);

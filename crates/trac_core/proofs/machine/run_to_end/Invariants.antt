@@ -9,7 +9,7 @@ invariant-loop-left g l =
       few : l.left ≤ l.at.allowance - l.at.steps;
       sound : IsSound l.work;
       room : l.work.room ≡ l.fn.work.room;
-      plain : IsPlainFrom l.plain l.work.neutral;
+      plain : IsPlainFrom l.hints.plain_from l.work.neutral;
       peak : l.peak ≤ l.work.room;
       need : (l.need ≡ used l.work) ⊎ ((used l.work ≤ l.peak) × (l.need ≤ l.peak));
       source_failures : g.I.Source.failure_count l.source ≡ g.I.Source.failure_count l.fn.source;

@@ -28,15 +28,15 @@ opened old new mode n opens some is =
       plain = λ place plain. plain-appended old.neutral _ (mark-plain mode) place plain;
     })
 
-pub returns-then-long-clause-passes : goal.returns-then-long-clause-passes
-returns-then-long-clause-passes c =
+pub returns-then-long_runs_follow-clause-passes : goal.returns-then-long_runs_follow-clause-passes
+returns-then-long_runs_follow-clause-passes c =
     let o = opened c.args.work.now _ c.args.mode c.args.characters c.requires.first c.requires.one c.active_to_cell.ensures.turned in
     one-step _ _ c.args.most o.scans o.no_larger o.shorter c.requires.some
 
-pub returns-then-long-clause-plain : goal.returns-then-long-clause-plain
-returns-then-long-clause-plain c =
+pub returns-then-long_runs_follow-clause-plain : goal.returns-then-long_runs_follow-clause-plain
+returns-then-long_runs_follow-clause-plain c =
     let o = opened c.args.work.now _ c.args.mode c.args.characters c.requires.first c.requires.one c.active_to_cell.ensures.turned in
-    o.plain c.args.plain.now c.requires.plain
+    o.plain c.args.hints.now.plain_from c.requires.plain
 
 pub add_run-requires-clause-opened : goal.add_run-requires-clause-opened
 add_run-requires-clause-opened c =
@@ -46,7 +46,7 @@ add_run-requires-clause-opened c =
 pub add_run-requires-clause-plain : goal.add_run-requires-clause-plain
 add_run-requires-clause-plain c =
     let o = opened c.args.work.now _ c.args.mode c.args.characters c.requires.first c.requires.one c.active_to_cell.ensures.turned in
-    o.plain c.args.plain.now c.requires.plain
+    o.plain c.args.hints.now.plain_from c.requires.plain
 
 pub returns-clause-passes : goal.returns-clause-passes
 returns-clause-passes c =

@@ -11,7 +11,7 @@ invariant-loop-left l =
       wanted : l.reach ≤ l.most;
       sound : IsSound l.work;
       room : l.work.room ≡ l.fn.work.room;
-      plain : IsPlainFrom l.plain l.work.neutral;
+      plain : IsPlainFrom l.hints.plain_from l.work.neutral;
       peak : l.peak ≤ l.work.room;
       need : (l.need ≡ used l.work) ⊎ ((used l.work ≤ l.peak) × (l.need ≤ l.peak));
       goes :

@@ -1,0 +1,79 @@
+//! The idling procedure, which a step loads where the active string is empty.
+ghost use Rattle.std.specs.Prelude.{◌≡◌, ◌+◌, ◌≤◌, [], ◌↔◌, IsTrue};
+ghost use Rattle.trac_language.specs.Store.{cells};
+ghost use Rattle.trac_functions.specs.Calls.{KeepsRoom};
+ghost use Rattle.trac_core.specs.Attempts.{Scanned, NoneFailed};
+ghost use Rattle.trac_core.specs.StepsInRow.{idling_begun};
+
+use crate::attempt::Attempt;
+use trac_forms::Work;
+use trac_language::{Fate, Mode};
+use trac_space::Cell;
+
+/// The idling procedure, which reads and scans a string and
+/// prints what is left of it (Mooers 1966).
+const IDLING: &[u8; 11] = b"#(ps,#(rs))";
+
+/// What the neutral string holds behind those steps of the idling procedure which come before its two
+/// right parentheses.
+const BEGUN: &[Cell] = &[
+    Cell::Call(Mode::Active, 0),
+    Cell::Byte(b'p'),
+    Cell::Byte(b's'),
+    Cell::Comma,
+    Cell::Call(Mode::Active, 0),
+    Cell::Byte(b'r'),
+    Cell::Byte(b's'),
+];
+
+/// How many steps `begin_idling` makes.
+pub(crate) const IDLING_STEPS: u64 = 8;
+
+/// The active string is empty: the neutral string is cleared, and the idling procedure becomes the
+/// active string, if there are cells for it.
+pub(crate) fn load_idling(work: &mut Work) -> Attempt
+    requires { work.old.active ≡ [] }
+    ensures scanned { Scanned result.fate result.need work.old work.new }
+    ensures fate { NoneFailed result.fate }
+    ensures forms { work.new.forms ≡ work.old.forms }
+    ensures fits { result.need ≤ work.old.room }
+    ensures keeps { KeepsRoom work.old work.new }
+{
+    work.clear_neutral();
+    if work.load_active(IDLING) {
+        Attempt {
+            fate: None,
+            need: work.used(),
+        }
+    } else {
+        Attempt {
+            fate: Some(Fate::Workspace),
+            need: 0,
+        }
+    }
+}
+
+/// Whether `most` steps and the room are enough for `begin_idling`. The active string is empty.
+#[inline(always)]
+pub(crate) fn may_begin_idling(work: &Work, most: u64) -> bool
+    requires { work.now.active ≡ [] }
+    ensures { IsTrue result ↔ (8 ≤ most) × (cells work.now.forms + 11 ≤ work.now.room) }
+{
+    most >= IDLING_STEPS && work.free() + work.neutral_len() >= 11
+}
+
+/// The active string is empty. Makes eight steps: the idling procedure is loaded, and its two calls
+/// are opened and their names scanned. Gives the cells that the first of these steps needs; the others
+/// need no more.
+#[inline(never)]
+pub(crate) fn begin_idling(work: &mut Work) -> u32
+    requires empty { work.old.active ≡ [] }
+    requires room { cells work.old.forms + 11 ≤ work.old.room }
+    ensures begun { work.new ≡ idling_begun work.old }
+    ensures need { result ≡ cells work.old.forms + 11 }
+    ensures keeps { KeepsRoom work.old work.new }
+{
+    work.set_strings(BEGUN, b"))");
+    // Each of the two call marks stands for two characters.
+    work.used() + 2
+}
