@@ -151,23 +151,7 @@ NoneNamed-after name (form ∷ forms) h = go (is_named name form) refl (NoneName
     go true e more = subst (λ n. NoneNamed n forms) ((bytes_eq-Decides form.name name).0 e) h.1
     go false e more = (λ same. both_ways (is_named name form) e (same_name name form same), more)
 
-NoneNamed-without_other : (name other : Text) (forms : List Form) → NoneNamed other forms → NoneNamed other (without name forms)
-NoneNamed-without_other name other [] h = tt
-NoneNamed-without_other name other (form ∷ forms) h = go (is_named name form) (NoneNamed-without_other name other forms h.1)
-  where
-    go : (b : Bool) → NoneNamed other (without name forms) → NoneNamed other (if b then forms else form ∷ without name forms)
-    go true more = h.1
-    go false more = (h.0, more)
-
-pub IsStore-without : (name : Text) (forms : List Form) → IsStore forms → IsStore (without name forms)
-IsStore-without name [] h = tt
-IsStore-without name (form ∷ forms) h = go (is_named name form) (IsStore-without name forms h.2)
-  where
-    go : (b : Bool) → IsStore (without name forms) → IsStore (if b then forms else form ∷ without name forms)
-    go true more = h.2
-    go false more = (h.0, NoneNamed-without_other name form.name forms h.1, more)
-
--- and there are no more cells
+-- and there are no more cells than before
 pub cells-without : (name : Text) (forms : List Form) → cells (without name forms) ≤ cells forms
 cells-without name [] = omega arith
 cells-without name (form ∷ forms) = go (is_named name form) (cells-without name forms)
@@ -175,7 +159,3 @@ cells-without name (form ∷ forms) = go (is_named name form) (cells-without nam
     go : (b : Bool) → cells (without name forms) ≤ cells forms → cells (if b then forms else form ∷ without name forms) ≤ cells (form ∷ forms)
     go true more = omega (arith, sum_by-cons form_cells form forms)
     go false more = omega (arith, sum_by-cons form_cells form forms, sum_by-cons form_cells form (without name forms))
-
-pub IsStore-defined : (name text : Text) (forms : List Form) → IsStore forms → IsStore (defined name text forms)
-IsStore-defined name text forms h =
-    IsStore-push (without name forms) (record { name = name; body = items_of text; pointer = 0 }) (IsStore-without name forms h) (NoneNamed-after name forms h) (omega arith)

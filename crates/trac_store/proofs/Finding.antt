@@ -1,6 +1,6 @@
 -- What stands where a form begins, in a slice of the whole store.
 use Rattle.trac_store.proofs.Imports.{◌≡◌, ℕ, ◌+◌, ◌-◌, ◌<◌, ◌≤◌, List, length, take, drop, map, All, get_or, slice_range, slice_get, Some, sym, ap, ◌∙◌, subst, arith, option_map, slice_get-map, slice_get-get_or, take-map, drop-map, length-map, get_or-map, length-between}
-use Rattle.trac_store.proofs.Imports.{All-map, Cell, Byte, Head, seen, flat_text, text_of_cells, IsByte, flat_forms, form_at, forms_in, start_of, head_number, Bool, Decides, begins, places}
+use Rattle.trac_store.proofs.Imports.{All-map, Cell, Byte, Head, seen, flat_text, text_of_cells, character_of, false, false≢true, ◌≢◌, IsByte, flat_forms, form_at, forms_in, start_of, head_number, Bool, Decides, begins, places}
 use Rattle.trac_store.proofs.FlatLemmas.{Byte-character_of}
 use Rattle.trac_store.proofs.Gaps.{bytes-seen}
 use Rattle.trac_store.proofs.HeadCells.{seen-head}
@@ -73,4 +73,15 @@ pub seen-decides : (cells text : List Cell) (same : Bool) → All IsByte (map se
 seen-decides cells text same bytes text_bytes decides = (
   λ t. sym (seen-text cells bytes) ∙ ap flat_text (decides.0 t) ∙ seen-text text text_bytes,
   λ e. decides.1 (sym (bytes-seen cells) ∙ ap text_of_cells e ∙ bytes-seen text),
+)
+
+-- the character at a place of a text, read from its cell
+pub character-read : (cells : List Cell) (i c : ℕ) → i < length cells → c ≡ character_of (get_or cells i (Byte 0)) → get_or (text_of_cells cells) i 0 ≡ c
+character-read cells i c within is = get_or-map character_of cells i (Byte 0) 0 within ∙ sym is
+
+-- texts that differ at a place are not the same
+pub characters-differ : (a b : List Cell) (i x y : ℕ) → i < length a → i < length b → x ≡ character_of (get_or a i (Byte 0)) → y ≡ character_of (get_or b i (Byte 0)) → x ≢ y → Decides false (text_of_cells a ≡ text_of_cells b)
+characters-differ a b i x y in_a in_b is other differs = (
+  λ t. absurd (false≢true t),
+  λ same. absurd (differs (sym (character-read a i x in_a is) ∙ ap (λ t. get_or t i 0) same ∙ character-read b i y in_b other)),
 )

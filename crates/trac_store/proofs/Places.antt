@@ -14,6 +14,7 @@ pub record Stands (forms : List Form) (store : List Cell) (k at : ℕ) : Type 0 
   pub name_len : head_at store at ≡ length (form_at forms k).name
   pub body_len : head_at store (at + 1) ≡ length (form_at forms k).body
   pub pointer : head_at store (at + 2) ≡ (form_at forms k).pointer
+  pub heads : slice_range store at (at + 3) ≡ Head (length (form_at forms k).name) ∷ Head (length (form_at forms k).body) ∷ Head (form_at forms k).pointer ∷ []
   pub next : start_of forms (k + 1) ≡ at + (3 + length (form_at forms k).name + length (form_at forms k).body)
   pub end : at + (3 + length (form_at forms k).name + length (form_at forms k).body) ≤ length store
   pub split : store ≡ flat_forms (take k forms) ++ (flat_form (form_at forms k) ++ flat_forms (drop (k + 1) forms))
@@ -69,6 +70,7 @@ module _ (forms : List Form) (store : List Cell) (k at : ℕ) (whole : flat_form
 
   pub stands : Stands forms store k at
   stands =
+      let three : at + 3 - at ≡ 3 = omega arith in
       let name_size : at + 3 + length form.name - (at + 3) ≡ length form.name = omega arith in
       let body_size : at + 3 + length form.name + length form.body - (at + 3 + length form.name) ≡ length form.body = omega arith in
       let end : at + (3 + length form.name + length form.body) ≡ at + 3 + length form.name + length form.body = omega arith in
@@ -76,6 +78,7 @@ module _ (forms : List Form) (store : List Cell) (k at : ℕ) (whole : flat_form
         name_len = ap (head_at store) at_is ∙ ap head_number (read 0);
         body_len = ap head_number (read 1);
         pointer = ap head_number (read 2);
+        heads = ap (λ n. take n (drop at store)) three ∙ ap (λ cells. take 3 (drop at cells)) split ∙ ap (take 3) (drop_at front (flat_form form ++ rest) at (sym begins));
         next = next_start;
         end = omega (arith, next_start, start_of-le forms (k + 1), ap length whole);
         split = split;

@@ -1,11 +1,6 @@
 -- Changes of a table of forms.
-use Rattle.trac_store.proofs.Imports.{◌≡◌, ◌≢◌, ℕ, ◌+◌, ◌-◌, ◌*◌, ◌/◌, ◌<◌, ◌≤◌, false, List, length, set, sym, ap, ◌∙◌, arith, ⊎_elim, inl, inr, subst, ◌⊎◌, bit_and, and_le_r, cases_lt, length-set, get_or-set_same, get_or-set_other, Text, Cell, Byte, Comma, Head, hash, quarter, slots, slot}
+use Rattle.trac_store.proofs.Imports.{◌≡◌, ◌≢◌, ℕ, ◌+◌, ◌-◌, ◌*◌, ◌/◌, ◌<◌, ◌≤◌, false, List, length, set, sym, ap, ◌∙◌, arith, ⊎_elim, subst, bit_and, and_le_r, cases_eq, length-set, get_or-set_same, get_or-set_other, Text, Cell, Byte, Comma, Head, hash, quarter, slots, slot}
 use Rattle.trac_store.proofs.Imports.{cell_at, start_place, home_place, is_blank, IsReached, IsEntry, HasEntry, IsHeld, IsIndexBut, with_entry, begins, reads}
-
-pub same_or : (a b : ℕ) → (a ≡ b) ⊎ (a ≢ b)
-same_or a b =
-    ⊎_elim (λ below. inr (λ e. absurd (omega (arith, below, e))))
-    (λ past. ⊎_elim (λ below. inr (λ e. absurd (omega (arith, below, e)))) (λ past2. inl (omega (arith, past, past2))) (cases_lt b a)) (cases_lt a b)
 
 -- a slot that is looked at is one of the slots
 pub slot-within : (table : List Cell) (number i : ℕ) → 0 < slots table → slot table number i < slots table
@@ -75,7 +70,7 @@ module _ (table : List Cell) (s k start : ℕ) (s_in : s < slots table) (k_in : 
 
   entry-full : (x : ℕ) → x < slots table → is_blank (cell_at table x) ≡ false → is_blank (cell_at (with_entry table s k start) x) ≡ false
   entry-full x x_in full =
-      ⊎_elim (λ e. ap (λ y. is_blank (cell_at (with_entry table s k start) y)) e ∙ ap is_blank entry-slot) (λ differs. ap is_blank (entry-other_slot x x_in differs) ∙ full) (same_or x s)
+      ⊎_elim (λ e. ap (λ y. is_blank (cell_at (with_entry table s k start) y)) e ∙ ap is_blank entry-slot) (λ differs. ap is_blank (entry-other_slot x x_in differs) ∙ full) (cases_eq x s)
 
 -- an entry at the gap, in a slot that no other form has then; form k may leave its own slot for that
 module _ (table : List Cell) (n g s n2 g2 : ℕ) (name name2 : ℕ → Text) (start start2 : ℕ → ℕ) (index : IsIndexBut table n g name start) (g_in : g < n2) (apart : g ≢ g2) (fits : n2 ≤ quarter table) (olds : (k : ℕ) → k < n2 → k ≢ g2 → k ≢ g → (k < n) × (name2 k ≡ name k) × (start2 k ≡ start k)) (news : (k : ℕ) → k < n → k ≢ g → cell_at table (home_place table k) ≢ Head s → (k < n2) × (k ≢ g2)) (free : (k : ℕ) → k < n2 → k ≢ g2 → k ≢ g → cell_at table s ≢ Head k) (after : ℕ) (reached : IsReached table (hash (name2 g)) s after) where
@@ -110,7 +105,7 @@ module _ (table : List Cell) (n g s n2 g2 : ℕ) (name name2 : ℕ → Text) (st
       let kept = entry-kept table now size full (name k) (start k) k old.0 old.1.0 e (entry-other_slot table s g (start2 g) s_in g_fits old.0 (reached-within table (hash (name k)) old.0 old.1.0 e.reached) apart2) (entry-other_start table s g (start2 g) s_in g_fits k k_fits differs) (entry-other_home table s g (start2 g) s_in g_fits k k_fits differs) in
       let named = subst (λ t. HasEntry now t (start k) k) (sym o.1) (old.0, (old.1.0, kept)) in
       subst (λ b. HasEntry now (name2 k) b k) (sym o.2) named)
-      (same_or k g)
+      (cases_eq k g)
 
   new_only : (x k : ℕ) → x < slots (with_entry table s g (start2 g)) → cell_at (with_entry table s g (start2 g)) x ≡ Head k → IsHeld (with_entry table s g (start2 g)) n2 g2 k x
   new_only x k x_in is =
@@ -136,7 +131,7 @@ module _ (table : List Cell) (n g s n2 g2 : ℕ) (name name2 : ℕ → Text) (st
         there = more.1;
         home = home_is k ∙ entry-other_home table s g (start2 g) s_in g_fits k (omega (arith, more.0, fits)) old.there ∙ old.home;
       })
-      (same_or x s)
+      (cases_eq x s)
 
   pub index-put : IsIndexBut (with_entry table s g (start2 g)) n2 g2 name2 start2
   index-put =
@@ -157,7 +152,7 @@ module _ (table : List Cell) (n k s after : ℕ) (name : ℕ → Text) (start : 
 
   bury_full : (x : ℕ) → x < slots table → is_blank (cell_at table x) ≡ false → is_blank (cell_at (set table s Comma) x) ≡ false
   bury_full x x_in full =
-      ⊎_elim (λ e. ap (λ y. is_blank (cell_at (set table s Comma) y)) e ∙ ap is_blank bury_same) (λ differs. ap is_blank (bury_other x differs) ∙ full) (same_or x s)
+      ⊎_elim (λ e. ap (λ y. is_blank (cell_at (set table s Comma) y)) e ∙ ap is_blank bury_same) (λ differs. ap is_blank (bury_other x differs) ∙ full) (cases_eq x s)
 
   comma-head : (j : ℕ) → Comma ≡ Head j → ⊥
   comma-head j e = absurd cc
@@ -186,7 +181,7 @@ module _ (table : List Cell) (n k s after : ℕ) (name : ℕ → Text) (start : 
               there = λ f. differs (head-same x s (sym old.home ∙ ap (λ i. cell_at table (home_place table i)) f ∙ entry.home));
               home = ap (λ n. cell_at now (n + quarter now + j)) same ∙ ap (λ n. cell_at now (slots table + n + j)) quarters ∙ bury_other (home_place table j) (λ f. absurd (omega (arith, f, slot_in))) ∙ old.home;
             })
-            (same_or x s);
+            (cases_eq x s);
       }
 
 -- a form begins elsewhere
@@ -230,7 +225,7 @@ module _ (table : List Cell) (n k begin : ℕ) (name : ℕ → Text) (start star
               ),
             ))
             (λ differs. subst (λ b. HasEntry now (name j) b j) (sym (others j less differs)) (old.0, (old.1.0, entry-kept table now size begin_full (name j) (start j) j old.0 old.1.0 e held (begin_other (start_place table j) (λ f. differs (omega (arith, f)))) (begin_home j))))
-            (same_or j k);
+            (cases_eq j k);
         only = λ x j x_in is.
             let less : x < slots table = omega (arith, x_in, same) in
             let old = index.only x j less (sym (begin_other x (λ e. absurd (omega (arith, e, less)))) ∙ is) in

@@ -5,6 +5,7 @@ ghost use Rattle.trac_language.specs.Store.{NoneNamed};
 ghost use Rattle.trac_space.specs.declared.cell.Cell.TheVariants.{Byte};
 ghost use Rattle.trac_space.specs.Cells.{seen};
 ghost use Rattle.trac_space.specs.Texts.{character_of, text_of_cells, IsByte};
+ghost use Rattle.trac_store.specs.Forms.{name_at};
 ghost use Rattle.trac_store.specs.Stored.{forms_in, IsPlace, IsLocated, IsFoundAt, IsAnswer, IsName, AreCellsOfForms};
 
 use crate::form_heads::number_in_head;
@@ -14,7 +15,7 @@ use trac_space::{Cell, byte_in};
 
 // Whether two texts of the same length have the same characters.
 #[inline]
-pub(crate) fn is_text(cells: &[Cell], text: &[Cell]) -> bool
+fn is_text(cells: &[Cell], text: &[Cell]) -> bool
     requires cell_bytes { All IsByte cells.now }
     requires bytes { All IsByte text.now }
     requires same { length cells.now ≡ length text.now }
@@ -35,7 +36,7 @@ fn is_text_back(cells: &[Cell], text: &[Cell]) -> bool
     requires cell_bytes { All IsByte cells.now }
     requires bytes { All IsByte text.now }
     requires same { length cells.now ≡ length text.now }
-    ensures { IsTrue result → text_of_cells cells.now ≡ text_of_cells text.now }
+    ensures { Decides result (text_of_cells cells.now ≡ text_of_cells text.now) }
 {
     let mut left = text.len();
     while left > 0 {
@@ -90,8 +91,10 @@ impl<'s> FormCells<'s> {
     pub fn is_named(&self, form: Located, name: &[Cell]) -> bool
         requires form { IsLocated self.now form.number form.start }
         requires bytes { All IsByte (map seen name.now) }
-        ensures { let text = text_of_cells (map seen name.now) in
+        ensures found { let text = text_of_cells (map seen name.now) in
             IsTrue result → IsFoundAt self.now text form.number form.start }
+        ensures named { let text = text_of_cells (map seen name.now) in
+            Decides result (name_at self.now form.number ≡ text) }
     {
         let cells = self.cells;
         let start = form.start as usize;

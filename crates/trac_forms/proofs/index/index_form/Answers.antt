@@ -6,21 +6,6 @@ use Rattle.trac_store.proofs.Places.{stands}
 use Rattle.trac_forms.proofs.FormTables.{index-next}
 use Rattle.trac_forms.proofs.index.index_form.Goals as goal
 
-pub overflow_add-from : goal.overflow_add-from
-overflow_add-from c =
-    let f = stands _ _ _ _ c.requires.state.forms.whole c.requires.some c.requires.state.place.start_is in
-    omega (arith, f.end, c.requires.state.forms.bounded)
-
-pub overflow_add-to : goal.overflow_add-to
-overflow_add-to c =
-    let f = stands _ _ _ _ c.requires.state.forms.whole c.requires.some c.requires.state.place.start_is in
-    omega (arith, f.end, f.name_len, c.heads_of-heads.ensures.name, c.requires.state.forms.bounded)
-
-pub store_part-requires-clause-within : goal.store_part-requires-clause-within
-store_part-requires-clause-within c =
-    let f = stands _ _ _ _ c.requires.state.forms.whole c.requires.some c.requires.state.place.start_is in
-    omega (arith, f.end, f.name_len, c.heads_of-heads.ensures.name)
-
 pub returns-else-not-add-clause-index : goal.returns-else-not-add-clause-index
 returns-else-not-add-clause-index c =
     let s = c.args.space.now in

@@ -1,4 +1,4 @@
-use Rattle.trac_store.proofs.Imports.{◌≡◌, ℕ, ◌+◌, List, All, length, map, slice_range, sym, ap, ◌∙◌, subst, arith, Text, Cell, Byte, seen, text_of_cells, IsByte, form_at, forms_in}
+use Rattle.trac_store.proofs.Imports.{◌≡◌, ℕ, ◌+◌, List, All, length, map, slice_range, sym, ap, ◌∙◌, subst, arith, eqb-true, length-map, Bool, Decides, character_of, Text, Cell, Byte, seen, text_of_cells, IsByte, form_at, forms_in}
 use Rattle.trac_store.proofs.Finding.{Begins, begins_at, number_is, bytes-flat, bytes-of-seen}
 use Rattle.trac_store.proofs.FlatLemmas.{character_of-Byte}
 use Rattle.trac_store.proofs.Gaps.{bytes-seen}
@@ -26,11 +26,11 @@ module _ (store : List Cell) (k at n : ℕ) (b : Begins store k at)
   bytes : All IsByte (cells_of store at n)
   bytes = bytes-of-seen _ (subst (All IsByte) (sym shown) (bytes-flat (named store k)))
 
-  same : (name : List Cell) → text_of_cells (cells_of store at n) ≡ text_of_cells name →
-      named store k ≡ text_of_cells (map seen name)
-  same name e =
-      sym (character_of-Byte (named store k)) ∙ ap text_of_cells (sym shown)
-      ∙ bytes-seen (cells_of store at n) ∙ e ∙ sym (bytes-seen name)
+  -- its text is that of a name if it has the same characters
+  decided : (name : List Cell) (same : Bool) → Decides same (text_of_cells (cells_of store at n) ≡ text_of_cells name) → Decides same (named store k ≡ text_of_cells (map seen name))
+  decided name same is =
+      let text : text_of_cells (cells_of store at n) ≡ named store k = sym (bytes-seen (cells_of store at n)) ∙ ap text_of_cells shown ∙ character_of-Byte (named store k) in
+      (λ t. sym text ∙ is.0 t ∙ sym (bytes-seen name), λ e. is.1 (text ∙ e ∙ bytes-seen name))
 
 pub bounds-cells-start : goal.bounds-cells-start
 bounds-cells-start c = omega (arith, (here (goal.at.bounds-cells-start c).After-self).end)
@@ -54,12 +54,23 @@ is_text_back-requires-clause-cell_bytes c =
 pub is_text_back-requires-clause-bytes : goal.is_text_back-requires-clause-bytes
 is_text_back-requires-clause-bytes c = bytes-of-seen c.args.name.now c.requires.bytes
 
+-- whether the form has the name
 pub returns-then-len-name : goal.returns-then-len-name
-returns-then-len-name c = λ t.
+returns-then-len-name c =
     let b = here (goal.at.returns-then-len-name c).After-self in
     let len = c.number_in_head-len.ensures ∙ number_is _ _ b.name_len in
-    let text = same c.self.inside.cells.now c.args.form.number c.args.form.start c.number_in_head-len.result b len c.args.name.now in
+    let form = rw (← c.self.view_is) at c.requires.form in
+    let both = decided c.self.inside.cells.now c.args.form.number c.args.form.start c.number_in_head-len.result b len c.args.name.now c.is_text_back.result c.is_text_back.ensures in
     rw (← c.self.view_is) (record {
-      named = record { within = (rw (← c.self.view_is) at c.requires.form).within; named = text (c.is_text_back.ensures t) };
-      start_is = (rw (← c.self.view_is) at c.requires.form).start_is;
+      found = λ t. record { named = record { within = form.within; named = both.0 t }; start_is = form.start_is };
+      named = both;
     })
+
+-- a name of another length is another
+pub returns-else-len-name : goal.returns-else-len-name
+returns-else-len-name c =
+    let b = here (goal.at.returns-else-len-name c).After-self in
+    let len = c.number_in_head-len.ensures ∙ number_is _ _ b.name_len in
+    let long = length-map (map seen c.args.name.now) character_of ∙ length-map c.args.name.now seen in
+    let other = c.if-len-name.false in
+    rw (← c.self.view_is) (record { found = λ t. absurd (other (eqb-true _ _ t)); named = (λ t. absurd (other (eqb-true _ _ t)), λ e. absurd (other (len ∙ ap length e ∙ long))) })
