@@ -7,6 +7,7 @@ ghost use Rattle.trac_space.specs.Cells.{seen};
 ghost use Rattle.trac_space.specs.Texts.{character_of, text_of_cells, IsByte};
 ghost use Rattle.trac_store.specs.Forms.{name_at};
 ghost use Rattle.trac_store.specs.Stored.{forms_in, IsPlace, IsLocated, IsFoundAt, IsAnswer, IsName, AreCellsOfForms};
+ghost use Rattle.trac_store.specs.Stored.{AreTextsOfOneLength};
 
 use crate::form_heads::number_in_head;
 use crate::located::{FIRST_FORM, Located};
@@ -16,9 +17,7 @@ use trac_space::{Cell, byte_in};
 // Whether two texts of the same length have the same characters.
 #[inline]
 fn is_text(cells: &[Cell], text: &[Cell]) -> bool
-    requires cell_bytes { All IsByte cells.now }
-    requires bytes { All IsByte text.now }
-    requires same { length cells.now ≡ length text.now }
+    requires { AreTextsOfOneLength cells.now text.now }
     ensures { Decides result (text_of_cells cells.now ≡ text_of_cells text.now) }
 {
     for i in 0..text.len() {
@@ -33,9 +32,7 @@ fn is_text(cells: &[Cell], text: &[Cell]) -> bool
 // differ there.
 #[inline(always)]
 fn is_text_back(cells: &[Cell], text: &[Cell]) -> bool
-    requires cell_bytes { All IsByte cells.now }
-    requires bytes { All IsByte text.now }
-    requires same { length cells.now ≡ length text.now }
+    requires { AreTextsOfOneLength cells.now text.now }
     ensures { Decides result (text_of_cells cells.now ≡ text_of_cells text.now) }
 {
     let mut left = text.len();

@@ -1,4 +1,4 @@
-use Rattle.trac_store.proofs.Imports.{◌≡◌, ℕ, ◌+◌, List, All, length, map, slice_range, sym, ap, ◌∙◌, subst, arith, eqb-true, length-map, Bool, Decides, character_of, Text, Cell, Byte, seen, text_of_cells, IsByte, form_at, forms_in}
+use Rattle.trac_store.proofs.Imports.{◌≡◌, ℕ, ◌+◌, List, All, length, map, slice_range, sym, ap, ◌∙◌, subst, arith, length-between, eqb-true, length-map, Bool, Decides, character_of, Text, Cell, Byte, seen, text_of_cells, IsByte, form_at, forms_in}
 use Rattle.trac_store.proofs.Finding.{Begins, begins_at, number_is, bytes-flat, bytes-of-seen}
 use Rattle.trac_store.proofs.FlatLemmas.{character_of-Byte}
 use Rattle.trac_store.proofs.Gaps.{bytes-seen}
@@ -45,14 +45,16 @@ slice_bounds-is_text_back-end c =
     let len = c.number_in_head-len.ensures ∙ number_is _ _ b.name_len in
     omega (arith, b.end, len)
 
-pub is_text_back-requires-clause-cell_bytes : goal.is_text_back-requires-clause-cell_bytes
-is_text_back-requires-clause-cell_bytes c =
-    let b = here (goal.at.is_text_back-requires-clause-cell_bytes c).After-self in
+pub is_text_back-requires : goal.is_text_back-requires
+is_text_back-requires c =
+    let b = here (goal.at.is_text_back-requires c).After-self in
     let len = c.number_in_head-len.ensures ∙ number_is _ _ b.name_len in
-    bytes c.self.inside.cells.now c.args.form.number c.args.form.start c.number_in_head-len.result b len
-
-pub is_text_back-requires-clause-bytes : goal.is_text_back-requires-clause-bytes
-is_text_back-requires-clause-bytes c = bytes-of-seen c.args.name.now c.requires.bytes
+    let from = c.args.form.start + 3 in
+    record {
+      cell_bytes = bytes c.self.inside.cells.now c.args.form.number c.args.form.start c.number_in_head-len.result b len;
+      bytes = bytes-of-seen c.args.name.now c.requires.bytes;
+      same = omega (arith, length-between c.self.inside.cells.now from (from + c.number_in_head-len.result) (omega (arith, b.end, len)), c.if-len-name.true);
+    }
 
 -- whether the form has the name
 pub returns-then-len-name : goal.returns-then-len-name
