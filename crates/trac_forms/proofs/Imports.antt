@@ -27,7 +27,7 @@ pub use Rattle.trac_space.specs.declared.cell.Cell.{Cell}
 pub use Rattle.trac_space.specs.declared.cell.Cell.TheVariants.{Byte, Call, Comma, Gap, Head}
 pub use Rattle.trac_store.proofs.Filling.{AreItems, items, plain-items, plain-text}
 pub use Rattle.trac_store.proofs.Finding.{bytes-flat, part-seen}
-pub use Rattle.trac_store.proofs.FlatLemmas.{Byte-character_of, character_of-Byte, count-le, flat_items_of, forms_in-flat, item_of-cell, length-flat, length-flat_form, length-new_form, no_call-flat_forms}
+pub use Rattle.trac_store.proofs.FlatLemmas.{Byte-character_of, character_of-Byte, count-le, flat_items_of, forms_in-flat, item_of-cell, length-flat, length-flat_form, length-new_form}
 pub use Rattle.trac_store.proofs.Gaps.{bytes-seen}
 pub use Rattle.trac_store.proofs.HeadCells.{number-at}
 pub use Rattle.trac_store.proofs.IndexSearch.{index-kept, index-pointer, index-replaced, claimed-kept}

@@ -8,13 +8,13 @@ pub NoneNamed-push : (name : Text) (forms : List Form) (form : Form) → NoneNam
 NoneNamed-push name [] form h other = (other, tt)
 NoneNamed-push name (f ∷ forms) form h other = (h.0, NoneNamed-push name forms form h.1 other)
 
--- no form before a place has the name, and so up to the next
+-- if no form before a place has the name, nor the one there, none before the next place has it
 pub NoneNamed-more : (name : Text) (forms : List Form) (k : ℕ) → k < length forms → NoneNamed name (take k forms) → (form_at forms k).name ≢ name → NoneNamed name (take (k + 1) forms)
 NoneNamed-more name forms k within h other =
     let more = take_more forms k (record { name = []; body = []; pointer = 0 }) within in
     rw more (NoneNamed-push name (take k forms) (form_at forms k) h other)
 
--- the same of the forms from a place on
+-- if no form from a place up to another has the name, nor the one there, none up to the next place has it
 pub NoneNamed-further : (name : Text) (forms : List Form) (from k : ℕ) → from ≤ k → k < length forms → NoneNamed name (slice_range forms from k) → (form_at forms k).name ≢ name → NoneNamed name (slice_range forms from (k + 1))
 NoneNamed-further name forms from k order within h other =
     let more : k + 1 - from ≡ k - from + 1 = omega (arith, order) in
@@ -124,7 +124,7 @@ changed-at name change (form ∷ forms) (suc k) h at =
     let more = changed-at name change forms k h.2 (record { within = omega (arith, at.within); named = at.named }) in
     rw e (ap (λ fs. form ∷ fs) more)
 
--- the same where no form has the name
+-- if no form has the name, none is found, and the list without that form is the whole list
 pub form_named-none : (name : Text) (forms : List Form) → NoneNamed name forms → form_named name forms ≡ None
 form_named-none name [] h = refl
 form_named-none name (form ∷ forms) h = let e = other_name name form h.0 in rw e (form_named-none name forms h.1)
@@ -151,7 +151,7 @@ NoneNamed-after name (form ∷ forms) h = go (is_named name form) refl (NoneName
     go true e more = subst (λ n. NoneNamed n forms) ((bytes_eq-Decides form.name name).0 e) h.1
     go false e more = (λ same. both_ways (is_named name form) e (same_name name form same), more)
 
--- and there are no more cells than before
+-- without the form of a name there are no more cells
 pub cells-without : (name : Text) (forms : List Form) → cells (without name forms) ≤ cells forms
 cells-without name [] = omega arith
 cells-without name (form ∷ forms) = go (is_named name form) (cells-without name forms)

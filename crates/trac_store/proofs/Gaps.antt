@@ -57,7 +57,7 @@ segment-first text k (cell ∷ cells) (suc n) none =
     segment-other text k cell cells (none 0 (omega arith) (omega arith))
     ∙ ap (λ l. cell ∷ l) (segment-first text k cells n (λ i above below. none (suc i) (omega arith) (omega (arith, below))))
 
--- and all of them where there is none
+-- all cells stay where the text stands nowhere
 pub segment-none : (text : List ℕ) (k : ℕ) (cells : List Cell) → NonePasses (text_cells_at text cells) 0 (length cells) → segment_cells text k 0 cells ≡ cells
 segment-none text k cells none =
     segment-first text k cells (length cells) none

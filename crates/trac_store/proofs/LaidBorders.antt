@@ -6,7 +6,7 @@ use Rattle.std.proofs.Math.Seq.{map-set_same}
 use Rattle.std.proofs.lemmas.Simd.{map-map}
 use Rattle.trac_store.proofs.TextBorders.{longest-more}
 
--- the borders of so many beginnings are laid, and the cells behind them are as they were
+-- the borders of the first `count` beginnings are laid, and the cells behind them are as they were
 pub record BordersLaid (was now : List Cell) (count border : ℕ) : Type 0 where
   pub under_is : map under now ≡ map under was
   pub behind : drop count now ≡ drop count was
@@ -109,7 +109,7 @@ byte-seen Comma b is = cc
 byte-seen (Gap k) b is = cc
 byte-seen (Head n) b is = cc
 
--- the borders of so many beginnings of the text from a up to b are laid
+-- the borders of the first `count` beginnings of the text from a up to b are laid
 pub record BordersUpTo (old now : Lists) (a b count border : ℕ) : Type 0 where
   pub same : now ≡ record old { neutral = now.neutral }
   pub front : take a now.neutral ≡ take a old.neutral
@@ -124,9 +124,6 @@ module _ (old now : Lists) (a b count border : ℕ) (part : IsTextPart old.neutr
 
   now_len : length (slice_range now.neutral a b) ≡ b - a
   now_len = length-between now.neutral a b (omega (arith, part.within, h.long))
-
-  pub text_len : length text ≡ b - a
-  text_len = sym (length-map text seen) ∙ ap length shown ∙ now_len
 
   abbrev here : Cell
   here = get_or (slice_range now.neutral a b) count (Byte 0)
@@ -161,7 +158,7 @@ module _ (old now : Lists) (a b count border : ℕ) (part : IsTextPart old.neutr
         laid = subst (λ l. BordersLaid (slice_range old.neutral a b) l (count + 1) next) (sym slice) (laid-next (slice_range old.neutral a b) (slice_range now.neutral a b) count border next cell h.laid (omega (arith, less, now_len)) (under_is ∙ ap under cell-is) over_is here-is is_here);
       }
 
--- all of them are
+-- the borders of all beginnings are laid
 pub laid-all : (old now : Lists) (a b count border : ℕ) → IsTextPart old.neutral a b → BordersUpTo old now a b count border → b - a ≤ count → AreLaid old.neutral now.neutral a b
 laid-all old now a b count border part h all =
     let was = slice_range old.neutral a b in

@@ -1,5 +1,5 @@
 -- Where forms stand among the cells of a list of forms.
-use Rattle.trac_store.proofs.Imports.{◌≡◌, ℕ, suc, ◌+◌, ◌-◌, ◌<◌, ◌≤◌, List, [], ◌∷◌, ◌++◌, length, take, drop, map, slice_range, slice_get, set, Some, refl, sym, ap, ◌∙◌, arith, remove, slice_get_past, zero, append_assoc, append-nil, length-append, length-map, take-append-drop, drop_more, take_more}
+use Rattle.trac_store.proofs.Imports.{◌≡◌, ℕ, suc, ◌+◌, ◌-◌, ◌<◌, ◌≤◌, List, [], ◌∷◌, ◌++◌, length, take, drop, map, slice_range, slice_get, set, refl, sym, ap, ◌∙◌, arith, remove, slice_get_past, zero, append_assoc, append-nil, length-append, length-map, take-append-drop, drop_more, take_more}
 use Rattle.trac_store.proofs.Imports.{take_at, drop_at, drop-drop, set_split, take-set, set-append_right, flat_map-append, Form, form_cells, Cell, Byte, Head, Lists, flat_text, flat_item, flat_form, flat_forms, form_at, start_of, head_number, head_at}
 use Rattle.trac_store.proofs.FlatLemmas.{length-flat_form}
 
@@ -89,10 +89,6 @@ module _ (forms : List Form) (store : List Cell) (k at : ℕ) (whole : flat_form
         behind = ap (λ i. drop i store) end ∙ sym (drop-drop (length form.body) (at + 3 + length form.name) store)
             ∙ ap (drop (length form.body)) behind_name ∙ drop_at (map flat_item form.body) rest (length form.body) (length-map form.body flat_item);
       }
-
-  -- the cells with the lengths and the pointer
-  pub head_cells : (slice_get store at ≡ Some (Head (length form.name))) × (slice_get store (at + 1) ≡ Some (Head (length form.body))) × (slice_get store (at + 2) ≡ Some (Head form.pointer))
-  head_cells = (ap (slice_get store) at_is ∙ read 0, read 1, read 2)
 
 -- the cells without one form
 pub removed : (forms : List Form) (store : List Cell) (k at : ℕ) → Stands forms store k at → take at store ++ drop (at + (3 + length (form_at forms k).name + length (form_at forms k).body)) store ≡ flat_forms (remove forms k)

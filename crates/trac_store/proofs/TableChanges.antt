@@ -46,7 +46,7 @@ module _ (table now : List Cell) (long : length now ≡ length table) (full : (x
         ∙ full (slot table number i) (slot-within table number i (omega (arith, r.within))) (r.before i less);
   }
 
-  -- it is one of the forms if each has its entry, and each number in a slot is that of one
+  -- the changed table is one of the forms if each has its entry, and each number in a slot is that of one
   index-now : (n gap : ℕ) (name : ℕ → Text) (start : ℕ → ℕ) → n ≤ quarter table → ((k : ℕ) → k < n → k ≢ gap → HasEntryThen table now (name k) (start k) k) → ((s k : ℕ) → s < slots table → cell_at now s ≡ Head k → (k < n) × (k ≢ gap) × (cell_at now (home_place table k) ≡ Head s)) → IsIndexBut now n gap name start
   index-now n gap name start fits all only = record {
     roomy = omega (arith, fits, ap (λ n. n / 4) long);

@@ -87,8 +87,7 @@ pub fn end_of(space: &Space, form: Located) -> u32
     ensures within { result ≤ length space.now.store }
     ensures order { form.start + 3 ≤ result }
 {
-    let heads = heads_of(space, form);
-    form.start + 3 + heads.name + heads.body
+    form.start + 3 + head(space, form.start) + head(space, form.start + 1)
 }
 
 /// The item in the cell at place `i` of the store. A gap of ordinal 0 if no item stands there.
