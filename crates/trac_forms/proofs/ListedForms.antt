@@ -1,6 +1,7 @@
 -- The first of the forms that cells stand for, and those behind it.
 use Rattle.trac_forms.proofs.Imports.{◌≡◌, ◌≢◌, ℕ, ◌+◌, ◌-◌, ◌<◌, ◌≤◌, List, [], ◌∷◌, length, take, drop, map, get_or, slice_range, Some, refl, sym, ap, ◌∙◌, subst, arith, take-length, flat_text, flat_item, form_cells, length-map, length-drop, drop_more, length-between, Form, IsStore, Cell, Byte, Call, Comma, Head, seen}
-use Rattle.trac_forms.proofs.Imports.{text_of_cells, flat_forms, form_at, item_of, forms_in, head_number, form_of, IsListed, IsForm, character_of-Byte, item_of-cell, forms_in-flat, part-seen, bytes-seen, number-at, stands, pointer-within}
+use Rattle.trac_forms.proofs.Imports.{text_of_cells, flat_forms, form_at, item_of, forms_in, head_number, form_of, IsListed, IsForm, item_of-cell, forms_in-flat, part-seen, number-at, stands, pointer-within}
+use Rattle.trac_store.proofs.Finding.{shown-text}
 
 item_of-seen : (cells : List Cell) → map item_of (map seen cells) ≡ map item_of cells
 item_of-seen [] = refl
@@ -12,7 +13,7 @@ item_of-seen (cell ∷ cells) = ap (λ items. item_of cell ∷ items) (item_of-s
 module _ (form : Form) (name body : List Cell) (p : ℕ) (named : map seen name ≡ flat_text form.name) (bodied : map seen body ≡ map flat_item form.body) (p_is : p ≡ form.pointer) where
   pub stored-form : form_of name body p ≡ form
   stored-form =
-      let text : text_of_cells name ≡ form.name = sym (bytes-seen name) ∙ ap text_of_cells named ∙ character_of-Byte form.name in
+      let text : text_of_cells name ≡ form.name = shown-text name form.name named in
       let items : map item_of body ≡ form.body = sym (item_of-seen body) ∙ ap (map item_of) bodied ∙ item_of-cell form.body in
       λ i. record { name = text i; body = items i; pointer = p_is i }
 

@@ -1,7 +1,7 @@
 -- What stands where a form begins, in a slice of the whole store.
 use Rattle.trac_store.proofs.Imports.{◌≡◌, ℕ, ◌+◌, ◌-◌, ◌<◌, ◌≤◌, List, [], ◌∷◌, length, get_or-between, take, drop, map, All, get_or, slice_range, Some, sym, ap, ◌∙◌, subst, arith, take-map, drop-map, length-map, get_or-map, length-between}
-use Rattle.trac_store.proofs.Imports.{All-map, Cell, Byte, Head, seen, flat_text, text_of_cells, character_of, false, false≢true, ◌≢◌, IsByte, flat_forms, form_at, forms_in, start_of, head_number, Bool, Decides, begins, places}
-use Rattle.trac_store.proofs.FlatLemmas.{Byte-character_of}
+use Rattle.trac_store.proofs.Imports.{All-map, Cell, Byte, Head, seen, flat_text, text_of_cells, character_of, false, false≢true, ◌≢◌, IsByte, flat_forms, form_at, forms_in, start_of, head_number, Bool, Decides, Text, begins, places}
+use Rattle.trac_store.proofs.FlatLemmas.{Byte-character_of, character_of-Byte}
 use Rattle.trac_store.proofs.Gaps.{bytes-seen}
 use Rattle.trac_store.proofs.HeadCells.{heads-shown}
 use Rattle.trac_store.proofs.Places.{stands}
@@ -82,3 +82,22 @@ characters-differ a b i x y in_a in_b is other differs = (
   λ t. absurd (false≢true t),
   λ same. absurd (differs (sym (character-read a i x in_a is) ∙ ap (λ t. get_or t i 0) same ∙ character-read b i y in_b other)),
 )
+
+-- cells that are seen as those of a text
+module _ (cells : List Cell) (text : Text) (shown : map seen cells ≡ flat_text text) where
+  pub shown-bytes : All IsByte cells
+  shown-bytes = bytes-of-seen cells (subst (All IsByte) (sym shown) (bytes-flat text))
+
+  pub shown-text : text_of_cells cells ≡ text
+  shown-text = sym (bytes-seen cells) ∙ ap text_of_cells shown ∙ character_of-Byte text
+
+  pub shown-length : length cells ≡ length text
+  shown-length = sym (length-map cells seen) ∙ ap length shown ∙ length-map text Byte
+
+  -- whether the text is that of a name
+  pub shown-decides : (name : List Cell) (same : Bool) → Decides same (text_of_cells cells ≡ text_of_cells name) → Decides same (text ≡ text_of_cells (map seen name))
+  shown-decides name same is = (λ t. sym shown-text ∙ is.0 t ∙ sym (bytes-seen name), λ e. is.1 (shown-text ∙ e ∙ bytes-seen name))
+
+  -- it is not if the lengths differ
+  pub shown-differs : (name : List Cell) → length cells ≢ length name → text ≢ text_of_cells (map seen name)
+  shown-differs name differs e = differs (shown-length ∙ ap length e ∙ length-map (map seen name) character_of ∙ length-map name seen)

@@ -4,7 +4,7 @@ ghost use Rattle.std.specs.Prelude.{slice_index_or, All, MatchOption, Decides, I
 ghost use Rattle.trac_language.specs.Store.{NoneNamed};
 ghost use Rattle.trac_space.specs.declared.cell.Cell.TheVariants.{Byte};
 ghost use Rattle.trac_space.specs.Cells.{seen};
-ghost use Rattle.trac_space.specs.Texts.{character_of, text_of_cells, IsByte};
+ghost use Rattle.trac_space.specs.Texts.{character_of, flat_text, text_of_cells, IsByte};
 ghost use Rattle.trac_store.specs.Forms.{name_at};
 ghost use Rattle.trac_store.specs.Stored.{forms_in, IsPlace, IsLocated, IsFoundAt, IsAnswer, IsName, AreCellsOfForms};
 ghost use Rattle.trac_store.specs.Stored.{AreTextsOfOneLength};
@@ -16,7 +16,7 @@ use trac_space::{Cell, byte_in};
 
 // Whether two texts of the same length have the same characters.
 #[inline]
-fn is_text(cells: &[Cell], text: &[Cell]) -> bool
+pub(crate) fn is_text(cells: &[Cell], text: &[Cell]) -> bool
     requires { AreTextsOfOneLength cells.now text.now }
     ensures { Decides result (text_of_cells cells.now ≡ text_of_cells text.now) }
 {
@@ -33,7 +33,7 @@ fn is_text(cells: &[Cell], text: &[Cell]) -> bool
 #[inline(always)]
 fn is_text_back(cells: &[Cell], text: &[Cell]) -> bool
     requires { AreTextsOfOneLength cells.now text.now }
-    ensures { Decides result (text_of_cells cells.now ≡ text_of_cells text.now) }
+    ensures { IsTrue result → text_of_cells cells.now ≡ text_of_cells text.now }
 {
     let mut left = text.len();
     while left > 0 {
@@ -88,15 +88,23 @@ impl<'s> FormCells<'s> {
     pub fn is_named(&self, form: Located, name: &[Cell]) -> bool
         requires form { IsLocated self.now form.number form.start }
         requires bytes { All IsByte (map seen name.now) }
-        ensures found { let text = text_of_cells (map seen name.now) in
+        ensures { let text = text_of_cells (map seen name.now) in
             IsTrue result → IsFoundAt self.now text form.number form.start }
-        ensures named { let text = text_of_cells (map seen name.now) in
-            Decides result (name_at self.now form.number ≡ text) }
+    {
+        let cells = self.name_cells(form);
+        cells.len() == name.len() && is_text_back(cells, name)
+    }
+
+    // The cells of the form's name.
+    #[inline(always)]
+    pub(crate) fn name_cells(&self, form: Located) -> &[Cell]
+        requires form { IsLocated self.now form.number form.start }
+        ensures { map seen result.now ≡ flat_text (name_at self.now form.number) }
     {
         let cells = self.cells;
         let start = form.start as usize;
         let len = number_in_head(cells[start]) as usize;
-        len == name.len() && is_text_back(&cells[start + 3..start + 3 + len], name)
+        &cells[start + 3..start + 3 + len]
     }
 
     /// The form with the null name. None if no form has it.

@@ -12,7 +12,7 @@ ghost use Rattle.trac_store.specs.Forms.{name_at};
 ghost use Rattle.trac_store.specs.Stored.{IsAnswer, IsFoundAt};
 ghost use Rattle.trac_store.specs.Index.{hash, slots, IsIndex, IsOpenFor, is_open};
 
-use crate::form_cells::FormCells;
+use crate::form_cells::{FormCells, is_text};
 use crate::form_heads::number;
 use crate::located::Located;
 use std::marker::Model;
@@ -87,7 +87,11 @@ impl<'s> IndexedForms<'s> {
     {
         let slots = 2 * (self.table.len() / 4);
         let start = number(self.table[slots + k as usize]);
-        if self.forms.is_named(Located { number: k, start }, name) {
+        let cells = self.forms.name_cells(Located { number: k, start });
+        if cells.len() != name.len() {
+            return None;
+        }
+        if is_text(cells, name) {
             Some(start)
         } else {
             None

@@ -1,7 +1,5 @@
-use Rattle.trac_forms.proofs.Imports.{◌≡◌, ◌+◌, ◌/◌, ◌<◌, length, take, sym, ap, ◌∙◌, subst, arith, All, Lists, text_of_cells, IsByte, name_at, forms_in, hash, IsIndex, IsOpenFor}
-use Rattle.trac_store.proofs.Finding.{bytes-of-seen, bytes-flat}
-use Rattle.trac_store.proofs.Gaps.{bytes-seen}
-use Rattle.trac_store.proofs.FlatLemmas.{character_of-Byte}
+use Rattle.trac_forms.proofs.Imports.{◌≡◌, ◌+◌, ◌/◌, ◌<◌, length, take, sym, ap, ◌∙◌, subst, arith, Lists, text_of_cells, name_at, forms_in, hash, IsIndex, IsOpenFor}
+use Rattle.trac_store.proofs.Finding.{shown-bytes, shown-text}
 use Rattle.trac_forms.proofs.FormTables.{index-next}
 use Rattle.trac_forms.proofs.index.index_form.Goals as goal
 
@@ -10,7 +8,7 @@ returns-else-not-add-clause-index c =
     let s = c.args.space.now in
     let forms = forms_in s.store in
     let k = c.args.form.number in
-    let name : text_of_cells c.store_part.result.now ≡ name_at forms k = sym (bytes-seen c.store_part.result.now) ∙ ap text_of_cells (c.store_part.ensures ∙ c.heads_of-heads.ensures.name_cells) ∙ character_of-Byte (name_at forms k) in
+    let name : text_of_cells c.store_part.result.now ≡ name_at forms k = shown-text _ _ (c.store_part.ensures ∙ c.heads_of-heads.ensures.name_cells) in
     let number : c.hash-first.result ≡ hash (name_at forms k) = c.hash-first.ensures.value ∙ ap hash name in
     let done = c.if-not-add.ensures.done in
     let index = c.requires.state.index (omega (arith, c.spare_len.ensures.value, c.if-spare_len-eq0.false)) in
@@ -21,4 +19,4 @@ returns-else-not-add-clause-index c =
 
 pub hash-first-requires : goal.hash-first-requires
 hash-first-requires c =
-    bytes-of-seen c.store_part.result.now (subst (All IsByte) (sym (c.store_part.ensures ∙ c.heads_of-heads.ensures.name_cells)) (bytes-flat _))
+    shown-bytes _ _ (c.store_part.ensures ∙ c.heads_of-heads.ensures.name_cells)

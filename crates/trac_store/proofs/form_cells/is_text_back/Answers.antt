@@ -1,5 +1,5 @@
 use Rattle.trac_store.proofs.Imports.{◌≡◌, ℕ, ◌+◌, ◌-◌, ◌<◌, ◌≤◌, List, ◌∷◌, length, drop, get_or, sym, ap, ◌∙◌, arith, length-map, drop_more, character_of, text_of_cells}
-use Rattle.trac_store.proofs.Finding.{character-read, characters-differ}
+use Rattle.trac_store.proofs.Finding.{character-read}
 use Rattle.trac_store.proofs.form_cells.is_text_back.Goals as goal
 
 -- one number more before those that are the same
@@ -13,10 +13,6 @@ same_before a b n some in_a in_b first same =
     ∙ ap (λ c. c ∷ drop (n - 1 + 1) a) first
     ∙ ap (λ cs. get_or b (n - 1) 0 ∷ cs) rest
     ∙ sym (drop_more b (n - 1) 0 (omega arith))
-
-pub returns-then-byte_in : goal.returns-then-byte_in
-returns-then-byte_in c =
-    characters-differ c.args.cells.now c.args.text.now (c.loop-left.left - 1) _ _ (omega (arith, c.requires.same, c.loop-left.invariant.within)) (omega (arith, c.loop-left.invariant.within)) c.byte_in.ensures c.byte_in-in-loop-left.ensures c.if-byte_in.true
 
 pub loop-left-preserved : goal.loop-left-preserved
 loop-left-preserved c =
