@@ -214,7 +214,7 @@ module _ (k n less : ℕ) (name : ℕ → Text) (start : ℕ → ℕ) where
       (started-here next behind ∙ ap (λ b. b - less) (sym (start-there table next behind inside index)))
       (λ j within differs. started-other next j differs)
 
--- another form of the same name at place k, so many cells shorter
+-- another form of the same name at place k, shorter by `less` cells
 module _ (forms : List Form) (k : ℕ) (new : Form) (within : k < length forms) (named : new.name ≡ name_at forms k) (less : ℕ) (shorter : form_cells new + less ≡ form_cells (form_at forms k)) where
   start-before : (j : ℕ) → j ≤ k → start_of (set forms k new) j ≡ start_of forms j
   start-before j order = ap (λ fs. length (flat_forms fs)) (take-set-le j forms k new order)

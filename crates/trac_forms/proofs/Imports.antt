@@ -27,7 +27,7 @@ pub use Rattle.trac_space.specs.declared.cell.Cell.{Cell}
 pub use Rattle.trac_space.specs.declared.cell.Cell.TheVariants.{Byte, Call, Comma, Gap, Head}
 pub use Rattle.trac_store.proofs.Filling.{AreItems, items, plain-items, plain-text}
 pub use Rattle.trac_store.proofs.Finding.{bytes-flat, part-seen}
-pub use Rattle.trac_store.proofs.FlatLemmas.{Byte-character_of, character_of-Byte, count-le, flat_items_of, forms_in-flat, item_of-cell, length-flat, length-flat_form, length-new_form, no_call-flat_forms}
+pub use Rattle.trac_store.proofs.FlatLemmas.{Byte-character_of, character_of-Byte, count-le, flat_items_of, forms_in-flat, item_of-cell, length-flat, length-flat_form, length-new_form}
 pub use Rattle.trac_store.proofs.Gaps.{bytes-seen}
 pub use Rattle.trac_store.proofs.HeadCells.{number-at}
 pub use Rattle.trac_store.proofs.IndexSearch.{index-kept, index-pointer, index-replaced, claimed-kept}
@@ -35,7 +35,7 @@ pub use Rattle.trac_store.proofs.Items.{item-stored}
 pub use Rattle.trac_store.proofs.Places.{Stands, removed-lists, repointed, stands, start_of-set}
 pub use Rattle.trac_store.proofs.Searches.{begins-within, body_len, characters-agree, first-agrees, gaps-agree, last-agrees, texts-agree}
 pub use Rattle.trac_store.proofs.Segments.{flat-segment, regapped, written}
-pub use Rattle.trac_store.proofs.DistinctForms.{NoneNamed-after, form_named-at, form_named-none, without-at, without-none, IsStore-defined, IsStore-push, IsStore-remove, IsStore-set, cells-remove, cells-set, cells-without, defined-last, pointer-within}
+pub use Rattle.trac_store.proofs.DistinctForms.{NoneNamed-after, form_named-at, form_named-none, without-at, without-none, IsStore-push, IsStore-remove, IsStore-set, cells-remove, cells-set, cells-without, defined-last, pointer-within}
 pub use Rattle.trac_store.specs.Arguments.{AreParted, before_comma, parts_between, texts_between}
 pub use Rattle.trac_store.specs.FlatForms.{flat_form, flat_forms, flat_item}
 pub use Rattle.trac_store.specs.Forms.{IsNamedAt, body_at, form_at, name_at}

@@ -35,7 +35,7 @@ among-marked : (a : Bool) (names : List Text) (form : Form) → is_among names (
 among-marked true names form = refl
 among-marked false names form = refl
 
--- that of the first name first
+-- the marks of the first name may be set before those of the others
 pub marks-first : (name : Text) (names : List Text) (forms : List Form) → with_marks (name ∷ names) forms ≡ with_marks names (with_marks (name ∷ []) forms)
 marks-first name names [] = refl
 marks-first name names (form ∷ forms) =

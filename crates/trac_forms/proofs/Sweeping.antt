@@ -1,9 +1,9 @@
 -- The store while the marked forms are taken out of it, in order.
 use Rattle.trac_forms.proofs.Imports.{◌≡◌, ℕ, zero, suc, ◌+◌, ◌-◌, ◌<◌, ◌≤◌, true, false, List, [], ◌∷◌, ◌++◌, length, take, drop, slice_range, slice_get, sym, ap, refl, ◌∙◌, arith, not, append_assoc, append-nil, take-append-drop, length-append, length-drop, length-take-le}
-use Rattle.trac_forms.proofs.Imports.{length_push, take_more, take_at, drop_at, drop-drop, flat_map_more, flat_map-append, length-between, slice_get_past, drop-append-drop, filter-append, Form, Cell, Lists, part-on, flat_form, flat_forms, form_at}
+use Rattle.trac_forms.proofs.Imports.{length_push, take_more, take_at, drop_at, drop-drop, flat_map_more, flat_map-append, length-between, drop-append-drop, filter-append, Form, Cell, Lists, part-on, flat_form, flat_forms, form_at}
 use Rattle.trac_forms.proofs.Imports.{IsMarkedFrom, is_marked, unmarked, forms_in, start_of, head_number, head_at, IsPlace, places, rules, same_lists}
 use Rattle.trac_store.proofs.FlatLemmas.{length-flat_form}
-use Rattle.trac_store.proofs.Places.{Stands, stands}
+use Rattle.trac_store.proofs.Places.{Stands, stands, slice_get-drop}
 
 -- of the first i forms, which end at `from`, those without a mark stand before the gap from a up to
 -- b and behind it, and what stands from `from` on is as it was
@@ -17,13 +17,6 @@ pub record IsSweptTo (old now : Lists) (i a b from kept : ℕ) : Type 0 where
   pub cells : take a now.store ++ slice_range now.store b from ≡ flat_forms (unmarked (take i (forms_in old.store)))
   pub few : kept ≤ i
   pub count : kept ≡ length (unmarked (take i (forms_in old.store)))
-
-slice_get-drop : (n : ℕ) (cells : List Cell) (i : ℕ) → slice_get (drop n cells) i ≡ slice_get cells (n + i)
-slice_get-drop zero cells i = ap (slice_get cells) (omega arith)
-slice_get-drop (suc n) [] i = slice_get_past [] i (omega arith) ∙ sym (slice_get_past [] (suc n + i) (omega arith))
-slice_get-drop (suc n) (cell ∷ cells) i =
-    let e : suc (n + i) ≡ suc n + i = omega arith in
-    slice_get-drop n cells i ∙ ap (slice_get (cell ∷ cells)) e
 
 swept-heads : (was now : List Cell) (from i : ℕ) → drop from now ≡ drop from was → head_at now (from + i) ≡ head_at was (from + i)
 swept-heads was now from i behind =

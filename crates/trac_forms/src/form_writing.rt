@@ -8,7 +8,6 @@ ghost use Rattle.trac_forms.specs.Defining.{AreNameAndText, cells_for};
 ghost use Rattle.trac_store.specs.Index.{IsKept};
 
 use trac_space::{Cell, Part, Space};
-use trac_store::lists_are_bounded;
 
 // Appends the cells of a new form to the store: three head cells, its name and its text, both copied from
 // neutral, and pointer 0. They must fit; the spare list is dropped if they fit only without it.
@@ -22,7 +21,8 @@ pub(crate) fn store_form(space: &mut Space, name: Part, text: Part)
           spare = space.new.spare;
         } }
 {
-    lists_are_bounded(space);
+    // The lists fit in the block.
+    prove!(space.used() <= space.room());
     let need = 3 + (name.to - name.from) + (text.to - text.from);
     space.claim(need);
     let start = space.store_len();
@@ -37,7 +37,8 @@ fn write_form(space: &mut Space, start: u32, name: Part, text: Part)
     ensures { let form = new_form space.old.neutral name.from name.to text.from text.to in
         space.new ≡ record space.old { store = take start space.old.store ++ flat_form form } }
 {
-    lists_are_bounded(space);
+    // The lists fit in the block.
+    prove!(space.used() <= space.room());
     space.write_store(start, Cell::Head(name.to - name.from));
     space.write_store(start + 1, Cell::Head(text.to - text.from));
     space.write_store(start + 2, Cell::Head(0));

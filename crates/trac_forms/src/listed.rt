@@ -14,7 +14,7 @@ use crate::work::Work;
 use std::marker::Model;
 use trac_language::Item;
 use trac_space::Cell;
-use trac_store::{Located, item_of, number_in_head};
+use trac_store::{Located, heads_of, item_of, number_in_head};
 
 /// A form as it stands in the block. You can read it, and not change it.
 #[derive(Drop)]
@@ -179,7 +179,7 @@ impl<'a> Work<'a> {
         requires form { IsLocated self.now.forms form.number form.start }
         ensures { result ≡ form_at self.now.forms form.number }
     {
-        let heads = self.heads(form);
+        let heads = heads_of(&self.space, form);
         let from = form.start + 3 + heads.name;
         StoredForm {
             name: self.space.store_part(form.start + 3, from),

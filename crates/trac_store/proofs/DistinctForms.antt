@@ -8,13 +8,13 @@ pub NoneNamed-push : (name : Text) (forms : List Form) (form : Form) → NoneNam
 NoneNamed-push name [] form h other = (other, tt)
 NoneNamed-push name (f ∷ forms) form h other = (h.0, NoneNamed-push name forms form h.1 other)
 
--- no form before a place has the name, and so up to the next
+-- if no form before a place has the name, nor the one there, none before the next place has it
 pub NoneNamed-more : (name : Text) (forms : List Form) (k : ℕ) → k < length forms → NoneNamed name (take k forms) → (form_at forms k).name ≢ name → NoneNamed name (take (k + 1) forms)
 NoneNamed-more name forms k within h other =
     let more = take_more forms k (record { name = []; body = []; pointer = 0 }) within in
     rw more (NoneNamed-push name (take k forms) (form_at forms k) h other)
 
--- the same of the forms from a place on
+-- if no form from a place up to another has the name, nor the one there, none up to the next place has it
 pub NoneNamed-further : (name : Text) (forms : List Form) (from k : ℕ) → from ≤ k → k < length forms → NoneNamed name (slice_range forms from k) → (form_at forms k).name ≢ name → NoneNamed name (slice_range forms from (k + 1))
 NoneNamed-further name forms from k order within h other =
     let more : k + 1 - from ≡ k - from + 1 = omega (arith, order) in
@@ -124,7 +124,7 @@ changed-at name change (form ∷ forms) (suc k) h at =
     let more = changed-at name change forms k h.2 (record { within = omega (arith, at.within); named = at.named }) in
     rw e (ap (λ fs. form ∷ fs) more)
 
--- the same where no form has the name
+-- if no form has the name, none is found, and the list without that form is the whole list
 pub form_named-none : (name : Text) (forms : List Form) → NoneNamed name forms → form_named name forms ≡ None
 form_named-none name [] h = refl
 form_named-none name (form ∷ forms) h = let e = other_name name form h.0 in rw e (form_named-none name forms h.1)
@@ -151,23 +151,7 @@ NoneNamed-after name (form ∷ forms) h = go (is_named name form) refl (NoneName
     go true e more = subst (λ n. NoneNamed n forms) ((bytes_eq-Decides form.name name).0 e) h.1
     go false e more = (λ same. both_ways (is_named name form) e (same_name name form same), more)
 
-NoneNamed-without_other : (name other : Text) (forms : List Form) → NoneNamed other forms → NoneNamed other (without name forms)
-NoneNamed-without_other name other [] h = tt
-NoneNamed-without_other name other (form ∷ forms) h = go (is_named name form) (NoneNamed-without_other name other forms h.1)
-  where
-    go : (b : Bool) → NoneNamed other (without name forms) → NoneNamed other (if b then forms else form ∷ without name forms)
-    go true more = h.1
-    go false more = (h.0, more)
-
-pub IsStore-without : (name : Text) (forms : List Form) → IsStore forms → IsStore (without name forms)
-IsStore-without name [] h = tt
-IsStore-without name (form ∷ forms) h = go (is_named name form) (IsStore-without name forms h.2)
-  where
-    go : (b : Bool) → IsStore (without name forms) → IsStore (if b then forms else form ∷ without name forms)
-    go true more = h.2
-    go false more = (h.0, NoneNamed-without_other name form.name forms h.1, more)
-
--- and there are no more cells
+-- without the form of a name there are no more cells
 pub cells-without : (name : Text) (forms : List Form) → cells (without name forms) ≤ cells forms
 cells-without name [] = omega arith
 cells-without name (form ∷ forms) = go (is_named name form) (cells-without name forms)
@@ -175,7 +159,3 @@ cells-without name (form ∷ forms) = go (is_named name form) (cells-without nam
     go : (b : Bool) → cells (without name forms) ≤ cells forms → cells (if b then forms else form ∷ without name forms) ≤ cells (form ∷ forms)
     go true more = omega (arith, sum_by-cons form_cells form forms)
     go false more = omega (arith, sum_by-cons form_cells form forms, sum_by-cons form_cells form (without name forms))
-
-pub IsStore-defined : (name text : Text) (forms : List Form) → IsStore forms → IsStore (defined name text forms)
-IsStore-defined name text forms h =
-    IsStore-push (without name forms) (record { name = name; body = items_of text; pointer = 0 }) (IsStore-without name forms h) (NoneNamed-after name forms h) (omega arith)

@@ -1,20 +1,15 @@
 -- What stands where a form begins, in a slice of the whole store.
-use Rattle.trac_store.proofs.Imports.{◌≡◌, ℕ, ◌+◌, ◌-◌, ◌<◌, ◌≤◌, List, length, take, drop, map, All, get_or, slice_range, slice_get, Some, sym, ap, ◌∙◌, subst, arith, option_map, slice_get-map, slice_get-get_or, take-map, drop-map, length-map, get_or-map, length-between}
-use Rattle.trac_store.proofs.Imports.{All-map, Cell, Byte, Head, seen, flat_text, text_of_cells, IsByte, flat_forms, form_at, forms_in, start_of, head_number, Bool, Decides, begins, places}
-use Rattle.trac_store.proofs.FlatLemmas.{Byte-character_of}
+use Rattle.trac_store.proofs.Imports.{◌≡◌, ℕ, ◌+◌, ◌-◌, ◌<◌, ◌≤◌, List, [], ◌∷◌, length, get_or-between, take, drop, map, All, get_or, slice_range, Some, sym, ap, ◌∙◌, subst, arith, take-map, drop-map, length-map, get_or-map, length-between}
+use Rattle.trac_store.proofs.Imports.{All-map, Cell, Byte, Head, seen, flat_text, text_of_cells, character_of, false, false≢true, ◌≢◌, IsByte, flat_forms, form_at, forms_in, start_of, head_number, Bool, Decides, Text, begins, places}
+use Rattle.trac_store.proofs.FlatLemmas.{Byte-character_of, character_of-Byte}
 use Rattle.trac_store.proofs.Gaps.{bytes-seen}
-use Rattle.trac_store.proofs.HeadCells.{seen-head}
-use Rattle.trac_store.proofs.Places.{stands, head_cells}
+use Rattle.trac_store.proofs.HeadCells.{heads-shown}
+use Rattle.trac_store.proofs.Places.{stands}
 
 -- a cell that is seen as a byte is one
 pub byte-seen : (cell : Cell) → IsByte (seen cell) → IsByte cell
 byte-seen (Byte b) h = tt
 byte-seen cell h = h
-
-head-at : (cells : List Cell) (i n : ℕ) → i < length cells → slice_get (map seen cells) i ≡ Some (Head n) → get_or cells i (Byte 0) ≡ Head n
-head-at cells i n within is =
-    let there : Some (seen (get_or cells i (Byte 0))) ≡ Some (Head n) = sym (slice_get-map seen cells i ∙ ap (option_map seen) (slice_get-get_or cells i (Byte 0) within)) ∙ is in
-    seen-head (get_or cells i (Byte 0)) n cc
 
 pub part-seen : (cells : List Cell) (a b : ℕ) → map seen (slice_range cells a b) ≡ slice_range (map seen cells) a b
 part-seen cells a b = sym (take-map seen (b - a) (drop a cells)) ∙ ap (take (b - a)) (sym (drop-map seen a cells))
@@ -33,11 +28,13 @@ begins_at cells k at whole within begins =
     let forms = forms_in store in
     let form = form_at forms k in
     let f = stands forms store k at whole within begins in
-    let heads = head_cells forms store k at whole within begins in
+    let three = heads-shown (slice_range cells at (at + 3)) (length form.name ∷ length form.body ∷ form.pointer ∷ []) (part-seen cells at (at + 3) ∙ f.heads) in
+    let read = λ (i : ℕ) (less : i < 3). sym (get_or-between cells at (at + 3) i (Byte 0) (omega (arith, less))) ∙ ap (λ l. get_or l i (Byte 0)) three in
+    let here : at ≡ at + 0 = omega arith in
     let long : length store ≡ length cells = length-map cells seen in
     record {
-      name_len = head-at cells at (length form.name) (omega (arith, f.end)) heads.0;
-      body_len = head-at cells (at + 1) (length form.body) (omega (arith, f.end)) heads.1;
+      name_len = ap (λ i. get_or cells i (Byte 0)) here ∙ read 0 (omega arith);
+      body_len = read 1 (omega arith);
       end = omega (arith, f.end);
       next = f.next;
       name_part = part-seen cells (at + 3) (at + 3 + length form.name) ∙ f.name_part;
@@ -74,3 +71,33 @@ seen-decides cells text same bytes text_bytes decides = (
   λ t. sym (seen-text cells bytes) ∙ ap flat_text (decides.0 t) ∙ seen-text text text_bytes,
   λ e. decides.1 (sym (bytes-seen cells) ∙ ap text_of_cells e ∙ bytes-seen text),
 )
+
+-- the character at a place of a text, read from its cell
+pub character-read : (cells : List Cell) (i c : ℕ) → i < length cells → c ≡ character_of (get_or cells i (Byte 0)) → get_or (text_of_cells cells) i 0 ≡ c
+character-read cells i c within is = get_or-map character_of cells i (Byte 0) 0 within ∙ sym is
+
+-- texts that differ at a place are not the same
+pub characters-differ : (a b : List Cell) (i x y : ℕ) → i < length a → i < length b → x ≡ character_of (get_or a i (Byte 0)) → y ≡ character_of (get_or b i (Byte 0)) → x ≢ y → Decides false (text_of_cells a ≡ text_of_cells b)
+characters-differ a b i x y in_a in_b is other differs = (
+  λ t. absurd (false≢true t),
+  λ same. absurd (differs (sym (character-read a i x in_a is) ∙ ap (λ t. get_or t i 0) same ∙ character-read b i y in_b other)),
+)
+
+-- cells that are seen as those of a text
+module _ (cells : List Cell) (text : Text) (shown : map seen cells ≡ flat_text text) where
+  pub shown-bytes : All IsByte cells
+  shown-bytes = bytes-of-seen cells (subst (All IsByte) (sym shown) (bytes-flat text))
+
+  pub shown-text : text_of_cells cells ≡ text
+  shown-text = sym (bytes-seen cells) ∙ ap text_of_cells shown ∙ character_of-Byte text
+
+  pub shown-length : length cells ≡ length text
+  shown-length = sym (length-map cells seen) ∙ ap length shown ∙ length-map text Byte
+
+  -- whether the text is that of a name
+  pub shown-decides : (name : List Cell) (same : Bool) → Decides same (text_of_cells cells ≡ text_of_cells name) → Decides same (text ≡ text_of_cells (map seen name))
+  shown-decides name same is = (λ t. sym shown-text ∙ is.0 t ∙ sym (bytes-seen name), λ e. is.1 (shown-text ∙ e ∙ bytes-seen name))
+
+  -- it is not if the lengths differ
+  pub shown-differs : (name : List Cell) → length cells ≢ length name → text ≢ text_of_cells (map seen name)
+  shown-differs name differs e = differs (shown-length ∙ ap length e ∙ length-map (map seen name) character_of ∙ length-map name seen)

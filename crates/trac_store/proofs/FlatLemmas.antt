@@ -1,6 +1,6 @@
 -- Forms as cells and back.
-use Rattle.trac_store.proofs.Imports.{◌≡◌, ℕ, zero, suc, ◌+◌, ◌-◌, ◌≤◌, List, [], ◌∷◌, ◌++◌, length, take, drop, map, refl, sym, ap, ◌∙◌, arith, slice_range, All, get_or, false, append_assoc, length-append, length-map, take_at, drop_at, length-between, All-nil, All-head}
-use Rattle.trac_store.proofs.Imports.{All-tail, All-cons, All-append, All-map, sum_by-cons, Item, Form, items_of, form_cells, cells, Cell, Byte, Head, Lists, is_call, IsNoCall, NoCall, character_of, IsByte, flat_item, flat_form, flat_forms, IsTextPart, part_text, new_form}
+use Rattle.trac_store.proofs.Imports.{◌≡◌, ℕ, zero, suc, ◌+◌, ◌-◌, ◌≤◌, List, [], ◌∷◌, ◌++◌, length, take, drop, map, refl, sym, ap, ◌∙◌, arith, slice_range, All, append_assoc, length-append, length-map, take_at, drop_at, length-between, All-head}
+use Rattle.trac_store.proofs.Imports.{All-tail, sum_by-cons, Item, Form, items_of, form_cells, cells, Cell, Byte, Head, Lists, character_of, IsByte, flat_item, flat_form, flat_forms, IsTextPart, part_text, new_form}
 use Rattle.trac_store.proofs.Imports.{item_of, read_forms, forms_in, places, rules, same_lists}
 use Rattle.trac_language.specs.declared.item.Item.TheVariants as item
 
@@ -88,19 +88,6 @@ pub count-le : (forms : List Form) → length forms ≤ length (flat_forms forms
 count-le [] = omega arith
 count-le (form ∷ forms) = omega (arith, count-le forms, length-append (flat_form form) (flat_forms forms))
 
--- a form has no call mark
-pub no_call-flat_form : (form : Form) → NoCall (flat_form form)
-no_call-flat_form form =
-    let name : NoCall (map Byte form.name) = All-map IsNoCall Byte form.name (λ k d l. refl) in
-    let body : NoCall (map flat_item form.body) = All-map IsNoCall flat_item form.body (λ k d l. item_no_call (get_or form.body k d)) in
-    let texts = All-append IsNoCall (map Byte form.name) (map flat_item form.body) name body in
-    let rest = map Byte form.name ++ map flat_item form.body in
-    All-cons IsNoCall (Head (length form.name)) (Head (length form.body) ∷ Head form.pointer ∷ rest) refl (All-cons IsNoCall (Head (length form.body)) (Head form.pointer ∷ rest) refl (All-cons IsNoCall (Head form.pointer) rest refl texts))
-  where
-    item_no_call : (i : Item) → is_call (flat_item i) ≡ false
-    item_no_call (item.Byte b) = refl
-    item_no_call (item.Gap k) = refl
-
 -- cells put at the end of neutral and moved to the store
 pub moved : (s put after : Lists) (more : List Cell) (from : ℕ) → from ≡ length s.neutral → put ≡ record s { neutral = s.neutral ++ more } → after ≡ record put { store = put.store ++ drop from put.neutral; neutral = take from put.neutral } → after ≡ record s { store = s.store ++ more }
 moved s put after more from len is then =
@@ -117,8 +104,3 @@ moved s put after more from len is then =
 pub length-new_form : (string : List Cell) (a b from to : ℕ) → b ≤ length string → to ≤ length string → form_cells (new_form string a b from to) ≡ 3 + (b - a) + (to - from)
 length-new_form string a b from to name text =
     omega (arith, length-part_text string a b name, length-map (part_text string from to) item.Byte, length-part_text string from to text)
-
--- nor have forms
-pub no_call-flat_forms : (forms : List Form) → NoCall (flat_forms forms)
-no_call-flat_forms [] = All-nil IsNoCall
-no_call-flat_forms (form ∷ forms) = All-append IsNoCall (flat_form form) (flat_forms forms) (no_call-flat_form form) (no_call-flat_forms forms)

@@ -11,10 +11,6 @@ pub bytes-seen : (cells : List Cell) → map character_of (map seen cells) ≡ m
 bytes-seen [] = refl
 bytes-seen (cell ∷ cells) = let e = character-seen cell in let f = bytes-seen cells in rw (e, f)
 
--- the text of cells of which a slice is seen
-pub text-shown : (cells part : List Cell) → map seen cells ≡ part → map character_of cells ≡ map character_of part
-text-shown cells part shown = sym (bytes-seen cells) ∙ ap (map character_of) shown
-
 pub begins-map_seen : (text : List ℕ) (cells : List Cell) → begins_cells text (map seen cells) ≡ begins_cells text cells
 begins-map_seen [] cells = refl
 begins-map_seen (b ∷ text) [] = refl
@@ -61,7 +57,7 @@ segment-first text k (cell ∷ cells) (suc n) none =
     segment-other text k cell cells (none 0 (omega arith) (omega arith))
     ∙ ap (λ l. cell ∷ l) (segment-first text k cells n (λ i above below. none (suc i) (omega arith) (omega (arith, below))))
 
--- and all of them where there is none
+-- all cells stay where the text stands nowhere
 pub segment-none : (text : List ℕ) (k : ℕ) (cells : List Cell) → NonePasses (text_cells_at text cells) 0 (length cells) → segment_cells text k 0 cells ≡ cells
 segment-none text k cells none =
     segment-first text k cells (length cells) none

@@ -1,6 +1,6 @@
 -- Head cells, as a slice of the store holds them.
-use Rattle.trac_store.proofs.Imports.{◌≡◌, ℕ, ◌+◌, ◌<◌, ◌≤◌, List, length, map, get_or, slice_range, slice_get, Option, Some, refl, sym, ap, ◌∙◌, arith, length-map, get_or-map, length-between, get_or-between, option_map, slice_get-map, slice_get-get_or, get_or_from_slice_get, Cell, Byte, Call}
-use Rattle.trac_store.proofs.Imports.{Head, seen, head_number, head_at, IsHeadAt}
+use Rattle.trac_store.proofs.Imports.{◌≡◌, ℕ, ◌+◌, ◌<◌, ◌≤◌, List, [], ◌∷◌, length, map, get_or, slice_range, slice_get, Option, Some, refl, sym, ap, ◌∙◌, arith, length-map, get_or-map, length-between, get_or-between, option_map, slice_get-map, slice_get-get_or, Cell, Byte, Call}
+use Rattle.trac_store.proofs.Imports.{Head, seen, head_number, head_at}
 
 -- a cell that is a number
 pub is_head : (cell : Cell) (n : ℕ) → cell ≡ Head n → cell ≡ Head (head_number (Some cell))
@@ -22,12 +22,15 @@ pub seen-head : (cell : Cell) (n : ℕ) → seen cell ≡ Head n → cell ≡ He
 seen-head (Call mode k) n e = absurd cc
 seen-head cell n e = e
 
--- and so in a slice of a part of it
-pub head-in-part : (list cells : List Cell) (at end i : ℕ) → end ≤ length list → map seen cells ≡ slice_range list at end → at + i < end → IsHeadAt list (at + i) → get_or cells i (Byte 0) ≡ Head (head_number (Some (get_or cells i (Byte 0))))
-head-in-part list cells at end i within shown inside head =
-    let some : i < length cells = omega (arith, inside, length-map cells seen, ap length shown, length-between list at end within) in
-    let there = sym (get_or-map seen cells i (Byte 0) (Byte 0) some) ∙ ap (λ cs. get_or cs i (Byte 0)) shown ∙ get_or-between list at end i (Byte 0) inside ∙ get_or_from_slice_get list (at + i) (Head (head_at list (at + i))) (Byte 0) head in
-    is_head (get_or cells i (Byte 0)) (head_at list (at + i)) (seen-head (get_or cells i (Byte 0)) (head_at list (at + i)) there)
+-- cells that are seen as heads are these
+pub heads-shown : (cells : List Cell) (numbers : List ℕ) → map seen cells ≡ map Head numbers → cells ≡ map Head numbers
+heads-shown [] [] shown = refl
+heads-shown [] (n ∷ numbers) shown = absurd cc
+heads-shown (cell ∷ cells) [] shown = absurd cc
+heads-shown (cell ∷ cells) (n ∷ numbers) shown =
+    let first : seen cell ≡ Head n = cc in
+    let rest : map seen cells ≡ map Head numbers = cc in
+    ap (λ (c : Cell). c ∷ cells) (seen-head cell n first) ∙ ap (λ l. Head n ∷ l) (heads-shown cells numbers rest)
 
 -- what is read of a cell of the slice is what is read of it in the list, where the number of a call mark counts for nothing
 pub read-in-part : (read : Option Cell → ℕ) → ((cell : Cell) → read (Some (seen cell)) ≡ read (Some cell)) → (list cells : List Cell) (at end i : ℕ) → end ≤ length list → map seen cells ≡ slice_range list at end → at + i < end → read (Some (get_or cells i (Byte 0))) ≡ read (slice_get list (at + i))
@@ -39,7 +42,3 @@ read-in-part read same list cells at end i within shown inside =
 
 pub number-in-part : (list cells : List Cell) (at end i : ℕ) → end ≤ length list → map seen cells ≡ slice_range list at end → at + i < end → head_number (Some (get_or cells i (Byte 0))) ≡ head_at list (at + i)
 number-in-part = read-in-part head_number number-seen
-
--- a number that stands at a place
-pub is-head-at : (store : List Cell) (i n : ℕ) → slice_get store i ≡ Some (Head n) → IsHeadAt store i
-is-head-at store i n e = e ∙ sym (ap (λ (o : Option Cell). Some (Head (head_number o))) e)

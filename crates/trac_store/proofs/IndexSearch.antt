@@ -25,7 +25,7 @@ module _ (table : List Cell) (forms : List Form) (name : Text) (index : IsIndex 
       (cases_lt i after))
       (cases_lt after i))
 
-  -- so does the last one
+  -- a search that has looked at all slots ends with none
   pub none-at_end : slots table ≤ i → NoneNamed name forms
   none-at_end past =
       NoneNamed-from name forms (λ k within named.

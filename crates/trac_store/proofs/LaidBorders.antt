@@ -6,7 +6,7 @@ use Rattle.std.proofs.Math.Seq.{map-set_same}
 use Rattle.std.proofs.lemmas.Simd.{map-map}
 use Rattle.trac_store.proofs.TextBorders.{longest-more}
 
--- the borders of so many beginnings are laid, and the cells behind them are as they were
+-- the borders of the first `count` beginnings are laid, and the cells behind them are as they were
 pub record BordersLaid (was now : List Cell) (count border : ℕ) : Type 0 where
   pub under_is : map under now ≡ map under was
   pub behind : drop count now ≡ drop count was
@@ -65,29 +65,6 @@ byte-under was now count same within inside bytes =
     let read : byte_at (laid_text now) count ≡ character_of (under (get_or now count (Byte 0))) = get_or-map (λ c. character_of (under c)) now count (Byte 0) 0 inside in
     is ∙ ap (λ b. Byte b) (sym (read ∙ ap (λ c. character_of (under c)) is))
 
-one-border : (text : List ℕ) → IsLongestBorder text 1 0
-one-border text = record {
-  shorter = omega arith;
-  border = record { within = omega arith; same = λ k below. absurd (omega (arith, below)) };
-  longest = λ c less _. omega (arith, less);
-}
-
-pub laid-first : (was : List Cell) → 0 < length was → All IsByte was → BordersLaid was was 1 0
-laid-first was some bytes =
-    let first : over (get_or was 0 (Byte 0)) ≡ 0 = ap over (character-in was 0 some bytes) in
-    record {
-      under_is = refl;
-      behind = refl;
-      some = omega arith;
-      within = omega (arith, some);
-      borders = λ n more within.
-          let e : n ≡ 1 = omega (arith, more, within) in
-          let e0 : n - 1 ≡ 0 = omega (arith, e) in
-          let zero : over (get_or was (n - 1) (Byte 0)) ≡ 0 = ap (λ k. over (get_or was k (Byte 0))) e0 ∙ first in
-          subst (λ m. IsLongestBorder (laid_text was) m (over (get_or was (n - 1) (Byte 0)))) (sym e) (subst (IsLongestBorder (laid_text was) 1) (sym zero) (one-border (laid_text was)));
-      longest = one-border (laid_text was);
-    }
-
 under-byte : (cell : Cell) → IsByte cell → under cell ≡ cell
 under-byte (Byte b) is = refl
 under-byte cell is = absurd is
@@ -132,22 +109,13 @@ byte-seen Comma b is = cc
 byte-seen (Gap k) b is = cc
 byte-seen (Head n) b is = cc
 
--- the borders of so many beginnings of the text from a up to b are laid
+-- the borders of the first `count` beginnings of the text from a up to b are laid
 pub record BordersUpTo (old now : Lists) (a b count border : ℕ) : Type 0 where
   pub same : now ≡ record old { neutral = now.neutral }
   pub front : take a now.neutral ≡ take a old.neutral
   pub behind : drop b now.neutral ≡ drop b old.neutral
   pub long : length now.neutral ≡ length old.neutral
   pub laid : BordersLaid (slice_range old.neutral a b) (slice_range now.neutral a b) count border
-
-pub up-to-first : (old : Lists) (a b : ℕ) → IsTextPart old.neutral a b → a < b → BordersUpTo old old a b 1 0
-up-to-first old a b part some = record {
-  same = refl;
-  front = refl;
-  behind = refl;
-  long = refl;
-  laid = laid-first (slice_range old.neutral a b) (omega (arith, some, length-between old.neutral a b part.within)) part.bytes;
-}
 
 -- the cell to which a further one comes
 module _ (old now : Lists) (a b count border : ℕ) (part : IsTextPart old.neutral a b) (h : BordersUpTo old now a b count border) (less : count < b - a) (text : List Cell) (shown : map seen text ≡ slice_range now.neutral a b) where
@@ -156,9 +124,6 @@ module _ (old now : Lists) (a b count border : ℕ) (part : IsTextPart old.neutr
 
   now_len : length (slice_range now.neutral a b) ≡ b - a
   now_len = length-between now.neutral a b (omega (arith, part.within, h.long))
-
-  pub text_len : length text ≡ b - a
-  text_len = sym (length-map text seen) ∙ ap length shown ∙ now_len
 
   abbrev here : Cell
   here = get_or (slice_range now.neutral a b) count (Byte 0)
@@ -193,7 +158,7 @@ module _ (old now : Lists) (a b count border : ℕ) (part : IsTextPart old.neutr
         laid = subst (λ l. BordersLaid (slice_range old.neutral a b) l (count + 1) next) (sym slice) (laid-next (slice_range old.neutral a b) (slice_range now.neutral a b) count border next cell h.laid (omega (arith, less, now_len)) (under_is ∙ ap under cell-is) over_is here-is is_here);
       }
 
--- all of them are
+-- the borders of all beginnings are laid
 pub laid-all : (old now : Lists) (a b count border : ℕ) → IsTextPart old.neutral a b → BordersUpTo old now a b count border → b - a ≤ count → AreLaid old.neutral now.neutral a b
 laid-all old now a b count border part h all =
     let was = slice_range old.neutral a b in

@@ -1,19 +1,21 @@
 -- Where forms stand among the cells of a list of forms.
-use Rattle.trac_store.proofs.Imports.{◌≡◌, ℕ, suc, ◌+◌, ◌-◌, ◌<◌, ◌≤◌, List, [], ◌∷◌, ◌++◌, length, take, drop, map, slice_range, slice_get, set, Some, refl, sym, ap, ◌∙◌, arith, remove, drop-append-add, append_assoc, append-nil, length-append, length-map, take-append-drop, drop_more, take_more}
+use Rattle.trac_store.proofs.Imports.{◌≡◌, ℕ, suc, ◌+◌, ◌-◌, ◌<◌, ◌≤◌, List, [], ◌∷◌, ◌++◌, length, take, drop, map, slice_range, slice_get, set, refl, sym, ap, ◌∙◌, arith, remove, slice_get_past, zero, append_assoc, append-nil, length-append, length-map, take-append-drop, drop_more, take_more}
 use Rattle.trac_store.proofs.Imports.{take_at, drop_at, drop-drop, set_split, take-set, set-append_right, flat_map-append, Form, form_cells, Cell, Byte, Head, Lists, flat_text, flat_item, flat_form, flat_forms, form_at, start_of, head_number, head_at}
 use Rattle.trac_store.proofs.FlatLemmas.{length-flat_form}
 
-slice_get-append-add : (xs ys : List Cell) (n : ℕ) → slice_get (xs ++ ys) (length xs + n) ≡ slice_get ys n
-slice_get-append-add [] ys n = ap (slice_get ys) (omega arith)
-slice_get-append-add (x ∷ xs) ys n =
-    let e : suc (length xs) + n ≡ suc (length xs + n) = omega arith in
-    ap (slice_get (x ∷ xs ++ ys)) e ∙ slice_get-append-add xs ys n
+pub slice_get-drop : (n : ℕ) (cells : List Cell) (i : ℕ) → slice_get (drop n cells) i ≡ slice_get cells (n + i)
+slice_get-drop zero cells i = ap (slice_get cells) (omega arith)
+slice_get-drop (suc n) [] i = slice_get_past [] i (omega arith) ∙ sym (slice_get_past [] (suc n + i) (omega arith))
+slice_get-drop (suc n) (cell ∷ cells) i =
+    let e : suc (n + i) ≡ suc n + i = omega arith in
+    slice_get-drop n cells i ∙ ap (slice_get (cell ∷ cells)) e
 
 -- how the cells of a form stand in a store, from place `at` on
 pub record Stands (forms : List Form) (store : List Cell) (k at : ℕ) : Type 0 where
   pub name_len : head_at store at ≡ length (form_at forms k).name
   pub body_len : head_at store (at + 1) ≡ length (form_at forms k).body
   pub pointer : head_at store (at + 2) ≡ (form_at forms k).pointer
+  pub heads : slice_range store at (at + 3) ≡ Head (length (form_at forms k).name) ∷ Head (length (form_at forms k).body) ∷ Head (form_at forms k).pointer ∷ []
   pub next : start_of forms (k + 1) ≡ at + (3 + length (form_at forms k).name + length (form_at forms k).body)
   pub end : at + (3 + length (form_at forms k).name + length (form_at forms k).body) ≤ length store
   pub split : store ≡ flat_forms (take k forms) ++ (flat_form (form_at forms k) ++ flat_forms (drop (k + 1) forms))
@@ -43,18 +45,18 @@ module _ (forms : List Form) (store : List Cell) (k at : ℕ) (whole : flat_form
       let here : drop k forms ≡ form ∷ drop (k + 1) forms = drop_more forms k (record { name = []; body = []; pointer = 0 }) within in
       sym whole ∙ ap flat_forms (sym (take-append-drop k forms)) ∙ flat_map-append flat_form (take k forms) (drop k forms) ∙ ap (λ fs. front ++ flat_forms fs) here
 
+  behind_front : drop at store ≡ flat_form form ++ rest
+  behind_front = ap (drop at) split ∙ drop_at front (flat_form form ++ rest) at (sym begins)
+
   read : (i : ℕ) → slice_get store (at + i) ≡ slice_get (flat_form form ++ rest) i
-  read i =
-      let e : at + i ≡ length front + i = omega (arith, begins) in
-      ap (slice_get store) e ∙ ap (λ cells. slice_get cells (length front + i)) split ∙ slice_get-append-add front (flat_form form ++ rest) i
+  read i = sym (slice_get-drop at store i) ∙ ap (λ cells. slice_get cells i) behind_front
 
   at_is : at ≡ at + 0
   at_is = omega arith
 
   behind_heads : drop (at + 3) store ≡ flat_text form.name ++ (map flat_item form.body ++ rest)
   behind_heads =
-      let e : at + 3 ≡ length front + 3 = omega (arith, begins) in
-      rw (e, split) (drop-append-add front (flat_form form ++ rest) 3 ∙ append_assoc (flat_text form.name) (map flat_item form.body) rest)
+      sym (drop-drop 3 at store) ∙ ap (drop 3) behind_front ∙ append_assoc (flat_text form.name) (map flat_item form.body) rest
 
   behind_name : drop (at + 3 + length form.name) store ≡ map flat_item form.body ++ rest
   behind_name =
@@ -69,6 +71,7 @@ module _ (forms : List Form) (store : List Cell) (k at : ℕ) (whole : flat_form
 
   pub stands : Stands forms store k at
   stands =
+      let three : at + 3 - at ≡ 3 = omega arith in
       let name_size : at + 3 + length form.name - (at + 3) ≡ length form.name = omega arith in
       let body_size : at + 3 + length form.name + length form.body - (at + 3 + length form.name) ≡ length form.body = omega arith in
       let end : at + (3 + length form.name + length form.body) ≡ at + 3 + length form.name + length form.body = omega arith in
@@ -76,6 +79,7 @@ module _ (forms : List Form) (store : List Cell) (k at : ℕ) (whole : flat_form
         name_len = ap (head_at store) at_is ∙ ap head_number (read 0);
         body_len = ap head_number (read 1);
         pointer = ap head_number (read 2);
+        heads = ap (λ n. take n (drop at store)) three ∙ ap (take 3) behind_front;
         next = next_start;
         end = omega (arith, next_start, start_of-le forms (k + 1), ap length whole);
         split = split;
@@ -85,10 +89,6 @@ module _ (forms : List Form) (store : List Cell) (k at : ℕ) (whole : flat_form
         behind = ap (λ i. drop i store) end ∙ sym (drop-drop (length form.body) (at + 3 + length form.name) store)
             ∙ ap (drop (length form.body)) behind_name ∙ drop_at (map flat_item form.body) rest (length form.body) (length-map form.body flat_item);
       }
-
-  -- the cells with the lengths and the pointer
-  pub head_cells : (slice_get store at ≡ Some (Head (length form.name))) × (slice_get store (at + 1) ≡ Some (Head (length form.body))) × (slice_get store (at + 2) ≡ Some (Head form.pointer))
-  head_cells = (ap (slice_get store) at_is ∙ read 0, read 1, read 2)
 
 -- the cells without one form
 pub removed : (forms : List Form) (store : List Cell) (k at : ℕ) → Stands forms store k at → take at store ++ drop (at + (3 + length (form_at forms k).name + length (form_at forms k).body)) store ≡ flat_forms (remove forms k)

@@ -56,7 +56,7 @@ module _ (cells : List Cell) (items : List Item) (same : map seen cells ≡ map 
   pub characters-agree : (k : ℕ) → k < length items → byte_cell_at cells k ≡ character_at items k
   characters-agree k below = sym (tested-seen (get_or cells k Comma)) ∙ ap is_byte_cell (cell_at k below) ∙ byte-flat (get_or items k (item.Byte 0))
 
--- and those of items where the items do
+-- a text stands among the cells of items where it stands among the items
 pub texts-agree : (cells : List Cell) (items : List Item) (text : Text) → cells ≡ map flat_item items → (k : ℕ) → text_cells_at text cells k ≡ text_at text items k
 texts-agree cells items text same k =
     ap (λ l. begins_cells text (drop k l)) same ∙ ap (begins_cells text) (drop-map flat_item k items) ∙ begins-flat text (drop k items)

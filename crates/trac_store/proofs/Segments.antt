@@ -24,11 +24,6 @@ pub flat-segment : (text : Text) (k : ℕ) (items : List Item) → map flat_item
 flat-segment [] k items = refl
 flat-segment (c ∷ text) k items = flat-segment_after zero (c ∷ text) k items
 
--- with a text that isn't null
-pub segmented-some : (text : Text) (k : ℕ) (cells : List Cell) → 0 < length text → segmented_cells text k cells ≡ segment_cells text k 0 cells
-segmented-some [] k cells some = absurd (omega arith)
-segmented-some (c ∷ text) k cells some = refl
-
 -- what two writes to the store leave
 pub written : (s t u v : Lists) (store : List Cell) (i j : ℕ) (a b : Cell) → t ≡ record s { store = store } → u ≡ record t { store = set t.store i a } → v ≡ record u { store = set u.store j b } → v ≡ record s { store = set (set store i a) j b }
 written s t u v store i j a b first second third =

@@ -1,11 +1,6 @@
 -- Changes of a table of forms.
-use Rattle.trac_store.proofs.Imports.{◌≡◌, ◌≢◌, ℕ, ◌+◌, ◌-◌, ◌*◌, ◌/◌, ◌<◌, ◌≤◌, false, List, length, set, sym, ap, ◌∙◌, arith, ⊎_elim, inl, inr, subst, ◌⊎◌, bit_and, and_le_r, cases_lt, length-set, get_or-set_same, get_or-set_other, Text, Cell, Byte, Comma, Head, hash, quarter, slots, slot}
-use Rattle.trac_store.proofs.Imports.{cell_at, start_place, home_place, is_blank, IsReached, IsEntry, HasEntry, IsHeld, IsIndexBut, with_entry, begins, reads}
-
-pub same_or : (a b : ℕ) → (a ≡ b) ⊎ (a ≢ b)
-same_or a b =
-    ⊎_elim (λ below. inr (λ e. absurd (omega (arith, below, e))))
-    (λ past. ⊎_elim (λ below. inr (λ e. absurd (omega (arith, below, e)))) (λ past2. inl (omega (arith, past, past2))) (cases_lt b a)) (cases_lt a b)
+use Rattle.trac_store.proofs.Imports.{◌≡◌, ◌≢◌, ℕ, ◌+◌, ◌-◌, ◌*◌, ◌/◌, ◌<◌, ◌≤◌, false, List, length, set, sym, ap, ◌∙◌, arith, ⊎_elim, subst, bit_and, and_le_r, cases_eq, length-set, get_or-set_same, get_or-set_other, Text, Cell, Byte, Comma, Head, hash, quarter, slots, slot}
+use Rattle.trac_store.proofs.Imports.{cell_at, start_place, home_place, is_blank, IsReached, IsEntry, HasEntry, IsIndexBut, with_entry, begins, reads}
 
 -- a slot that is looked at is one of the slots
 pub slot-within : (table : List Cell) (number i : ℕ) → 0 < slots table → slot table number i < slots table
@@ -17,19 +12,33 @@ reached-within table number s after r = omega (arith, r.slot_is, r.within, slot-
 pub head-same : (a b : ℕ) → Head a ≡ Head b → a ≡ b
 head-same a b e = cc
 
+-- an entry of a changed table, at the places that it had before
+record IsEntryThen (table now : List Cell) (name : Text) (start k s after : ℕ) : Type 0 where
+  reached : IsReached table (hash name) s after
+  held : cell_at now s ≡ Head k
+  begins : cell_at now (start_place table k) ≡ Head start
+  home : cell_at now (home_place table k) ≡ Head s
+
+abbrev HasEntryThen : List Cell → List Cell → Text → ℕ → ℕ → Type 0
+HasEntryThen table now name start k = (s : ℕ) × ((after : ℕ) × IsEntryThen table now name start k s after)
+
+then-entry : (table now : List Cell) (name : Text) (start k s after : ℕ) → IsReached table (hash name) s after → cell_at now s ≡ Head k → cell_at now (start_place table k) ≡ Head start → cell_at now (home_place table k) ≡ Head s → HasEntryThen table now name start k
+then-entry table now name start k s after reached held begins home =
+    (s, (after, record { reached = reached; held = held; begins = begins; home = home }))
+
 -- a table of as many cells whose slots are blank in no further place
 module _ (table now : List Cell) (long : length now ≡ length table) (full : (x : ℕ) → x < slots table → is_blank (cell_at table x) ≡ false → is_blank (cell_at now x) ≡ false) where
-  pub slots-same : slots now ≡ slots table
+  slots-same : slots now ≡ slots table
   slots-same = ap (λ n. 2 * (n / 4)) long
-
-  pub quarter-same : quarter now ≡ quarter table
-  quarter-same = ap (λ n. n / 4) long
 
   slot-same : (number i : ℕ) → slot now number i ≡ slot table number i
   slot-same number i = ap (λ n. bit_and (number + i) (n - 1)) slots-same
 
-  pub reached-kept : (number s after : ℕ) → IsReached table number s after → IsReached now number s after
-  reached-kept number s after r = record {
+  home-same : (k : ℕ) → home_place now k ≡ home_place table k
+  home-same k = ap (λ n. 2 * (n / 4) + n / 4 + k) long
+
+  reached-now : (number s after : ℕ) → IsReached table number s after → IsReached now number s after
+  reached-now number s after r = record {
     within = omega (arith, r.within, slots-same);
     slot_is = r.slot_is ∙ sym (slot-same number after);
     before = λ i less.
@@ -37,13 +46,23 @@ module _ (table now : List Cell) (long : length now ≡ length table) (full : (x
         ∙ full (slot table number i) (slot-within table number i (omega (arith, r.within))) (r.before i less);
   }
 
-  -- an entry whose three cells are as they were
-  pub entry-kept : (name : Text) (start k s after : ℕ) → IsEntry table name start k s after → cell_at now s ≡ cell_at table s → cell_at now (start_place table k) ≡ cell_at table (start_place table k) → cell_at now (home_place table k) ≡ cell_at table (home_place table k) → IsEntry now name start k s after
-  entry-kept name start k s after e held begins home = record {
-    reached = reached-kept (hash name) s after e.reached;
-    held = held ∙ e.held;
-    begins = ap (λ n. cell_at now (n + k)) slots-same ∙ begins ∙ e.begins;
-    home = ap (λ n. cell_at now (n + quarter now + k)) slots-same ∙ ap (λ n. cell_at now (slots table + n + k)) quarter-same ∙ home ∙ e.home;
+  -- the changed table is one of the forms if each has its entry, and each number in a slot is that of one
+  index-now : (n gap : ℕ) (name : ℕ → Text) (start : ℕ → ℕ) → n ≤ quarter table → ((k : ℕ) → k < n → k ≢ gap → HasEntryThen table now (name k) (start k) k) → ((s k : ℕ) → s < slots table → cell_at now s ≡ Head k → (k < n) × (k ≢ gap) × (cell_at now (home_place table k) ≡ Head s)) → IsIndexBut now n gap name start
+  index-now n gap name start fits all only = record {
+    roomy = omega (arith, fits, ap (λ n. n / 4) long);
+    all = λ k within there.
+        let h = all k within there in
+        let e = h.1.1 in
+        let entry : IsEntry now (name k) (start k) k h.0 h.1.0 = record {
+          reached = reached-now (hash (name k)) h.0 h.1.0 e.reached;
+          held = e.held;
+          begins = ap (λ n. cell_at now (n + k)) slots-same ∙ e.begins;
+          home = ap (cell_at now) (home-same k) ∙ e.home;
+        } in
+        (h.0, (h.1.0, entry));
+    only = λ s k s_in is.
+        let h = only s k (omega (arith, s_in, slots-same)) is in
+        record { within = h.0; there = h.1; home = ap (cell_at now) (home-same k) ∙ h.2 };
   }
 
 -- the cells of a table with one entry more
@@ -60,89 +79,63 @@ module _ (table : List Cell) (s k start : ℕ) (s_in : s < slots table) (k_in : 
   entry-home : cell_at (with_entry table s k start) (home_place table k) ≡ Head s
   entry-home = grind (arith, reads)
 
-  entry-other : (x : ℕ) → x ≢ s → x ≢ start_place table k → x ≢ home_place table k → cell_at (with_entry table s k start) x ≡ cell_at table x
-  entry-other x a b c = grind (arith, reads)
-
   -- a slot is changed only where the entry is
   entry-other_slot : (x : ℕ) → x < slots table → x ≢ s → cell_at (with_entry table s k start) x ≡ cell_at table x
-  entry-other_slot x x_in differs = entry-other x differs (λ e. absurd (omega (arith, e, x_in))) (λ e. absurd (omega (arith, e, x_in)))
+  entry-other_slot x x_in differs = grind (arith, reads)
 
   entry-other_start : (j : ℕ) → j < quarter table → j ≢ k → cell_at (with_entry table s k start) (start_place table j) ≡ cell_at table (start_place table j)
-  entry-other_start j j_in differs = entry-other (start_place table j) (λ e. absurd (omega (arith, e, s_in))) (λ e. differs (omega (arith, e))) (λ e. absurd (omega (arith, e, j_in)))
+  entry-other_start j j_in differs = grind (arith, reads)
 
   entry-other_home : (j : ℕ) → j < quarter table → j ≢ k → cell_at (with_entry table s k start) (home_place table j) ≡ cell_at table (home_place table j)
-  entry-other_home j j_in differs = entry-other (home_place table j) (λ e. absurd (omega (arith, e, s_in))) (λ e. absurd (omega (arith, e, k_in))) (λ e. differs (omega (arith, e)))
+  entry-other_home j j_in differs = grind (arith, reads)
 
   entry-full : (x : ℕ) → x < slots table → is_blank (cell_at table x) ≡ false → is_blank (cell_at (with_entry table s k start) x) ≡ false
   entry-full x x_in full =
-      ⊎_elim (λ e. ap (λ y. is_blank (cell_at (with_entry table s k start) y)) e ∙ ap is_blank entry-slot) (λ differs. ap is_blank (entry-other_slot x x_in differs) ∙ full) (same_or x s)
+      ⊎_elim (λ e. ap (λ y. is_blank (cell_at (with_entry table s k start) y)) e ∙ ap is_blank entry-slot) (λ differs. ap is_blank (entry-other_slot x x_in differs) ∙ full) (cases_eq x s)
 
 -- an entry at the gap, in a slot that no other form has then; form k may leave its own slot for that
 module _ (table : List Cell) (n g s n2 g2 : ℕ) (name name2 : ℕ → Text) (start start2 : ℕ → ℕ) (index : IsIndexBut table n g name start) (g_in : g < n2) (apart : g ≢ g2) (fits : n2 ≤ quarter table) (olds : (k : ℕ) → k < n2 → k ≢ g2 → k ≢ g → (k < n) × (name2 k ≡ name k) × (start2 k ≡ start k)) (news : (k : ℕ) → k < n → k ≢ g → cell_at table (home_place table k) ≢ Head s → (k < n2) × (k ≢ g2)) (free : (k : ℕ) → k < n2 → k ≢ g2 → k ≢ g → cell_at table s ≢ Head k) (after : ℕ) (reached : IsReached table (hash (name2 g)) s after) where
   s_in : s < slots table
   s_in = reached-within table (hash (name2 g)) s after reached
 
-  new_all : (k : ℕ) → k < n2 → k ≢ g2 → HasEntry (with_entry table s g (start2 g)) (name2 k) (start2 k) k
+  g_fits : g < quarter table
+  g_fits = omega (arith, g_in, fits)
+
+  abbrev now : List Cell
+  now = with_entry table s g (start2 g)
+
+  new_all : (k : ℕ) → k < n2 → k ≢ g2 → HasEntryThen table now (name2 k) (start2 k) k
   new_all k within there =
-      let g_fits : g < quarter table = omega (arith, g_in, fits) in
-      let now = with_entry table s g (start2 g) in
-      let size = long table s g (start2 g) s_in g_fits in
-      let full = entry-full table s g (start2 g) s_in g_fits in
       ⊎_elim
-      (λ e. subst (λ j. HasEntry now (name2 j) (start2 j) j) (sym e) (
-        s,
-        (
-          after,
-          record {
-            reached = reached-kept table now size full (hash (name2 g)) s after reached;
-            held = entry-slot table s g (start2 g) s_in g_fits;
-            begins = ap (λ n. cell_at now (n + g)) (slots-same table now size full) ∙ entry-start table s g (start2 g) s_in g_fits;
-            home = ap (λ n. cell_at now (n + quarter now + g)) (slots-same table now size full) ∙ ap (λ n. cell_at now (slots table + n + g)) (quarter-same table now size full) ∙ entry-home table s g (start2 g) s_in g_fits;
-          },
-        ),
-      ))
+      (λ e. subst (λ j. HasEntryThen table now (name2 j) (start2 j) j) (sym e) (then-entry table now (name2 g) (start2 g) g s after reached (entry-slot table s g (start2 g) s_in g_fits) (entry-start table s g (start2 g) s_in g_fits) (entry-home table s g (start2 g) s_in g_fits)))
       (λ differs.
       let o = olds k within there differs in
       let old = index.all k o.0 differs in
       let e = old.1.1 in
       let k_fits : k < quarter table = omega (arith, within, fits) in
       let apart2 : old.0 ≢ s = λ same. free k within there differs (ap (cell_at table) (sym same) ∙ e.held) in
-      let kept = entry-kept table now size full (name k) (start k) k old.0 old.1.0 e (entry-other_slot table s g (start2 g) s_in g_fits old.0 (reached-within table (hash (name k)) old.0 old.1.0 e.reached) apart2) (entry-other_start table s g (start2 g) s_in g_fits k k_fits differs) (entry-other_home table s g (start2 g) s_in g_fits k k_fits differs) in
-      let named = subst (λ t. HasEntry now t (start k) k) (sym o.1) (old.0, (old.1.0, kept)) in
-      subst (λ b. HasEntry now (name2 k) b k) (sym o.2) named)
-      (same_or k g)
+      then-entry table now (name2 k) (start2 k) k old.0 old.1.0
+      (subst (λ t. IsReached table (hash t) old.0 old.1.0) (sym o.1) e.reached)
+      (entry-other_slot table s g (start2 g) s_in g_fits old.0 (reached-within table (hash (name k)) old.0 old.1.0 e.reached) apart2 ∙ e.held)
+      (entry-other_start table s g (start2 g) s_in g_fits k k_fits differs ∙ e.begins ∙ ap (λ b. Head b) (sym o.2))
+      (entry-other_home table s g (start2 g) s_in g_fits k k_fits differs ∙ e.home))
+      (cases_eq k g)
 
-  new_only : (x k : ℕ) → x < slots (with_entry table s g (start2 g)) → cell_at (with_entry table s g (start2 g)) x ≡ Head k → IsHeld (with_entry table s g (start2 g)) n2 g2 k x
+  new_only : (x k : ℕ) → x < slots table → cell_at now x ≡ Head k → (k < n2) × (k ≢ g2) × (cell_at now (home_place table k) ≡ Head x)
   new_only x k x_in is =
-      let g_fits : g < quarter table = omega (arith, g_in, fits) in
-      let now = with_entry table s g (start2 g) in
-      let size = long table s g (start2 g) s_in g_fits in
-      let full = entry-full table s g (start2 g) s_in g_fits in
-      let less : x < slots table = omega (arith, x_in, slots-same table now size full) in
-      let home_is = λ (j : ℕ). ap (λ n. cell_at now (n + quarter now + j)) (slots-same table now size full) ∙ ap (λ n. cell_at now (slots table + n + j)) (quarter-same table now size full) in
       ⊎_elim
       (λ e.
       let same : k ≡ g = head-same k g (sym is ∙ ap (cell_at now) e ∙ entry-slot table s g (start2 g) s_in g_fits) in
-      subst (λ j. IsHeld now n2 g2 j x) (sym same) (record {
-        within = g_in;
-        there = apart;
-        home = home_is g ∙ entry-home table s g (start2 g) s_in g_fits ∙ ap (λ n. Head n) (sym e);
-      }))
+      subst (λ j. (j < n2) × (j ≢ g2) × (cell_at now (home_place table j) ≡ Head x)) (sym same) (g_in, apart, entry-home table s g (start2 g) s_in g_fits ∙ ap (λ n. Head n) (sym e)))
       (λ differs.
-      let old = index.only x k less (sym (entry-other_slot table s g (start2 g) s_in g_fits x less differs) ∙ is) in
+      let old = index.only x k x_in (sym (entry-other_slot table s g (start2 g) s_in g_fits x x_in differs) ∙ is) in
       let more = news k old.within old.there (λ e. differs (head-same x s (sym old.home ∙ e))) in
-      record {
-        within = more.0;
-        there = more.1;
-        home = home_is k ∙ entry-other_home table s g (start2 g) s_in g_fits k (omega (arith, more.0, fits)) old.there ∙ old.home;
-      })
-      (same_or x s)
+      (more.0, more.1, entry-other_home table s g (start2 g) s_in g_fits k (omega (arith, more.0, fits)) old.there ∙ old.home))
+      (cases_eq x s)
 
   pub index-put : IsIndexBut (with_entry table s g (start2 g)) n2 g2 name2 start2
   index-put =
-      let g_fits : g < quarter table = omega (arith, g_in, fits) in
-      let same = quarter-same table _ (long table s g (start2 g) s_in g_fits) (entry-full table s g (start2 g) s_in g_fits) in
-      record { roomy = omega (arith, fits, same); all = new_all; only = new_only }
+      index-now table now (long table s g (start2 g) s_in g_fits) (entry-full table s g (start2 g) s_in g_fits) n2 g2 name2 start2 fits new_all new_only
 
 -- the slot of a form is left to none
 module _ (table : List Cell) (n k s after : ℕ) (name : ℕ → Text) (start : ℕ → ℕ) (index : IsIndexBut table n n name start) (within : k < n) (entry : IsEntry table (name k) (start k) k s after) where
@@ -157,37 +150,30 @@ module _ (table : List Cell) (n k s after : ℕ) (name : ℕ → Text) (start : 
 
   bury_full : (x : ℕ) → x < slots table → is_blank (cell_at table x) ≡ false → is_blank (cell_at (set table s Comma) x) ≡ false
   bury_full x x_in full =
-      ⊎_elim (λ e. ap (λ y. is_blank (cell_at (set table s Comma) y)) e ∙ ap is_blank bury_same) (λ differs. ap is_blank (bury_other x differs) ∙ full) (same_or x s)
+      ⊎_elim (λ e. ap (λ y. is_blank (cell_at (set table s Comma) y)) e ∙ ap is_blank bury_same) (λ differs. ap is_blank (bury_other x differs) ∙ full) (cases_eq x s)
 
   comma-head : (j : ℕ) → Comma ≡ Head j → ⊥
   comma-head j e = absurd cc
 
   pub index-bury : IsIndexBut (set table s Comma) n k name start
   index-bury =
-      let now = set table s Comma in
-      let size = length-set table s Comma in
-      let same = slots-same table now size bury_full in
-      let quarters = quarter-same table now size bury_full in
-      record {
-        roomy = omega (arith, index.roomy, quarters);
-        all = λ j less differs.
-            let old = index.all j less (λ e. absurd (omega (arith, e, less))) in
-            let e = old.1.1 in
-            let apart : old.0 ≢ s = λ same. differs (head-same j k (sym e.held ∙ ap (cell_at table) same ∙ entry.held)) in
-            (old.0, (old.1.0, entry-kept table now size bury_full (name j) (start j) j old.0 old.1.0 e (bury_other old.0 apart) (bury_other (start_place table j) (λ f. absurd (omega (arith, f, slot_in)))) (bury_other (home_place table j) (λ f. absurd (omega (arith, f, slot_in))))));
-        only = λ x j x_in is.
-            let less : x < slots table = omega (arith, x_in, same) in
-            ⊎_elim
-            (λ e. absurd (comma-head j (sym bury_same ∙ ap (cell_at now) (sym e) ∙ is)))
-            (λ differs.
-            let old = index.only x j less (sym (bury_other x differs) ∙ is) in
-            record {
-              within = old.within;
-              there = λ f. differs (head-same x s (sym old.home ∙ ap (λ i. cell_at table (home_place table i)) f ∙ entry.home));
-              home = ap (λ n. cell_at now (n + quarter now + j)) same ∙ ap (λ n. cell_at now (slots table + n + j)) quarters ∙ bury_other (home_place table j) (λ f. absurd (omega (arith, f, slot_in))) ∙ old.home;
-            })
-            (same_or x s);
-      }
+      index-now table _ (length-set table s Comma) bury_full n k name start index.roomy
+      (λ j less differs.
+      let old = index.all j less (λ e. absurd (omega (arith, e, less))) in
+      let e = old.1.1 in
+      let apart : old.0 ≢ s = λ same. differs (head-same j k (sym e.held ∙ ap (cell_at table) same ∙ entry.held)) in
+      then-entry table _ (name j) (start j) j old.0 old.1.0 e.reached (bury_other old.0 apart ∙ e.held)
+      (bury_other (start_place table j) (λ f. absurd (omega (arith, f, slot_in))) ∙ e.begins)
+      (bury_other (home_place table j) (λ f. absurd (omega (arith, f, slot_in))) ∙ e.home))
+      (λ x j x_in is. ⊎_elim
+      (λ e. absurd (comma-head j (sym bury_same ∙ ap (cell_at (set table s Comma)) (sym e) ∙ is)))
+      (λ differs.
+      let old = index.only x j x_in (sym (bury_other x differs) ∙ is) in (
+        old.within,
+        λ f. differs (head-same x s (sym old.home ∙ ap (λ i. cell_at table (home_place table i)) f ∙ entry.home)),
+        bury_other (home_place table j) (λ f. absurd (omega (arith, f, slot_in))) ∙ old.home,
+      ))
+      (cases_eq x s))
 
 -- a form begins elsewhere
 module _ (table : List Cell) (n k begin : ℕ) (name : ℕ → Text) (start start2 : ℕ → ℕ) (index : IsIndexBut table n n name start) (within : k < n) (here : start2 k ≡ begin) (others : (j : ℕ) → j < n → j ≢ k → start2 j ≡ start j) where
@@ -203,43 +189,24 @@ module _ (table : List Cell) (n k begin : ℕ) (name : ℕ → Text) (start star
   begin_home : (j : ℕ) → cell_at (set table (start_place table k) (Head begin)) (home_place table j) ≡ cell_at table (home_place table j)
   begin_home j = begin_other (home_place table j) (λ e. absurd (omega (arith, e, within, index.roomy)))
 
+  begin_begins : (j : ℕ) → j < n → cell_at table (start_place table j) ≡ Head (start j) → cell_at (set table (start_place table k) (Head begin)) (start_place table j) ≡ Head (start2 j)
+  begin_begins j less begins =
+      ⊎_elim
+      (λ e. ap (λ i. cell_at (set table (start_place table k) (Head begin)) (start_place table i)) e ∙ begin_same ∙ ap (λ n. Head n) (sym here ∙ ap start2 (sym e)))
+      (λ differs. begin_other (start_place table j) (λ e. differs (omega (arith, e))) ∙ begins ∙ ap (λ n. Head n) (sym (others j less differs)))
+      (cases_eq j k)
+
   pub index-begin : IsIndexBut (set table (start_place table k) (Head begin)) n n name start2
   index-begin =
-      let now = set table (start_place table k) (Head begin) in
-      let size = length-set table (start_place table k) (Head begin) in
-      let same = slots-same table now size begin_full in
-      let quarters = quarter-same table now size begin_full in
-      record {
-        roomy = omega (arith, index.roomy, quarters);
-        all = λ j less there.
-            let old = index.all j less there in
-            let e = old.1.1 in
-            let s_in = reached-within table (hash (name j)) old.0 old.1.0 e.reached in
-            let held = begin_other old.0 (λ f. absurd (omega (arith, f, s_in))) in
-            ⊎_elim
-            (λ f. (
-              old.0,
-              (
-                old.1.0,
-                record {
-                  reached = reached-kept table now size begin_full (hash (name j)) old.0 old.1.0 e.reached;
-                  held = held ∙ e.held;
-                  begins = ap (λ n. cell_at now (n + j)) same ∙ ap (λ i. cell_at now (start_place table i)) f ∙ begin_same ∙ ap (λ n. Head n) (sym here ∙ ap start2 (sym f));
-                  home = ap (λ n. cell_at now (n + quarter now + j)) same ∙ ap (λ n. cell_at now (slots table + n + j)) quarters ∙ begin_home j ∙ e.home;
-                },
-              ),
-            ))
-            (λ differs. subst (λ b. HasEntry now (name j) b j) (sym (others j less differs)) (old.0, (old.1.0, entry-kept table now size begin_full (name j) (start j) j old.0 old.1.0 e held (begin_other (start_place table j) (λ f. differs (omega (arith, f)))) (begin_home j))))
-            (same_or j k);
-        only = λ x j x_in is.
-            let less : x < slots table = omega (arith, x_in, same) in
-            let old = index.only x j less (sym (begin_other x (λ e. absurd (omega (arith, e, less)))) ∙ is) in
-            record {
-              within = old.within;
-              there = old.there;
-              home = ap (λ n. cell_at now (n + quarter now + j)) same ∙ ap (λ n. cell_at now (slots table + n + j)) quarters ∙ begin_home j ∙ old.home;
-            };
-      }
+      index-now table _ (length-set table (start_place table k) (Head begin)) begin_full n n name start2 index.roomy
+      (λ j less there.
+      let old = index.all j less there in
+      let e = old.1.1 in
+      let s_in = reached-within table (hash (name j)) old.0 old.1.0 e.reached in
+      then-entry table _ (name j) (start2 j) j old.0 old.1.0 e.reached (begin_other old.0 (λ f. absurd (omega (arith, f, s_in))) ∙ e.held) (begin_begins j less e.begins) (begin_home j ∙ e.home))
+      (λ x j x_in is.
+      let old = index.only x j x_in (sym (begin_other x (λ e. absurd (omega (arith, e, x_in)))) ∙ is) in
+      (old.within, old.there, begin_home j ∙ old.home))
 
 -- the same forms, under other words
 pub index-as : (table : List Cell) (n g n2 g2 : ℕ) (name name2 : ℕ → Text) (start start2 : ℕ → ℕ) → n2 ≤ quarter table → ((k : ℕ) → k < n2 → k ≢ g2 → (k < n) × (k ≢ g) × (name2 k ≡ name k) × (start2 k ≡ start k)) → ((k : ℕ) → k < n → k ≢ g → (k < n2) × (k ≢ g2)) → IsIndexBut table n g name start → IsIndexBut table n2 g2 name2 start2

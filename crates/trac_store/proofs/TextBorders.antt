@@ -80,7 +80,7 @@ not-true : (b : Bool) → (b ≡ true → ⊥) → b ≡ false
 not-true true never = absurd (never refl)
 not-true false never = refl
 
--- so many characters of the text stand before the place, and it stands nowhere before them
+-- the first `matched` characters of the text stand before place i, and it stands nowhere before them
 pub record Searched (text : List ℕ) (cells : List Cell) (from i matched : ℕ) : Type 0 where
   pub order : from + matched ≤ i
   pub stands : StandsAt text cells (i - matched) matched

@@ -9,7 +9,6 @@ use Rattle.trac_space.specs.declared.cell.Cell.TheVariants.{Byte, Call, Comma, G
 use Rattle.trac_space.specs.Cells.{seen}
 use Rattle.trac_store.specs.Forms.{name_at}
 use Rattle.trac_store.specs.FlatForms.{flat_forms}
-use Rattle.trac_store.specs.Stored.{forms_in}
 
 -- the characters of a name mixed into a number of 64 bits
 abbrev pub mixed : Text → ℕ
@@ -163,9 +162,7 @@ abbrev pub HasStartsFrom : List Cell → ℕ → ℕ → ℕ → Type 0
 HasStartsFrom table k n less =
     (name : ℕ → Text) × ((start : ℕ → ℕ) × StartsFrom table k n less name start)
 
--- the cells are those of forms and nothing else, and the table is an index of these forms
-pub record AreIndexedCells (cells table : List Cell) : Type 0 where
-  pub whole : flat_forms (forms_in (map seen cells)) ≡ map seen cells
-  pub bounded : length cells ≤ 16777216
+-- the table is an index of the forms, and no longer than a block
+pub record IsTableOf (forms : List Form) (table : List Cell) : Type 0 where
   pub few : length table ≤ 16777216
-  pub index : IsIndex (map seen table) (forms_in (map seen cells))
+  pub index : IsIndex (map seen table) forms

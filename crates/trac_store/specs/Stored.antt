@@ -51,6 +51,12 @@ pub record IsName (cells : List Cell) : Type 0 where
   pub bytes : All IsByte (map seen cells)
   pub some : 0 < length cells
 
+-- the cells are those of two texts of the same length
+pub record AreTextsOfOneLength (cells text : List Cell) : Type 0 where
+  pub cell_bytes : All IsByte cells
+  pub bytes : All IsByte text
+  pub same : length cells ≡ length text
+
 -- where form k begins among the cells of the forms
 abbrev pub start_of : List Form → ℕ → ℕ
 start_of forms k = length (flat_forms (take k forms))

@@ -7,7 +7,6 @@ ghost use Rattle.trac_store.specs.Gaps.{text_cells_at};
 ghost use Rattle.trac_store.specs.Parts.{IsTextPart};
 ghost use Rattle.trac_store.specs.Search.{NonePasses, IsFirst};
 
-use crate::bound::lists_are_bounded;
 use crate::gap_making::is_same_byte;
 use trac_space::{Cell, Part, Space, cell_under, laid, number_over};
 
@@ -61,7 +60,8 @@ pub(crate) fn lay_borders(space: &mut Space, part: Part)
     ensures laid { AreLaid space.old.neutral space.new.neutral part.from part.to }
     ensures same { space.new ≡ record space.old { neutral = space.new.neutral } }
 {
-    lists_are_bounded(space);
+    // The lists fit in the block.
+    prove!(space.used() <= space.room());
     let mut border = 0;
     for count in 1..part.to - part.from {
         let text = space.neutral_part(part.from, part.to);

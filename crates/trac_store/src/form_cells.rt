@@ -4,8 +4,10 @@ ghost use Rattle.std.specs.Prelude.{slice_index_or, All, MatchOption, Decides, I
 ghost use Rattle.trac_language.specs.Store.{NoneNamed};
 ghost use Rattle.trac_space.specs.declared.cell.Cell.TheVariants.{Byte};
 ghost use Rattle.trac_space.specs.Cells.{seen};
-ghost use Rattle.trac_space.specs.Texts.{character_of, text_of_cells, IsByte};
+ghost use Rattle.trac_space.specs.Texts.{character_of, flat_text, text_of_cells, IsByte};
+ghost use Rattle.trac_store.specs.Forms.{name_at};
 ghost use Rattle.trac_store.specs.Stored.{forms_in, IsPlace, IsLocated, IsFoundAt, IsAnswer, IsName, AreCellsOfForms};
+ghost use Rattle.trac_store.specs.Stored.{AreTextsOfOneLength};
 
 use crate::form_heads::number_in_head;
 use crate::located::{FIRST_FORM, Located};
@@ -15,9 +17,7 @@ use trac_space::{Cell, byte_in};
 // Whether two texts of the same length have the same characters.
 #[inline]
 pub(crate) fn is_text(cells: &[Cell], text: &[Cell]) -> bool
-    requires cell_bytes { All IsByte cells.now }
-    requires bytes { All IsByte text.now }
-    requires same { length cells.now ≡ length text.now }
+    requires { AreTextsOfOneLength cells.now text.now }
     ensures { Decides result (text_of_cells cells.now ≡ text_of_cells text.now) }
 {
     for i in 0..text.len() {
@@ -32,9 +32,7 @@ pub(crate) fn is_text(cells: &[Cell], text: &[Cell]) -> bool
 // differ there.
 #[inline(always)]
 fn is_text_back(cells: &[Cell], text: &[Cell]) -> bool
-    requires cell_bytes { All IsByte cells.now }
-    requires bytes { All IsByte text.now }
-    requires same { length cells.now ≡ length text.now }
+    requires { AreTextsOfOneLength cells.now text.now }
     ensures { IsTrue result → text_of_cells cells.now ≡ text_of_cells text.now }
 {
     let mut left = text.len();
@@ -93,10 +91,20 @@ impl<'s> FormCells<'s> {
         ensures { let text = text_of_cells (map seen name.now) in
             IsTrue result → IsFoundAt self.now text form.number form.start }
     {
+        let cells = self.name_cells(form);
+        cells.len() == name.len() && is_text_back(cells, name)
+    }
+
+    // The cells of the form's name.
+    #[inline(always)]
+    pub(crate) fn name_cells(&self, form: Located) -> &[Cell]
+        requires form { IsLocated self.now form.number form.start }
+        ensures { map seen result.now ≡ flat_text (name_at self.now form.number) }
+    {
         let cells = self.cells;
         let start = form.start as usize;
         let len = number_in_head(cells[start]) as usize;
-        len == name.len() && is_text_back(&cells[start + 3..start + 3 + len], name)
+        &cells[start + 3..start + 3 + len]
     }
 
     /// The form with the null name. None if no form has it.

@@ -1,12 +1,13 @@
 //! Reads the heads of forms, the three cells before a form's name, and the items of their bodies.
-ghost use Rattle.std.specs.Prelude.{◌≡◌, ◌+◌, ◌≤◌, length, Some};
+ghost use Rattle.std.specs.Prelude.{◌≡◌, ◌+◌, ◌≤◌, length, map, slice_range, Some};
 ghost use Rattle.trac_space.specs.declared.cell.Cell.TheVariants.{Head};
+ghost use Rattle.trac_space.specs.Texts.{flat_text};
+ghost use Rattle.trac_store.specs.FlatForms.{flat_item};
 ghost use Rattle.trac_store.specs.Forms.{name_at, body_at, pointer_at};
 ghost use Rattle.trac_store.specs.Stored.{AreForms, IsLocated, forms_in, head_number, head_at};
 ghost use Rattle.trac_store.specs.Stored.{start_of};
 ghost use Rattle.trac_store.specs.Stored.{stored_item, item_of};
 
-use crate::bound::lists_are_bounded;
 use crate::located::Located;
 use trac_language::Item;
 use trac_space::{Cell, Space};
@@ -40,7 +41,8 @@ pub fn tested_heads(space: &Space, start: u32) -> Heads
     ensures body { result.body ≡ head_at space.now.store (start + 1) }
     ensures pointer { result.pointer ≡ head_at space.now.store (start + 2) }
 {
-    lists_are_bounded(space);
+    // The lists fit in the block.
+    prove!(space.used() <= space.room());
     let cells = space.store_part(start, start + 3);
     Heads {
         name: number(cells[0]),
@@ -49,7 +51,8 @@ pub fn tested_heads(space: &Space, start: u32) -> Heads
     }
 }
 
-/// The three head numbers of a form whose place is known. The cells are read without a test.
+/// The three head numbers of a form whose place is known. The cells are read without a test. Behind them
+/// stand the name and the body, and behind these the next form.
 #[inline]
 pub fn heads_of(space: &Space, form: Located) -> Heads
     requires forms { AreForms space.now.store }
@@ -57,6 +60,15 @@ pub fn heads_of(space: &Space, form: Located) -> Heads
     ensures name { result.name ≡ length (name_at (forms_in space.now.store) form.number) }
     ensures body { result.body ≡ length (body_at (forms_in space.now.store) form.number) }
     ensures pointer { result.pointer ≡ pointer_at (forms_in space.now.store) form.number }
+    ensures next { let end = form.start + 3 + result.name + result.body in
+        start_of (forms_in space.now.store) (form.number + 1) ≡ end }
+    ensures within { form.start + 3 + result.name + result.body ≤ length space.now.store }
+    ensures name_cells { let at = form.start + 3 in
+        slice_range space.now.store at (at + result.name)
+        ≡ flat_text (name_at (forms_in space.now.store) form.number) }
+    ensures body_cells { let at = form.start + 3 + result.name in
+        slice_range space.now.store at (at + result.body)
+        ≡ map flat_item (body_at (forms_in space.now.store) form.number) }
 {
     let cells = space.store_part(form.start, form.start + 3);
     Heads {

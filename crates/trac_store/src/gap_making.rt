@@ -8,7 +8,6 @@ ghost use Rattle.trac_store.specs.Gaps.{is_byte, text_cells_at, segment_cells, s
 ghost use Rattle.trac_store.specs.Search.{NonePasses, IsFirst};
 
 use crate::borders::{first_place, lay_borders};
-use crate::bound::lists_are_bounded;
 use trac_space::{Cell, Part, Space};
 
 // Whether `cell` is a character, the one that `byte` holds.
@@ -35,7 +34,8 @@ fn next_place(space: &Space, body: Part, text: Part) -> Option<u32>
         (λ place. (body.from ≤ place) × (place + (text.to - text.from) ≤ body.to)
         × IsFirst (text_cells_at bytes cells) 0 (length cells) (place - body.from)) }
 {
-    lists_are_bounded(space);
+    // The lists fit in the block.
+    prove!(space.used() <= space.room());
     let cells = space.store_part(body.from, body.to);
     match first_place(cells, 0, space.neutral_part(text.from, text.to)) {
         Some(place) => Some(body.from + place),
@@ -58,7 +58,8 @@ fn make_gaps(space: &mut Space, body: Part, text: Part, ordinal: u32) -> u32
         result ≡ body.from + length gapped }
     ensures shorter { result ≤ body.to }
 {
-    lists_are_bounded(space);
+    // The lists fit in the block.
+    prove!(space.used() <= space.room());
     let to = body.to;
     let mut read = body.from;
     let mut write = body.from;

@@ -13,7 +13,7 @@ ghost use Rattle.trac_store.specs.Stored.{IsAnswer, IsFoundAt};
 ghost use Rattle.trac_store.specs.Index.{hash, slots, IsIndex, IsOpenFor, is_open};
 
 use crate::form_cells::{FormCells, is_text};
-use crate::form_heads::{number, number_in_head};
+use crate::form_heads::number;
 use crate::located::Located;
 use std::marker::Model;
 use trac_space::{Cell, byte_in};
@@ -39,40 +39,23 @@ pub fn hash(name: &[Cell]) -> usize
     (number / 0x1_0000_0000) as usize
 }
 
-// Whether the `len` cells from place `from` on are the text.
-#[inline]
-fn is_name(cells: &[Cell], from: usize, len: usize, text: &[Cell]) -> bool
-    requires within { from + len ≤ length cells.now }
-    requires part_bytes { All IsByte (map seen (slice_range cells.now from (from + len))) }
-    requires bytes { All IsByte (map seen text.now) }
-    ensures { Decides result
-        (map seen (slice_range cells.now from (from + len)) ≡ map seen text.now) }
-{
-    if len != text.len() {
-        return false;
-    }
-    is_text(&cells[from..from + len], text)
-}
-
 /// The cells of forms, one form behind the other, and the table by which a form is found from its name.
 #[derive(Drop)]
 pub struct IndexedForms<'s> {
-    cells: &'s [Cell],
+    forms: FormCells<'s>,
     table: &'s [Cell],
 }
 
 impl<'s> Model for IndexedForms<'s> {
-    ghost use Rattle.std.specs.Prelude.{List, map};
+    ghost use Rattle.std.specs.Prelude.{List};
     ghost use Rattle.trac_language.specs.Form.{Form};
-    ghost use Rattle.trac_space.specs.Cells.{seen};
-    ghost use Rattle.trac_store.specs.Stored.{forms_in};
-    ghost use Rattle.trac_store.specs.Index.{AreIndexedCells};
+    ghost use Rattle.trac_store.specs.Index.{IsTableOf};
 
     ghost Value = { List Form };
 
-    ghost view = { λ f. forms_in (map seen f.cells.now) };
+    ghost view = { λ f. f.forms };
 
-    ghost invariant = { λ f. AreIndexedCells f.cells.now f.table.now };
+    ghost invariant = { λ f. IsTableOf f.forms f.table.now };
 }
 
 impl<'s> IndexedForms<'s> {
@@ -84,7 +67,10 @@ impl<'s> IndexedForms<'s> {
         ensures { result ≡ forms.now }
     {
         IndexedForms {
-            cells: forms.cells,
+            forms: FormCells {
+                cells: forms.cells,
+                count: forms.count,
+            },
             table,
         }
     }
@@ -99,12 +85,13 @@ impl<'s> IndexedForms<'s> {
             (name_at self.now k ≢ text)
             (λ start. IsFoundAt self.now text k start) }
     {
-        let cells = self.cells;
         let slots = 2 * (self.table.len() / 4);
         let start = number(self.table[slots + k as usize]);
-        let at = start as usize + 3;
-        let len = number_in_head(cells[at - 3]) as usize;
-        if is_name(cells, at, len, name) {
+        let cells = self.forms.name_cells(Located { number: k, start });
+        if cells.len() != name.len() {
+            return None;
+        }
+        if is_text(cells, name) {
             Some(start)
         } else {
             None

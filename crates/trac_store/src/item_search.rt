@@ -8,7 +8,6 @@ ghost use Rattle.trac_store.specs.Search.{IsLast};
 ghost use Rattle.trac_store.specs.Gaps.{is_gap_cell, gap_cell_at, text_cells_at};
 
 use crate::borders::{first_place, lay_borders};
-use crate::bound::lists_are_bounded;
 use trac_space::{Cell, Part, Space, is_character};
 
 // Whether the cell is a gap.
@@ -86,7 +85,8 @@ pub fn find_text(space: &mut Space, body: Part, from: u32, part: Part) -> Option
         (λ place. IsFirst (text_cells_at text cells) from (length cells) place) }
     ensures same { space.new ≡ space.old }
 {
-    lists_are_bounded(space);
+    // The lists fit in the block.
+    prove!(space.used() <= space.room());
     lay_borders(space, part);
     let text = space.neutral_part(part.from, part.to);
     let found = first_place(space.store_part(body.from, body.to), from, text);

@@ -11,7 +11,6 @@
 
 mod arguments;
 mod borders;
-mod bound;
 mod form_cells;
 mod form_heads;
 mod gap_making;
@@ -21,7 +20,6 @@ mod item_search;
 mod located;
 
 pub use arguments::before_comma;
-pub use bound::lists_are_bounded;
 pub use form_cells::{FormCells, find_between_by_call, find_from_last};
 pub use form_heads::{
     Heads, end_of, head, heads_of, item_in, item_of, number, number_in_head, tested_heads,

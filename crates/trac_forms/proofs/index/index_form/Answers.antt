@@ -1,37 +1,15 @@
-use Rattle.trac_forms.proofs.Imports.{◌≡◌, ◌+◌, ◌/◌, ◌<◌, length, take, slice_range, sym, ap, ◌∙◌, subst, arith, All, Lists, text_of_cells, IsByte, form_at, forms_in, hash, IsIndex, IsOpenFor}
-use Rattle.trac_store.proofs.Finding.{bytes-of-seen, bytes-flat}
-use Rattle.trac_store.proofs.Gaps.{bytes-seen}
-use Rattle.trac_store.proofs.FlatLemmas.{character_of-Byte}
-use Rattle.trac_store.proofs.Places.{stands}
+use Rattle.trac_forms.proofs.Imports.{◌≡◌, ◌+◌, ◌/◌, ◌<◌, length, take, sym, ap, ◌∙◌, subst, arith, Lists, text_of_cells, name_at, forms_in, hash, IsIndex, IsOpenFor}
+use Rattle.trac_store.proofs.Finding.{shown-bytes, shown-text}
 use Rattle.trac_forms.proofs.FormTables.{index-next}
 use Rattle.trac_forms.proofs.index.index_form.Goals as goal
-
-pub overflow_add-from : goal.overflow_add-from
-overflow_add-from c =
-    let f = stands _ _ _ _ c.requires.state.forms.whole c.requires.some c.requires.state.place.start_is in
-    omega (arith, f.end, c.requires.state.forms.bounded)
-
-pub overflow_add-to : goal.overflow_add-to
-overflow_add-to c =
-    let f = stands _ _ _ _ c.requires.state.forms.whole c.requires.some c.requires.state.place.start_is in
-    omega (arith, f.end, f.name_len, c.heads_of-heads.ensures.name, c.requires.state.forms.bounded)
-
-pub store_part-requires-clause-within : goal.store_part-requires-clause-within
-store_part-requires-clause-within c =
-    let f = stands _ _ _ _ c.requires.state.forms.whole c.requires.some c.requires.state.place.start_is in
-    omega (arith, f.end, f.name_len, c.heads_of-heads.ensures.name)
 
 pub returns-else-not-add-clause-index : goal.returns-else-not-add-clause-index
 returns-else-not-add-clause-index c =
     let s = c.args.space.now in
     let forms = forms_in s.store in
     let k = c.args.form.number in
-    let f = stands forms s.store k c.args.form.start c.requires.state.forms.whole c.requires.some c.requires.state.place.start_is in
-    let form = form_at forms k in
-    let len : c.heads_of-heads.result.name ≡ length form.name = c.heads_of-heads.ensures.name in
-    let part = c.store_part.ensures ∙ ap (λ n. slice_range s.store (c.args.form.start + 3) (c.args.form.start + 3 + n)) len ∙ f.name_part in
-    let name : text_of_cells c.store_part.result.now ≡ form.name = sym (bytes-seen c.store_part.result.now) ∙ ap text_of_cells part ∙ character_of-Byte form.name in
-    let number : c.hash-first.result ≡ hash form.name = c.hash-first.ensures.value ∙ ap hash name in
+    let name : text_of_cells c.store_part.result.now ≡ name_at forms k = shown-text _ _ (c.store_part.ensures ∙ c.heads_of-heads.ensures.name_cells) in
+    let number : c.hash-first.result ≡ hash (name_at forms k) = c.hash-first.ensures.value ∙ ap hash name in
     let done = c.if-not-add.ensures.done in
     let index = c.requires.state.index (omega (arith, c.spare_len.ensures.value, c.if-spare_len-eq0.false)) in
     let place = subst (λ n. IsOpenFor s.spare n done.0) number done.1 in
@@ -41,9 +19,4 @@ returns-else-not-add-clause-index c =
 
 pub hash-first-requires : goal.hash-first-requires
 hash-first-requires c =
-    let s = c.args.space.now in
-    let f = stands (forms_in s.store) s.store c.args.form.number c.args.form.start c.requires.state.forms.whole c.requires.some c.requires.state.place.start_is in
-    let form = form_at (forms_in s.store) c.args.form.number in
-    let len : c.heads_of-heads.result.name ≡ length form.name = c.heads_of-heads.ensures.name in
-    let part = c.store_part.ensures ∙ ap (λ n. slice_range s.store (c.args.form.start + 3) (c.args.form.start + 3 + n)) len ∙ f.name_part in
-    bytes-of-seen c.store_part.result.now (subst (All IsByte) (sym part) (bytes-flat form.name))
+    shown-bytes _ _ (c.store_part.ensures ∙ c.heads_of-heads.ensures.name_cells)

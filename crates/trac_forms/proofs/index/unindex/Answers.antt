@@ -73,10 +73,7 @@ loop-next-preserved c =
       index = subst (λ g. IsIndexBut now (length forms) g (names_now forms k g) (starts_now forms k g)) e2 (subst (λ t. IsIndexBut t (length forms) next (names_now forms k next) (starts_now forms k next)) (sym is) here);
     }
 
-pub returns : goal.returns
-returns c =
+pub returns-clause-index : goal.returns-clause-index
+returns-clause-index c =
     let forms = forms_in c.args.space.now.store in
-    record {
-      same = c.loop-next.invariant.same;
-      index = λ _. index-removed forms c.args.form.number c.requires.form.within c.loop-next.space.spare (c.loop-next.next - 1) (omega (arith, c.loop-next.auto.next, c.loop-next.auto.next-end, c.loop-next-test.false, c.requires.form.within, c.requires.forms.count_is)) c.loop-next.invariant.index;
-    }
+    λ _. index-removed forms c.args.form.number c.requires.form.within c.loop-next.space.spare (c.loop-next.next - 1) (omega (arith, c.loop-next.auto.next, c.loop-next.auto.next-end, c.loop-next-test.false, c.requires.form.within, c.requires.forms.count_is)) c.loop-next.invariant.index

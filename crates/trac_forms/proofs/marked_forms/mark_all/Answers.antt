@@ -49,16 +49,12 @@ loop-from-preserved c =
           ∙ i.marks;
     }
 
-pub returns : goal.returns
-returns c =
+pub returns-clause-marked : goal.returns-clause-marked
+returns-clause-marked c =
     let s = c.loop-from.space in
     let i = c.loop-from.invariant in
     let old = c.args.space.now in
     let none = ap (part_texts s.neutral) (parts-none s.neutral c.loop-from.from c.args.names.to (omega (arith, c.loop-from-test.false))) in
     let forms : forms_in s.store ≡ with_marks (texts_between old.neutral c.args.names.from c.args.names.to) (forms_in old.store) =
     sym (ap (λ texts. with_marks texts (forms_in s.store)) none ∙ marks-none (forms_in s.store)) ∙ i.marks in
-    record {
-      marked = i.same ∙ ap (λ cells. record old { store = cells; spare = s.spare }) (sym i.marking.formed.kept.has.forms.whole ∙ ap flat_forms forms);
-      first = i.marking.first;
-      index = i.marking.formed.kept.has.index;
-    }
+    i.same ∙ ap (λ cells. record old { store = cells; spare = s.spare }) (sym i.marking.formed.kept.has.forms.whole ∙ ap flat_forms forms)

@@ -1,10 +1,7 @@
 use Rattle.trac_store.proofs.Imports.{◌<◌, ◌-◌, ◌∙◌, ap, arith, is_call}
 use Rattle.trac_space.specs.Overlay.{takes_number}
-use Rattle.trac_store.proofs.LaidBorders.{up-to-first, up-to-next, text-borders, cell-is, here-is, in-neutral, laid-all}
+use Rattle.trac_store.proofs.LaidBorders.{up-to-next, text-borders, cell-is, here-is, in-neutral, laid-all}
 use Rattle.trac_store.proofs.borders.lay_borders.Goals as goal
-
-pub loop-count-init : goal.loop-count-init
-loop-count-init c = up-to-first c.args.space.now c.args.part.from c.args.part.to c.requires.text_part c.requires.some
 
 pub next_border-border-requires-clause-borders : goal.next_border-border-requires-clause-borders
 next_border-border-requires-clause-borders c =

@@ -1,4 +1,5 @@
-use Rattle.trac_store.proofs.Imports.{◌≡◌, ℕ, ◌+◌, ◌-◌, ◌<◌, ◌≤◌, List, ◌∷◌, length, drop, get_or, sym, ap, ◌∙◌, arith, length-map, get_or-map, drop_more, drop_all, Cell, Byte, character_of, text_of_cells}
+use Rattle.trac_store.proofs.Imports.{◌≡◌, ℕ, ◌+◌, ◌-◌, ◌<◌, ◌≤◌, List, ◌∷◌, length, drop, get_or, sym, ap, ◌∙◌, arith, length-map, drop_more, character_of, text_of_cells}
+use Rattle.trac_store.proofs.Finding.{character-read}
 use Rattle.trac_store.proofs.form_cells.is_text_back.Goals as goal
 
 -- one number more before those that are the same
@@ -13,32 +14,15 @@ same_before a b n some in_a in_b first same =
     ∙ ap (λ cs. get_or b (n - 1) 0 ∷ cs) rest
     ∙ sym (drop_more b (n - 1) 0 (omega arith))
 
--- the character at a place
-read : (cells : List Cell) (i c : ℕ) → i < length cells →
-    c ≡ character_of (get_or cells i (Byte 0)) → get_or (text_of_cells cells) i 0 ≡ c
-read cells i c within is = get_or-map character_of cells i (Byte 0) 0 within ∙ sym is
-
-pub loop-left-init : goal.loop-left-init
-loop-left-init c =
-    let b = c.args.text.now in
-    let la = length-map c.args.cells.now character_of in
-    let lb = length-map b character_of in
-    let none_a = drop_all (length b) (text_of_cells c.args.cells.now) (omega (arith, la, c.requires.same)) in
-    let none_b = drop_all (length b) (text_of_cells b) (omega (arith, lb)) in
-    record { within = omega arith; same = none_a ∙ sym none_b }
-
 pub loop-left-preserved : goal.loop-left-preserved
 loop-left-preserved c =
     let a = c.args.cells.now in
     let b = c.args.text.now in
     let n = c.loop-left.left in
     let within = c.loop-left.invariant.within in
-    let other = c.byte_in-in-loop-left in
-    let ra = read a (n - 1) c.byte_in.result (omega (arith, c.requires.same)) c.byte_in.ensures in
-    let rb = read b (n - 1) other.result (omega arith) other.ensures in
-    let in_a : n ≤ length (text_of_cells a) =
-    omega (arith, length-map a character_of, c.requires.same) in
+    let ra = character-read a (n - 1) _ (omega (arith, c.requires.same)) c.byte_in.ensures in
+    let rb = character-read b (n - 1) _ (omega arith) c.byte_in-in-loop-left.ensures in
+    let in_a : n ≤ length (text_of_cells a) = omega (arith, length-map a character_of, c.requires.same) in
     let in_b : n ≤ length (text_of_cells b) = omega (arith, length-map b character_of) in
-    let first = ra ∙ c.if-byte_in.false ∙ sym rb in
-    let before = same_before (text_of_cells a) (text_of_cells b) n (omega arith) in_a in_b first in
+    let before = same_before (text_of_cells a) (text_of_cells b) n (omega arith) in_a in_b (ra ∙ c.if-byte_in.false ∙ sym rb) in
     record { within = omega arith; same = before c.loop-left.invariant.same }

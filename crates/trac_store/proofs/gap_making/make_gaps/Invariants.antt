@@ -1,7 +1,7 @@
 use Rattle.trac_store.proofs.Imports.{◌≡◌, ◌-◌, ◌≤◌, ◌++◌, length, take, drop, slice_range, laid_text, segment_cells}
 use Rattle.trac_store.proofs.gap_making.make_gaps.Given as goal
 
--- so many cells are read, and their gaps stand
+-- the cells before `read` are read, and their gaps stand
 abbrev pub invariant-loop-place : goal.invariant-loop-place
 invariant-loop-place l = record {
   others : l.space ≡ record l.initial.space { store = l.space.store };

@@ -1,4 +1,4 @@
-use Rattle.trac_store.proofs.Imports.{◌++◌, map, take, drop, slice_range, ap, ◌∙◌, List, Cell, Lists, under}
+use Rattle.trac_store.proofs.Imports.{slice_range, ap, ◌∙◌, Lists}
 use Rattle.trac_store.proofs.LaidBorders.{shown-borders, shown-text}
 use Rattle.trac_store.proofs.Searches.{first-seen}
 use Rattle.trac_store.proofs.item_search.find_text.Goals as goal
@@ -12,10 +12,3 @@ returns-clause-found c =
     let store = c.store_part.ensures ∙ ap (λ (l : Lists). slice_range l.store c.args.body.from c.args.body.to) c.lay_borders.ensures.same in
     let text = shown-text c.args.space.now.neutral c.lay_borders.new.space.neutral c.neutral_part-text.result.now c.args.part.from c.args.part.to c.requires.text_part.within c.lay_borders.ensures.laid c.neutral_part-text.ensures in
     first-seen c.first_place-found.result c.store_part.result.now _ _ _ c.args.from store text c.first_place-found.ensures
-
-pub returns-clause-same : goal.returns-clause-same
-returns-clause-same c =
-    let laid = c.lay_borders.ensures in
-    c.lift_neutral.ensures
-    ∙ ap (λ (l : Lists). record l { neutral = take c.args.part.from c.lay_borders.new.space.neutral ++ map under (slice_range c.lay_borders.new.space.neutral c.args.part.from c.args.part.to) ++ drop c.args.part.to c.lay_borders.new.space.neutral }) laid.same
-    ∙ ap (λ (cells : List Cell). record c.args.space.now { neutral = cells }) laid.laid.numbers

@@ -1,4 +1,4 @@
-use Rattle.trac_forms.proofs.Imports.{◌+◌, ◌≤◌, length, arith, refl, length-map, All-map, Byte, bytes, IsByte, claimed-kept}
+use Rattle.trac_forms.proofs.Imports.{◌+◌, ◌≤◌, length, arith, length-map, All-map, Byte, bytes, IsByte, claimed-kept}
 use Rattle.trac_space.specs.Lists as lists
 use Rattle.trac_forms.proofs.Strings.{used-stored, before-active}
 use Rattle.trac_forms.proofs.work.Work.load_bytes.Goals as goal
@@ -17,10 +17,6 @@ invariant_of-self c =
     let fits = rw (← c.self.view_is) at c.requires in
     let room : lists.used s + length (bytes text) ≤ s.room = omega (arith, length-map text Byte) in
     before-active _ s c.claim.new.self _ _ _ _ (bytes text) (claimed-kept (length text) s) c.self.invariant (All-map IsByte Byte text (λ k d l. tt)) room c.claim.ensures.same c.load_bytes.ensures
-
-pub returns-clause-loaded : goal.returns-clause-loaded
-returns-clause-loaded c =
-    rw (← c.self.view_is, c.load_bytes.ensures, c.claim.ensures.same) refl
 
 pub returns-clause-sound : goal.returns-clause-sound
 returns-clause-sound c = (invariant_of-self c).sound

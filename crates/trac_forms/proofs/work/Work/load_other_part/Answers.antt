@@ -8,12 +8,6 @@ returns-then-free-b-clause-loaded c =
     let used = used-stored c.self.inside.space c.self.invariant.forms.whole in
     rw (← c.self.view_is) (λ e. cc, λ fits. absurd (omega arith))
 
-pub load_from_neutral-requires-clause-within : goal.load_from_neutral-requires-clause-within
-load_from_neutral-requires-clause-within c =
-    let part = rw (← c.self.view_is) at c.requires in
-    let within = part.within in
-    rw c.claim.ensures.same within
-
 pub invariant_of-self : goal.invariant_of-self
 invariant_of-self c =
     let s = c.self.inside.space in
@@ -31,10 +25,6 @@ pub returns-clause-loaded : goal.returns-clause-loaded
 returns-clause-loaded c =
     let used = used-stored c.self.inside.space c.self.invariant.forms.whole in
     rw (← c.self.view_is) (λ e. omega arith, λ fits. refl)
-
-pub returns-clause-first : goal.returns-clause-first
-returns-clause-first c =
-    rw (← c.self.view_is, c.load_from_neutral.ensures, c.claim.ensures.same) refl
 
 pub returns-clause-sound : goal.returns-clause-sound
 returns-clause-sound c = (invariant_of-self c).sound

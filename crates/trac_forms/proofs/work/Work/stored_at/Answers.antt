@@ -1,28 +1,14 @@
-use Rattle.trac_forms.proofs.Imports.{arith, forms_in}
+use Rattle.trac_forms.proofs.Imports.{◌∙◌, arith, forms_in, pointer-within}
 use Rattle.trac_forms.proofs.ListedForms.{stored-form, stored-is_form}
-use Rattle.trac_forms.proofs.Strings.{known}
 use Rattle.trac_forms.proofs.work.Work.stored_at.Goals as goal
-
-pub store_part-requires-clause-within : goal.store_part-requires-clause-within
-store_part-requires-clause-within c =
-    let f = known c.self.invariant c.self.view_is c.requires.form.within c.requires.form.start_is in
-    omega (arith, f.end, rw (← c.self.view_is) at c.heads-heads.ensures.name)
-
-pub store_part-requires-2-clause-within : goal.store_part-requires-2-clause-within
-store_part-requires-2-clause-within c =
-    let f = known c.self.invariant c.self.view_is c.requires.form.within c.requires.form.start_is in
-    omega (arith, f.end, rw (← c.self.view_is) at c.heads-heads.ensures.name, rw (← c.self.view_is) at c.heads-heads.ensures.body)
 
 pub invariant_of-result : goal.invariant_of-result
 invariant_of-result c =
-    let s = c.self.inside.space in
-    let h = rw (← c.self.view_is) at c.heads-heads.ensures in
-    let form = rw (← c.self.view_is) at c.requires.form in
-    stored-is_form (forms_in s.store) s.store _ _ c.args.form.number c.args.form.start _ _ _ c.self.invariant.forms.whole form.within form.start_is h.name h.body h.pointer c.store_part.ensures c.store_part-2.ensures c.self.invariant.forms.bounded c.self.invariant.sound.forms
+    let h = c.heads_of-heads.ensures in
+    let inside = pointer-within (forms_in c.self.inside.space.store) c.args.form.number c.self.invariant.sound.forms in
+    stored-is_form _ _ _ _ (c.store_part.ensures ∙ h.name_cells) (c.store_part-2.ensures ∙ h.body_cells) h.pointer (omega (arith, h, c.self.invariant.forms.bounded)) inside
 
 pub returns : goal.returns
 returns c =
-    let s = c.self.inside.space in
-    let h = rw (← c.self.view_is) at c.heads-heads.ensures in
-    let form = rw (← c.self.view_is) at c.requires.form in
-    rw (← c.self.view_is) (stored-form (forms_in s.store) s.store _ _ c.args.form.number c.args.form.start _ _ _ c.self.invariant.forms.whole form.within form.start_is h.name h.body h.pointer c.store_part.ensures c.store_part-2.ensures)
+    let h = c.heads_of-heads.ensures in
+    rw (← c.self.view_is) (stored-form _ _ _ _ (c.store_part.ensures ∙ h.name_cells) (c.store_part-2.ensures ∙ h.body_cells) h.pointer)

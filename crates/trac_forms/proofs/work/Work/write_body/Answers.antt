@@ -1,35 +1,27 @@
 use Rattle.trac_forms.proofs.Imports.{◌≡◌, ◌+◌, ◌-◌, length, set, ap, arith, length-set, Head, Lists, form_at, flat_forms, forms_in, items_of, part_text, IsStored}
-use Rattle.trac_forms.proofs.Strings.{known, shown-restored}
+use Rattle.trac_forms.proofs.Strings.{shown-restored}
 use Rattle.trac_forms.proofs.StoreChanges.{rewritten-stored, written-long}
 use Rattle.trac_forms.proofs.work.Work.write_body.Goals as goal
 use Rattle.trac_forms.proofs.work.Work.write_body.Goals.{After-write_part, After-write_store-2}
 
-pub write_part-requires-clause-inside : goal.write_part-requires-clause-inside
-write_part-requires-clause-inside c =
-    let f = known c.self.invariant c.self.view_is c.requires.form.within c.requires.form.start_is in
-    omega (arith, f.end, rw (← c.self.view_is) at c.heads-heads.ensures.name, rw (← c.self.view_is) at c.requires.same)
-
 -- the store is as long as it was
 long : (c : After-write_part) → length c.write_part.new.self.store ≡ length c.self.inside.space.store
 long c =
-    let f = known c.self.invariant c.self.view_is c.requires.form.within c.requires.form.start_is in
-    written-long c.self.inside.space c.write_part.new.self (c.args.form.start + 3 + c.heads-heads.result.name) c.args.text.from c.args.text.to (rw (← c.self.view_is) at c.requires.text_part.within) (omega (arith, f.end, rw (← c.self.view_is) at c.heads-heads.ensures.name, rw (← c.self.view_is) at c.requires.same)) c.write_part.ensures
+    written-long c.self.inside.space c.write_part.new.self (c.args.form.start + 3 + c.heads_of-heads.result.name) c.args.text.from c.args.text.to (rw (← c.self.view_is) at c.requires.text_part.within) (omega (arith, c.heads_of-heads.ensures, rw (← c.self.view_is) at c.requires.same)) c.write_part.ensures
 
 pub write_store-requires-clause-within : goal.write_store-requires-clause-within
 write_store-requires-clause-within c =
-    let f = known c.self.invariant c.self.view_is c.requires.form.within c.requires.form.start_is in
-    omega (arith, long (goal.at.write_store-requires-clause-within c).After-write_part, f.end)
+    omega (arith, long (goal.at.write_store-requires-clause-within c).After-write_part, c.heads_of-heads.ensures.within)
 
 pub write_store-requires-2-clause-within : goal.write_store-requires-2-clause-within
 write_store-requires-2-clause-within c =
-    let f = known c.self.invariant c.self.view_is c.requires.form.within c.requires.form.start_is in
-    omega (arith, long (goal.at.write_store-requires-2-clause-within c).After-write_part, f.end, ap (λ (w : Lists). length w.store) c.write_store.ensures, length-set c.write_part.new.self.store (c.args.form.start + 1) (Head (c.args.text.to - c.args.text.from)))
+    omega (arith, long (goal.at.write_store-requires-2-clause-within c).After-write_part, c.heads_of-heads.ensures.within, ap (λ (w : Lists). length w.store) c.write_store.ensures, length-set c.write_part.new.self.store (c.args.form.start + 1) (Head (c.args.text.to - c.args.text.from)))
 
 -- the form has its new body
 done : (c : After-write_store-2) → (c.write_store-2.new.self ≡ record c.self.inside.space { store = flat_forms (set (forms_in c.self.inside.space.store) c.args.form.number (record (form_at (forms_in c.self.inside.space.store) c.args.form.number) { body = items_of (part_text c.self.inside.space.neutral c.args.text.from c.args.text.to); pointer = 0 })) }) × IsStored c.write_store-2.new.self c.self.inside.count c.args.form.number c.args.form.start
 done c =
     let form = rw (← c.self.view_is) at c.requires.form in
-    let name = rw (← c.self.view_is) at c.heads-heads.ensures.name in
+    let name = c.heads_of-heads.ensures.name in
     rewritten-stored _ c.write_part.new.self c.write_store.new.self c.write_store-2.new.self c.self.inside.count c.self.inside.last.number c.self.inside.last.start c.args.form.number c.args.form.start _ c.args.text.from c.args.text.to c.self.invariant form.within form.start_is (ap (λ n. c.args.form.start + 3 + n) name) (rw (← c.self.view_is) at c.requires.text_part) (rw (← c.self.view_is) at c.requires.same) c.write_part.ensures c.write_store.ensures c.write_store-2.ensures
 
 pub invariant_of-self : goal.invariant_of-self
