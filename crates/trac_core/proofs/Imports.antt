@@ -23,9 +23,9 @@ pub use Rattle.trac_core.specs.StepsInRow.{Advances, AsksFor, IsLayout, IsOrdina
 pub use Rattle.trac_language.specs.declared.report.Report.{Report}
 pub use Rattle.trac_devices.specs.Devices.{Breaks, Prints, Sent, Stream, Streams, has_byte}
 pub use Rattle.trac_forms.specs.Contents.{Contents, IsSound, form_at, part_text, used}
-pub use Rattle.trac_functions.specs.Calls.{IsDefined, IsPlaced, IsValue, Makes, is_plain, texts, texts_from, world}
+pub use Rattle.trac_functions.specs.Calls.{IsDefined, IsHeld, IsPlaced, IsValue, Makes, is_plain, texts, texts_from, world}
 pub use Rattle.trac_functions.specs.Flat.{Neutral, arguments_at, is_active_mode, memory_of, memory_with, mode_at, mode_of, neutral_of, no_neutral, texts_of, with_cell, with_cells}
-pub use Rattle.trac_functions.specs.declared.arguments.CallResult.TheVariants.{Null, Full, Over, InFront, AtEnd}
+pub use Rattle.trac_functions.specs.declared.arguments.CallResult.TheVariants.{Null, Full, Over, InFront, Unscanned, AtEnd}
 pub use Rattle.trac_language.specs.Form.{Form, after_pointer, before_pointer}
 pub use Rattle.trac_language.specs.Function.{function_named}
 pub use Rattle.trac_language.specs.Meaning.{Answer, Ends, Gives, Meaning, World, before_meta, built, change_meta, form_of_call, from_meta, meaning, on_form, printing, read_all, read_character, read_string, result_or, show, show_form, silent, take_part, value_length, valued, with_input}

@@ -1,5 +1,5 @@
 -- A call that is performed, over the contents of a workspace.
-use Rattle.trac_core.proofs.Imports.{failing_state_of, StopsAtInput, StopsAtOutput, ◌≡◌, ◌≢◌, ℕ, ◌+◌, ◌-◌, ◌<◌, ◌≤◌, max, Bool, true, false, not, ◌&&◌, ◌||◌, List, [], ◌∷◌, ◌++◌, length, take, drop, All, Option, Some, None, refl, sym, ap, ◌∙◌, subst, arith, append-nil, length-append, ◌==◌, slice_get, unwrap_or, nat_le, unwrap_or-slice_get, list_any, length-map, length-drop, get_or_append_left, drop-append_seam, take-append_seam, take-length, Mode, Active, Function, ReadString, ReadCharacter, ChangeMeta, PrintString, PrintForm, Halt, Fate, Workspace, Steps, InputFailed, OutputFailed, Text, Form, function_named, Input, State, argument, size, Answer, Gives, Ends, meaning_of, meaning, built, deliver, perform, step, need, is_read_string, reads_last, reads_to_end, Cell, Byte, flat_text, text_of_cells, character_of, IsByte, IsLastCall, Contents, used, IsSound, Stream, Full, AtEnd, InFront, Null, Over, texts_of, no_neutral, neutral_of, memory_of, mode_of, mode_at, is_active_mode, arguments_at, texts_from, world, IsValue, IsPlaced, IsDefined, Makes, is_plain, performs, touches_device, calls_device, needs_device, silent, MachineState, moment, ending, failing, state_with, state_of, failing_state_of, EndsRun, input_failures, output_failures, scene, TriedCall, ClosesCall, function_at, delivered, settled, AnswersCall, IsValueFrom, Stands, fate_after, or_right, true≢false}
+use Rattle.trac_core.proofs.Imports.{failing_state_of, StopsAtInput, StopsAtOutput, ◌≡◌, ◌≢◌, ℕ, ◌+◌, ◌-◌, ◌<◌, ◌≤◌, max, Bool, true, false, not, ◌&&◌, ◌||◌, List, [], ◌∷◌, ◌++◌, length, take, drop, All, Option, Some, None, refl, sym, ap, ◌∙◌, subst, arith, append-nil, length-append, ◌==◌, slice_get, unwrap_or, nat_le, unwrap_or-slice_get, list_any, length-map, length-drop, get_or_append_left, drop-append_seam, take-append_seam, take-length, Mode, Active, Function, ReadString, ReadCharacter, ChangeMeta, PrintString, PrintForm, Halt, Fate, Workspace, Steps, InputFailed, OutputFailed, Text, Form, function_named, Input, State, argument, size, Answer, Gives, Ends, meaning_of, meaning, built, deliver, perform, step, need, is_read_string, reads_last, reads_to_end, Cell, Byte, flat_text, text_of_cells, character_of, IsByte, IsLastCall, Contents, used, IsSound, Stream, Full, AtEnd, InFront, Unscanned, Null, Over, texts_of, no_neutral, neutral_of, memory_of, mode_of, mode_at, is_active_mode, arguments_at, texts_from, world, IsValue, IsHeld, IsPlaced, IsDefined, Makes, is_plain, performs, touches_device, calls_device, needs_device, silent, MachineState, moment, ending, failing, state_with, state_of, failing_state_of, EndsRun, input_failures, output_failures, scene, TriedCall, ClosesCall, function_at, delivered, settled, AnswersCall, IsValueFrom, Stands, fate_after, or_right, true≢false}
 use Rattle.trac_language.specs.declared.mode.Mode.TheVariants.{Neutral as NeutralMode}
 use Rattle.trac_laws.proofs.Rules.{rule_end}
 use Rattle.trac_space.proofs.Texts.{text_of_cells-append}
@@ -214,6 +214,20 @@ module _ (w mid : Contents) (place : ℕ) (f : Function) (rest : List Text) (sca
       (ap (λ (c : Contents). closed c place) is.stands ∙ sym (delivered-active (mode_at w.neutral place) forced value place (record w { forms = mid.forms }) goes))
       (ap (λ n. used w + n) (sym is.long ∙ sym (is.valued.builds meta (ending source.bytes)))) is.fits
 
+  -- a call whose value stands before the active string until it moves to the neutral one
+  pub tried-held : (value : Text) (size : ℕ) → IsHeld f (argument (arguments_at w.neutral place) 0 ∷ rest) scanned w mid value size → (meta : ℕ) (source : Stream) (written : Text) → TriedCall place (scene w meta source written) None (used w + size) (scene (settled (Unscanned size) place (length w.neutral) mid) meta source written)
+  tried-held value size is meta source written =
+      let goes : (false || is_active_mode (mode_at w.neutral place)) ≡ false = sym mode_is ∙ is.stays in
+      let long : length (flat_text value) ≡ size = length-map value Byte ∙ is.long in
+      let front : take size (flat_text value ++ w.active) ≡ flat_text value = ap (λ n. take n (flat_text value ++ w.active)) (sym long) ∙ take-append_seam (flat_text value) w.active in
+      let left : drop size (flat_text value ++ w.active) ≡ w.active = ap (λ n. drop n (flat_text value ++ w.active)) (sym long) ∙ drop-append_seam (flat_text value) w.active in
+      plain-tried (settled (Unscanned size) place (length w.neutral) mid) (used w + size) value false mid.forms meta source written (is.valued.means meta (ending source.bytes))
+      (ap (λ (c : Contents). settled (Unscanned size) place (length w.neutral) c) is.stands
+      ∙ ap (λ cells. record w { forms = mid.forms; neutral = take place w.neutral ++ cells; active = drop size (flat_text value ++ w.active) }) front
+      ∙ ap (λ cells. record w { forms = mid.forms; neutral = take place w.neutral ++ flat_text value; active = cells }) left
+      ∙ sym (delivered-neutral (mode_at w.neutral place) false value place (record w { forms = mid.forms }) goes))
+      (ap (λ n. used w + n) (sym is.long ∙ sym (is.valued.builds meta (ending source.bytes)))) is.fits
+
   -- a call that builds a form
   pub tried-defined : (new : Contents) (needed cells : ℕ) → IsDefined f (argument (arguments_at w.neutral place) 0 ∷ rest) w mid cells → new ≡ closed mid place → needed ≡ used w + cells → (meta : ℕ) (source : Stream) (written : Text) → TriedCall place (scene w meta source written) None needed (scene new meta source written)
   tried-defined new needed cells is new_is needs meta source written =
@@ -235,6 +249,7 @@ module _ (w mid : Contents) (place : ℕ) (f : Function) (rest : List Text) (sca
   answers-made Full is meta source written = tried-too-much mid is meta source written
   answers-made AtEnd is meta source written = tried-value (settled AtEnd place (length w.neutral) mid) (length w.neutral) (used w + (length mid.neutral - length w.neutral)) is.0 false is.1 refl refl refl meta source written
   answers-made (InFront size) is meta source written = tried-placed is.0 is.1.0 size is.1.1 meta source written
+  answers-made (Unscanned size) is meta source written = tried-held is.0 size is.1 meta source written
   answers-made (Null cells) is meta source written = tried-defined (closed mid place) (used w + cells) cells is refl refl meta source written
   answers-made (Over fate) is meta source written = absurd is
 
@@ -272,6 +287,12 @@ stands-made f args scanned w mid (InFront size) is =
     let neutral = ap (λ (w : Contents). length w.neutral) placed.stands in
     let room = ap (λ (w : Contents). w.room) placed.stands in
     record { within = omega arith; fits = omega arith }
+stands-made f args scanned w mid (Unscanned size) is =
+    let held = is.1 in
+    let neutral = ap (λ (w : Contents). length w.neutral) held.stands in
+    let room = ap (λ (w : Contents). w.room) held.stands in
+    let active = ap (λ (w : Contents). length w.active) held.stands ∙ length-append (flat_text is.0) w.active ∙ ap (λ n. n + length w.active) (length-map is.0 Byte ∙ held.long) in
+    (record { within = omega arith; fits = omega arith }, omega arith)
 stands-made f args scanned w mid (Null cells) is =
     let neutral = ap (λ (w : Contents). length w.neutral) is.stands in
     let room = ap (λ (w : Contents). w.room) is.stands in

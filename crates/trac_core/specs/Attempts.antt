@@ -21,7 +21,7 @@ use Rattle.trac_forms.specs.Contents.{Contents, used, IsSound}
 use Rattle.trac_devices.specs.Devices.{Stream, Sent}
 use Rattle.trac_functions.specs.declared.arguments.Arguments.{Arguments}
 use Rattle.trac_functions.specs.declared.arguments.CallResult.{CallResult}
-use Rattle.trac_functions.specs.declared.arguments.CallResult.TheVariants.{Full, AtEnd, InFront, Null}
+use Rattle.trac_functions.specs.declared.arguments.CallResult.TheVariants.{Full, AtEnd, InFront, Unscanned, Null}
 use Rattle.trac_functions.specs.declared.arguments.CallResult.TheVariants.{Over}
 use Rattle.trac_functions.specs.Flat.{memory_of, mode_at, arguments_at}
 use Rattle.trac_functions.specs.Calls.{texts}
@@ -120,6 +120,8 @@ abbrev pub settled : CallResult → (place from : ℕ) → Contents → Contents
 settled Full place from w = w
 settled AtEnd place from w = value_delivered place from w
 settled (InFront cells) place from w = record w { neutral = take place w.neutral }
+settled (Unscanned cells) place from w =
+    record w { neutral = take place w.neutral ++ take cells w.active; active = drop cells w.active }
 settled (Null cells) place from w = record w { neutral = take place w.neutral }
 settled (Over fate) place from w = w
 
@@ -128,6 +130,7 @@ abbrev pub fate_after : CallResult → Option Fate
 fate_after Full = Some Workspace
 fate_after AtEnd = None
 fate_after (InFront cells) = None
+fate_after (Unscanned cells) = None
 fate_after (Null cells) = None
 fate_after (Over fate) = Some fate
 
@@ -142,6 +145,7 @@ abbrev pub need_after : CallResult → (before from : ℕ) → Contents → ℕ
 need_after Full before from w = 0
 need_after AtEnd before from w = before + (length w.neutral - from)
 need_after (InFront cells) before from w = before + cells
+need_after (Unscanned cells) before from w = before + cells
 need_after (Null cells) before from w = before + cells
 need_after (Over fate) before from w = used w
 
@@ -161,6 +165,8 @@ abbrev pub Stands : CallResult → (before from : ℕ) → Contents → Type 0
 Stands Full before from w = ⊤
 Stands AtEnd before from w = IsValueFrom before from w
 Stands (InFront cells) before from w = IsBuilt before from cells w
+Stands (Unscanned cells) before from w =
+    IsBuilt before from cells w × (cells ≤ length w.active)
 Stands (Null cells) before from w = IsBuilt before from cells w
 Stands (Over fate) before from w = ⊤
 

@@ -15,8 +15,8 @@ use trac_language::{Fate, Mode};
 use trac_space::{Cell, Part};
 
 /// The call that is this part of the neutral string, its mark and its arguments, leaves, and what its
-/// function answered comes to its end: a value that isn't placed yet, and stands behind that part, is
-/// delivered. So many cells were used before.
+/// function answered comes to its end: a value that doesn't stand where it belongs is moved there.
+/// `before` cells were used when the call was performed.
 #[inline(always)]
 pub(crate) fn finish_call(work: &mut Work, call: Part, before: u32, made: CallResult) -> Attempt
     requires order { call.from < call.to }
@@ -33,6 +33,11 @@ pub(crate) fn finish_call(work: &mut Work, call: Part, before: u32, made: CallRe
         CallResult::Over(fate) => (Some(fate), work.used()),
         CallResult::InFront(cells) | CallResult::Null(cells) => {
             work.cut_neutral(call.from);
+            (None, before + cells)
+        }
+        CallResult::Unscanned(cells) => {
+            work.cut_neutral(call.from);
+            work.active_to_neutral(cells);
             (None, before + cells)
         }
         CallResult::AtEnd => {

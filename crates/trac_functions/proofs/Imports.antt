@@ -30,7 +30,7 @@ pub use Rattle.trac_functions.specs.Flat.{Neutral, arguments_at, in_first, memor
 pub use Rattle.trac_functions.specs.Taking.{IsFirstOr, TakesOrDefault, TakesPart, moved, part_value}
 pub use Rattle.trac_functions.specs.declared.arguments.Arguments.{Arguments}
 pub use Rattle.trac_functions.specs.declared.arguments.CallResult.{CallResult}
-pub use Rattle.trac_functions.specs.declared.arguments.CallResult.TheVariants.{Null, Full, Over, InFront, AtEnd}
+pub use Rattle.trac_functions.specs.declared.arguments.CallResult.TheVariants.{Null, Full, Over, InFront, Unscanned, AtEnd}
 pub use Rattle.trac_functions.specs.declared.bit_strings.BitResult.{BitResult}
 pub use Rattle.trac_functions.specs.declared.bit_strings.BitResult.TheVariants.{Rotation}
 pub use Rattle.trac_language.specs.BitString.{Bits, bit_at, bits, bits_of_digit, complement, cut, intersection, is_octal, octal, octal_digits, octal_prefix, padded, rotated, shifted, union}

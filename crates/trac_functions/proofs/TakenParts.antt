@@ -4,7 +4,7 @@ use Rattle.trac_functions.proofs.Imports.{◌≡◌, ◌≢◌, ℕ, zero, suc, 
 use Rattle.trac_functions.proofs.Imports.{if◌then◌else◌, int_lt, unsigned_abs, pos, prefix_len, lt-ltb, le-ltb, length-take, length-drop, length-reverse, nil_from_length, get_or-drop, drop-drop, drop_of_length-le, sum_by-cons, Item, Function, Text, Form, is_character, text_of, after_pointer, before_pointer}
 use Rattle.trac_functions.proofs.Imports.{begins, place_of, form_named, changed, cells, form_cells, Input, Part, characters, first_characters, segment_from, next_segment, unless_null, forward, backward, next_characters, previous_characters, up_to, initial_part, World, on_form, silent}
 use Rattle.trac_functions.proofs.Imports.{with_form, take_part, meaning_of, value_length, built, number, flat_text, signed, character_at, is_gap, gap_at, text_at, NonePasses, IsFirst, Contents, form_at, IsNamedAt, IsSound, part_text, form_named-at, changed-at, CallResult, Full, AtEnd}
-use Rattle.trac_functions.proofs.Imports.{InFront, Null, Over, world, Valued, Makes, Performs, Arguments, AreArguments, argument, texts, part_value, moved, TakesPart, TakesOrDefault}
+use Rattle.trac_functions.proofs.Imports.{InFront, Unscanned, Null, Over, world, Valued, Makes, Performs, Arguments, AreArguments, argument, texts, part_value, moved, TakesPart, TakesOrDefault}
 use Rattle.trac_functions.proofs.FormLemmas.{null-value}
 use Rattle.trac_language.specs.declared.item.Item.TheVariants.{Byte, Gap}
 use Rattle.trac_functions.proofs.CountLimits.{counted}
@@ -57,6 +57,8 @@ module _ (f : Function) (args : List Text) (name : Text) (part : Form → Option
           )
       go None e AtEnd takes = absurd takes
       go (Some p) e (InFront size) takes = absurd takes
+      go None e (Unscanned size) takes = absurd takes
+      go (Some p) e (Unscanned size) takes = absurd takes
       go None e (Null cells) takes = absurd takes
       go (Some p) e (Null cells) takes = absurd takes
       go None e (Over fate) takes = absurd takes

@@ -15,7 +15,7 @@ use Rattle.trac_space.specs.Texts.{flat_text}
 use Rattle.trac_forms.specs.Contents.{Contents, used, IsSound}
 use Rattle.trac_functions.specs.declared.arguments.Arguments.{Arguments}
 use Rattle.trac_functions.specs.declared.arguments.CallResult.{CallResult}
-use Rattle.trac_functions.specs.declared.arguments.CallResult.TheVariants.{Full, AtEnd, InFront, Null}
+use Rattle.trac_functions.specs.declared.arguments.CallResult.TheVariants.{Full, AtEnd, InFront, Unscanned, Null}
 use Rattle.trac_functions.specs.declared.arguments.CallResult.TheVariants.{Over}
 use Rattle.trac_functions.specs.Flat.{texts_of}
 
@@ -92,6 +92,16 @@ pub record IsPlaced (function : Function) (args : List Text) (scanned : Bool) (o
   pub fits : used old + size ≤ old.room
   pub stands : new ≡ record old { forms = new.forms; active = flat_text value ++ old.active }
 
+-- the value of a neutral call, of `size` characters, stands before the active string until the call
+-- leaves, and the forms are changed
+pub record IsHeld (function : Function) (args : List Text) (scanned : Bool) (old new : Contents)
+    (value : Text) (size : ℕ) : Type 0 where
+  pub valued : Valued function args old.forms value false new.forms
+  pub stays : scanned ≡ false
+  pub long : length value ≡ size
+  pub fits : used old + size ≤ old.room
+  pub stands : new ≡ record old { forms = new.forms; active = flat_text value ++ old.active }
+
 -- a call with a null value built `cells` cells of forms
 pub record IsDefined (function : Function) (args : List Text) (old new : Contents)
     (cells : ℕ) : Type 0 where
@@ -111,6 +121,8 @@ Makes function args scanned old AtEnd new =
     (value : Text) × IsValue function args old new false value
 Makes function args scanned old (InFront size) new =
     (value : Text) × ((forced : Bool) × IsPlaced function args scanned old new forced value size)
+Makes function args scanned old (Unscanned size) new =
+    (value : Text) × IsHeld function args scanned old new value size
 Makes function args scanned old (Null cells) new = IsDefined function args old new cells
 Makes function args scanned old (Over fate) new = ⊥
 

@@ -10,7 +10,7 @@ use Rattle.trac_forms.specs.Contents.{Contents, used, part_text, form_at}
 use Rattle.trac_forms.specs.Loading.{IsLoaded}
 use Rattle.trac_forms.specs.Search.{NonePasses}
 use Rattle.trac_functions.specs.declared.arguments.CallResult.{CallResult}
-use Rattle.trac_functions.specs.declared.arguments.CallResult.TheVariants.{Full, AtEnd, InFront, Null}
+use Rattle.trac_functions.specs.declared.arguments.CallResult.TheVariants.{Full, AtEnd, InFront, Unscanned, Null}
 use Rattle.trac_functions.specs.declared.arguments.CallResult.TheVariants.{Over}
 
 -- the value of a call that takes a part, or z where there is none
@@ -35,6 +35,7 @@ TakesPart None z k old (InFront size) new = IsLoaded old new z size
 TakesPart (Some part) z k old AtEnd new = Puts old new (moved old.forms k part.pointer) part.text
 TakesPart None z k old AtEnd new = ⊥
 TakesPart (Some part) z k old (InFront size) new = ⊥
+TakesPart part z k old (Unscanned size) new = ⊥
 TakesPart part z k old (Null cells) new = ⊥
 TakesPart part z k old (Over fate) new = ⊥
 

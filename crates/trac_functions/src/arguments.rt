@@ -39,6 +39,9 @@ pub enum CallResult {
     AtEnd,
     /// The value, of this many characters, goes to the active string, and stands before it already.
     InFront(u32),
+    /// The value of a neutral call, of this many characters, stands before the active string. It moves to
+    /// the end of the neutral string when the call leaves.
+    Unscanned(u32),
     /// The value is null. The call built this many cells of forms.
     Null(u32),
     /// The run is over, by the language or because a device failed.

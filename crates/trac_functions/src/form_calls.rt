@@ -156,16 +156,13 @@ pub fn call_form(work: &mut Work, mut arguments: Arguments) -> CallResult
     let Some(form) = next_form(work, &mut arguments) else {
         return CallResult::AtEnd;
     };
+    let Some(size) = work.load_filled(form, arguments.from, arguments.end) else {
+        return CallResult::Full;
+    };
     if scanned {
-        return match work.load_filled(form, arguments.from, arguments.end) {
-            Some(size) => CallResult::InFront(size),
-            None => CallResult::Full,
-        };
-    }
-    if work.fill_body(form, arguments.from, arguments.end) {
-        CallResult::AtEnd
+        CallResult::InFront(size)
     } else {
-        CallResult::Full
+        CallResult::Unscanned(size)
     }
 }
 
