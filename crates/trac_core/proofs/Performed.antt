@@ -1,28 +1,29 @@
--- The function that a step performs, by what stands in the active and in the neutral string.
-use Rattle.trac_core.proofs.Imports.{◌≡◌, ◌≢◌, ℕ, Bool, true, false, [], ◌∷◌, List, drop, take, slice_get, Option, Some, None, refl, sym, ap, ◌==◌, if◌then◌else◌, bytes_eq, codes, ne_eqb, Active, Text, protected, OpenCall, DeleteLayout, BeginArgument, BeginCall, EndCall, AddCharacter, is_layout, number_sign_rule, parenthesis_rule, rule, NoCall, IsLastCall, text_of_cells, Contents, IsSound, Memory, arguments, arguments_at, memory_of, performed_by, performs, calls_device, needs_device, needs_device_by, function_at}
+-- The call that a step performs, and its function, by what stands in the active and in the neutral string.
+use Rattle.trac_core.proofs.Imports.{◌≡◌, ◌≢◌, ℕ, Bool, true, false, [], ◌∷◌, List, drop, take, slice_get, Option, Some, None, refl, sym, ap, ◌==◌, if◌then◌else◌, bytes_eq, codes, ne_eqb, Active, Text, protected, OpenCall, DeleteLayout, BeginArgument, BeginCall, EndCall, AddCharacter, is_layout, number_sign_rule, parenthesis_rule, rule, NoCall, IsLastCall, text_of_cells, Contents, IsSound, Memory, arguments, arguments_at, memory_of, neutral_of, length, performed_by, performs, calls_device, needs_device, needs_device_by, function_at, Function}
 use Rattle.trac_language.specs.Rule.{Rule}
 use Rattle.trac_language.specs.declared.mode.Mode.TheVariants.{Neutral}
 use Rattle.trac_laws.proofs.Rules.{rule_end}
-use Rattle.trac_functions.proofs.FlatLemmas.{calls-none}
+use Rattle.trac_functions.proofs.FlatLemmas.{calls-none, neutral_of-innermost, arguments-call_at}
 use Rattle.trac_core.proofs.Performing.{performs-closed, function-performs, needs-call}
+use Rattle.trac_core.specs.OpenCalls.{call_performed_by, performed_call}
 use Rattle.trac_core.proofs.Scanning.{first-rest}
 
-parenthesis-performs : (o : Option (Text × Text)) (calls : List OpenCall) → performed_by (parenthesis_rule o) calls ≡ None
+parenthesis-performs : (o : Option (Text × Text)) (calls : List OpenCall) → call_performed_by (parenthesis_rule o) calls ≡ None
 parenthesis-performs None calls = refl
 parenthesis-performs (Some parts) calls = refl
 
-sign-performs : (a b : Bool) (text : Text) (calls : List OpenCall) → performed_by (if a then BeginCall Active (drop 1 text) else (if b then BeginCall Neutral (drop 2 text) else AddCharacter 35 text)) calls ≡ None
+sign-performs : (a b : Bool) (text : Text) (calls : List OpenCall) → call_performed_by (if a then BeginCall Active (drop 1 text) else (if b then BeginCall Neutral (drop 2 text) else AddCharacter 35 text)) calls ≡ None
 sign-performs true b text calls = refl
 sign-performs false true text calls = refl
 sign-performs false false text calls = refl
 
 -- only a right parenthesis performs a call
-first-performs : (text : Text) (calls : List OpenCall) → slice_get text 0 ≢ Some 41 → performed_by (rule text) calls ≡ None
+first-performs : (text : Text) (calls : List OpenCall) → slice_get text 0 ≢ Some 41 → call_performed_by (rule text) calls ≡ None
 unfolding rule
 first-performs [] calls other = refl
 first-performs (c ∷ rest) calls other = go (is_layout c) (c == 40) (c == 44) (c == 35) (c == 41) (ne_eqb c 41 (λ e. other (ap Some e)))
   where
-    go : (layout opens comma sign closes : Bool) → closes ≡ false → performed_by (if layout then DeleteLayout rest else (if opens then parenthesis_rule (protected rest) else (if comma then BeginArgument rest else (if sign then number_sign_rule rest else (if closes then EndCall rest else AddCharacter c rest))))) calls ≡ None
+    go : (layout opens comma sign closes : Bool) → closes ≡ false → call_performed_by (if layout then DeleteLayout rest else (if opens then parenthesis_rule (protected rest) else (if comma then BeginArgument rest else (if sign then number_sign_rule rest else (if closes then EndCall rest else AddCharacter c rest))))) calls ≡ None
     go true opens comma sign closes e = refl
     go false true comma sign closes e = parenthesis-performs (protected rest) calls
     go false false true sign closes e = refl
@@ -30,13 +31,22 @@ first-performs (c ∷ rest) calls other = go (is_layout c) (c == 40) (c == 44) (
     go false false false false true e = absurd cc
     go false false false false false e = refl
 
-pub performs-other : (w : Contents) (meta : ℕ) → slice_get (text_of_cells w.active) 0 ≢ Some 41 → None ≡ performs (memory_of meta w)
+pub performs-other : (w : Contents) (meta : ℕ) → slice_get (text_of_cells w.active) 0 ≢ Some 41 → None ≡ performed_call (memory_of meta w)
 performs-other w meta other = sym (first-performs (text_of_cells w.active) (memory_of meta w).calls other)
 
 -- and that only where a call is open
-pub performs-none : (w : Contents) (meta : ℕ) → slice_get (text_of_cells w.active) 0 ≡ Some 41 → NoCall w.neutral → None ≡ performs (memory_of meta w)
+pub performs-none : (w : Contents) (meta : ℕ) → slice_get (text_of_cells w.active) 0 ≡ Some 41 → NoCall w.neutral → None ≡ performed_call (memory_of meta w)
 performs-none w meta first none =
     rw (first-rest (text_of_cells w.active) 41 first, rule_end (drop 1 (text_of_cells w.active)), calls-none w.neutral none) refl
+
+-- a step that performs no call performs no function
+no-function : (r : Rule) (calls : List OpenCall) → call_performed_by r calls ≡ None → performed_by r calls ≡ None
+no-function (EndCall rest) [] e = refl
+no-function (EndCall rest) (call ∷ outer) e = absurd cc
+no-function _ calls e = refl
+
+pub uncalled : (m : Memory) → performed_call m ≡ None → performs m ≡ None
+uncalled m e = no-function (rule m.active) m.calls e
 
 -- a step that performs no function needs no device
 needless : (r : Rule) (calls : List OpenCall) → performed_by r calls ≡ None → needs_device_by r calls ≡ false
@@ -57,3 +67,12 @@ pub performs-innermost : (w : Contents) (place meta : ℕ) → IsSound w → sli
 performs-innermost w place meta sound first last =
     let after = record w { active = drop 1 w.active } in
     sym (function-performs w after place meta (performs-closed w after place sound first last refl))
+
+-- the call by its parts
+pub call-innermost : (w : Contents) (place meta : ℕ) → slice_get (text_of_cells w.active) 0 ≡ Some 41 → IsLastCall w.neutral place → performed_call (memory_of meta w) ≡ Some (record { function = function_at w.neutral place; arguments = length (drop 1 (arguments_at w.neutral place)); depth = length (neutral_of (take place w.neutral)).calls })
+call-innermost w place meta first last =
+    rw (first-rest (text_of_cells w.active) 41 first, rule_end (drop 1 (text_of_cells w.active)), neutral_of-innermost w.neutral place last, arguments-call_at w.neutral place last) refl
+
+pub called : (w : Contents) (place meta : ℕ) (function : Option Function) (count depth : ℕ) → slice_get (text_of_cells w.active) 0 ≡ Some 41 → IsLastCall w.neutral place → function ≡ function_at w.neutral place → count ≡ length (drop 1 (arguments_at w.neutral place)) → depth ≡ length (neutral_of (take place w.neutral)).calls → Some (record { function = function; arguments = count; depth = depth }) ≡ performed_call (memory_of meta w)
+called w place meta function count depth first last function_is count_is depth_is =
+    rw (function_is, count_is, depth_is, call-innermost w place meta first last) refl

@@ -1,9 +1,15 @@
--- The calls that are open, and where their marks stand in the neutral string.
-use Rattle.std.specs.Prelude.{ℕ, zero, suc, ◌+◌, List, [], ◌∷◌, Option, None, Some, length, sum_by}
-use Rattle.trac_language.specs.State.{OpenCall as Call, call_cells}
+-- The calls that are open, where their marks stand in the neutral string, and which of them the next
+-- step performs.
+use Rattle.std.specs.Prelude.{ℕ, zero, suc, ◌+◌, List, [], ◌∷◌, Option, None, Some, drop, length, sum_by}
+use Rattle.std.specs.Prelude.{◌&&◌, if◌then◌else◌, is_none, nat_lt}
+use Rattle.trac_language.specs.Rule.{Rule, EndCall, rule}
+use Rattle.trac_language.specs.State.{Memory, OpenCall as Call, arguments, call_cells}
+use Rattle.trac_language.specs.Step.{function_of}
 use Rattle.trac_functions.specs.Flat.{Neutral}
 use Rattle.trac_core.specs.declared.machine.open_calls.CallMark.{CallMark}
+use Rattle.trac_core.specs.declared.machine.open_calls.NextCall.{NextCall}
 use Rattle.trac_core.specs.declared.machine.open_calls.OpenCall.{OpenCall}
+use Rattle.trac_core.specs.Machine.{MachineState}
 
 -- the cells that stand before the mark of a call that is open within these others, behind a base text of
 -- so many cells
@@ -36,3 +42,22 @@ mark_within (suc number) base (call ∷ outer) = mark_within number base outer
 -- the same of a neutral string
 abbrev pub mark_of : ℕ → Neutral → Option CallMark
 mark_of number n = mark_within number (length n.base) n.calls
+
+-- the call among these, innermost first, that a step by the rule performs
+abbrev pub call_performed_by : Rule → List Call → Option NextCall
+call_performed_by (EndCall rest) (call ∷ outer) = Some (record {
+  function = function_of call;
+  arguments = length (drop 1 (arguments call));
+  depth = length outer;
+})
+call_performed_by _ calls = None
+
+-- the call that a step performs over this memory
+abbrev pub performed_call : Memory → Option NextCall
+performed_call memory = call_performed_by (rule memory.active) memory.calls
+
+-- the call that the next step performs, if there is a next step: the run is not over, and the
+-- allowance not used up
+abbrev pub next_call : MachineState → Option NextCall
+next_call m =
+    if is_none m.fate && nat_lt m.steps m.allowance then performed_call m.memory else None

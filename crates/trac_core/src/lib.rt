@@ -16,7 +16,7 @@ mod scan;
 mod streaming;
 
 pub use display::{display_len, show_form};
-pub use machine::{Awaits, CallMark, Machine, OpenCall, Progress};
+pub use machine::{Awaits, CallMark, Machine, NextCall, OpenCall, Progress};
 pub use rules::ScanningRule;
 pub use runs::is_layout;
 pub use trac_devices::{
@@ -25,7 +25,7 @@ pub use trac_devices::{
     write_characters,
 };
 pub use trac_forms::{Forms, StoredForm, Work};
-pub use trac_language::{Fate, Item, Report};
+pub use trac_language::{Fate, Function, Item, Report};
 pub use trac_laws as laws;
 pub use trac_space::{Cell, Neutral};
 pub use trac_values as values;

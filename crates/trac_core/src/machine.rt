@@ -33,7 +33,7 @@ pub(crate) mod session;
 pub(crate) mod view;
 
 pub use advancing::Progress;
-pub use open_calls::{CallMark, OpenCall};
+pub use open_calls::{CallMark, NextCall, OpenCall};
 pub use session::Awaits;
 
 /// A processor over a lent block of cells, with an allowance of steps. It takes no other memory.

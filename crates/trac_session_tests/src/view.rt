@@ -1,6 +1,8 @@
 //! What a machine shows of itself from step to step.
 use std::process::Abort;
-use trac_core::{Cell, Fate, Machine, ScanningRule, Sink, SliceSink, SliceSource, Source};
+use trac_core::{
+    Cell, Fate, Function, Machine, NextCall, ScanningRule, Sink, SliceSink, SliceSource, Source,
+};
 
 /// Of each step of a run over no input its rule, the size before it and its need.
 const STEPS: [(ScanningRule, u32, u32); 9] = [
@@ -72,4 +74,108 @@ fn the_two_strings(rt: HostRuntime) {
             ]
         )
     );
+}
+
+/// Makes steps up to this number of steps since the run began, and gives the call that comes next.
+fn call_after(
+    rt: &impl Abort,
+    machine: &mut Machine,
+    source: &mut SliceSource,
+    sink: &mut SliceSink,
+    steps: u64,
+) -> Option<NextCall> {
+    for _ in machine.steps()..steps {
+        assert!(rt; source.failures() == 0 && sink.failures() == 0);
+        let _ = machine.step(source, sink);
+    }
+    machine.next_call()
+}
+
+#[test]
+fn the_call_that_comes_next(rt: HostRuntime) {
+    let mut block = [Cell::Byte(0); 60];
+    let mut source = SliceSource::new(b"##(eq,a,,b)#(zz)'", None);
+    let mut sink = SliceSink::new(&mut [], None);
+    let mut machine = Machine::over(&mut block, 23);
+    for k in 0..24 {
+        let call = call_after(&rt, &mut machine, &mut source, &mut sink, k);
+        let is_wanted = match k {
+            8 => is_call_of_read_string(&call),
+            17 => is_call_of_equal(&call),
+            21 => is_call_of_no_function(&call),
+            22 => is_call_of_print_string(&call),
+            _ => call.is_none(),
+        };
+        assert!(rt; is_wanted, "{k}");
+    }
+}
+
+/// A call of `rs` with no argument, in another.
+fn is_call_of_read_string(call: &Option<NextCall>) -> bool {
+    matches!(
+        call,
+        Some(NextCall {
+            function: Some(Function::ReadString),
+            arguments: 0,
+            depth: 1,
+        })
+    )
+}
+
+/// A call of `eq` with three arguments, in another.
+fn is_call_of_equal(call: &Option<NextCall>) -> bool {
+    matches!(
+        call,
+        Some(NextCall {
+            function: Some(Function::Equal),
+            arguments: 3,
+            depth: 1,
+        })
+    )
+}
+
+/// A call with a name that no function has and no argument, in another.
+fn is_call_of_no_function(call: &Option<NextCall>) -> bool {
+    matches!(
+        call,
+        Some(NextCall {
+            function: None,
+            arguments: 0,
+            depth: 1,
+        })
+    )
+}
+
+/// A call of `ps` with one argument, in no other.
+fn is_call_of_print_string(call: &Option<NextCall>) -> bool {
+    matches!(
+        call,
+        Some(NextCall {
+            function: Some(Function::PrintString),
+            arguments: 1,
+            depth: 0,
+        })
+    )
+}
+
+#[test]
+fn no_call_comes_next(rt: HostRuntime) {
+    let mut block = [Cell::Byte(0); 60];
+    let mut source = SliceSource::new(b")'", None);
+    let mut sink = SliceSink::new(&mut [], None);
+    let mut machine = Machine::over(&mut block, 12);
+    let closing = call_after(&rt, &mut machine, &mut source, &mut sink, 9);
+    assert!(rt; is_call_of_print_string(&closing));
+    // a right parenthesis is left over, and no call is open
+    let stray = call_after(&rt, &mut machine, &mut source, &mut sink, 10);
+    assert!(rt; stray.is_none() && machine.next_rule() == ScanningRule::EndOfCall);
+    // the allowance is used up before the call of `rs`
+    machine.again(8);
+    let spent = call_after(&rt, &mut machine, &mut source, &mut sink, 8);
+    assert!(rt; spent.is_none() && machine.report().is_none());
+    assert_eq!(rt; machine.next_rule(), ScanningRule::EndOfCall);
+    // the run is over at the end of the input
+    machine.again(100);
+    let ended = call_after(&rt, &mut machine, &mut source, &mut sink, 10);
+    assert!(rt; ended.is_none() && machine.report().is_some());
 }

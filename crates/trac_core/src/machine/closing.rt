@@ -6,7 +6,7 @@ ghost use Rattle.trac_forms.specs.Contents.{IsSound};
 ghost use Rattle.trac_functions.specs.Flat.{memory_of, arguments_at};
 ghost use Rattle.trac_functions.specs.Calls.{AreArguments, texts};
 ghost use Rattle.trac_core.specs.Attempts.{function_at};
-ghost use Rattle.trac_core.specs.Performed.{performs};
+ghost use Rattle.trac_core.specs.OpenCalls.{performed_call};
 ghost use Rattle.trac_core.specs.StepsInRow.{IsPlainFrom};
 
 use crate::scan::is_at;
@@ -20,7 +20,7 @@ use trac_language::Function;
 #[inline]
 pub(crate) fn closed_call(work: &Work) -> Option<u32>
     ensures call { MatchOption result
-        ((meta : ℕ) → performs (memory_of meta work.now) ≡ None)
+        ((meta : ℕ) → performed_call (memory_of meta work.now) ≡ None)
         (λ place. (slice_get (text_of_cells work.now.active) 0 ≡ Some 41)
         × IsLastCall work.now.neutral place) }
     ensures sound { IsSound work.now }

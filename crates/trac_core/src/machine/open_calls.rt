@@ -1,13 +1,17 @@
-//! The calls that are open in a machine.
-ghost use Rattle.std.specs.Prelude.{◌≡◌, length, take};
+//! The calls that are open in a machine, and the one that its next step performs.
+ghost use Rattle.std.specs.Prelude.{◌≡◌, ℕ, length, take};
 ghost use Rattle.trac_space.specs.Cells.{IsCallAt};
-ghost use Rattle.trac_functions.specs.Flat.{mode_at, neutral_of};
+ghost use Rattle.trac_functions.specs.Calls.{AreArguments, texts};
+ghost use Rattle.trac_functions.specs.Flat.{memory_of, mode_at, neutral_of};
 ghost use Rattle.trac_core.specs.View.{neutral_in};
-ghost use Rattle.trac_core.specs.OpenCalls.{innermost_of, mark_of};
+ghost use Rattle.trac_core.specs.OpenCalls.{innermost_of, mark_of, next_call, performed_call};
+ghost use Rattle.trac_core.specs.StepsInRow.{IsPlainFrom};
 
 use super::Machine;
+use super::closing::{closed_call, named_at};
 use trac_forms::{Cell, Work};
-use trac_language::Mode;
+use trac_functions::arguments::Arguments;
+use trac_language::{Function, Mode};
 
 /// A call that is open.
 #[derive(Clone, Copy, Debug, PartialEq, Eq)]
@@ -28,6 +32,18 @@ pub struct CallMark {
     pub place: usize,
 }
 
+/// The call that the next step performs.
+#[derive(Clone, Copy)]
+pub struct NextCall {
+    /// The function that the call names. `None` where no function has the name.
+    pub function: Option<Function>,
+    /// How many arguments stand behind the name, null ones counted: one for each comma mark of the
+    /// call, so 0 without a comma. They are counted too where no function has the name.
+    pub arguments: u32,
+    /// How many calls are open around it.
+    pub depth: usize,
+}
+
 impl<'a> Machine<'a> {
     /// The innermost open call: the one that the next right parenthesis performs. None if no call is open.
     /// Looks at the mark of each open call and at no text. This processor's own choice.
@@ -45,6 +61,53 @@ impl<'a> Machine<'a> {
     {
         mark_of(&self.work, number)
     }
+
+    /// The call that the next step performs, for a host that shows or counts calls before they are
+    /// performed. None where that step performs no call: the active string begins with no right
+    /// parenthesis, or no call is open. None too where there is no next step: the run is over, or the
+    /// allowance is used up. A call that the step then refuses, since the cells are too few, is given.
+    /// Looks at the arguments of that call and at the mark of each open call. This processor's own choice.
+    pub fn next_call(&self) -> Option<NextCall>
+        ensures { result ≡ next_call self.now }
+    {
+        if self.fate.is_none() && self.steps < self.allowance {
+            performed_call(&self.work, self.plain)
+        } else {
+            None
+        }
+    }
+}
+
+/// The call that a step over these contents performs. From the plain place on no comma mark stands in
+/// the neutral string.
+fn performed_call(work: &Work, plain: u32) -> Option<NextCall>
+    requires { IsPlainFrom plain work.now.neutral }
+    ensures { (meta : ℕ) → result ≡ performed_call (memory_of meta work.now) }
+{
+    let Some(place) = closed_call(work) else {
+        return None;
+    };
+    let (function, arguments) = named_at(work, place, plain);
+    let arguments = arguments_left(work, arguments);
+    let depth = calls_around(work, place);
+    Some(NextCall {
+        function,
+        arguments,
+        depth,
+    })
+}
+
+/// How many arguments are left to take.
+fn arguments_left(work: &Work, mut arguments: Arguments) -> u32
+    requires { AreArguments work.now arguments }
+    ensures { result ≡ length (texts work.now arguments) }
+{
+    let mut count = 0;
+    while !arguments.is_empty() {
+        let _ = arguments.next(work);
+        count += 1;
+    }
+    count
 }
 
 /// The innermost open call.

@@ -1,6 +1,6 @@
 use Rattle.trac_core.proofs.Imports.{◌≢◌, refl, ap, sym, subst, ◌∙◌, Some, slice_get, text_of_cells, memory_of, AsksFor}
 use Rattle.trac_core.proofs.Performing.{performs-closed}
-use Rattle.trac_core.proofs.Performed.{unperformed, performs-other, performs-innermost, needs-innermost}
+use Rattle.trac_core.proofs.Performed.{unperformed, uncalled, performs-other, performs-innermost, needs-innermost}
 use Rattle.trac_core.proofs.StepsInRow.{tried-scanned}
 use Rattle.trac_core.proofs.call.perform_pending_alone.Goals as goal
 
@@ -20,7 +20,7 @@ returns-in-Idling-clause-tried c =
     let none = subst (λ front. AsksFor front w) c.in-Idling.is c.requires.asks in
     let other : slice_get (text_of_cells w.active) 0 ≢ Some 41 = λ e. (let first = ap (λ active. slice_get (text_of_cells active) 0) none in cc) in
     record {
-      alone = unperformed (memory_of c.args.meta.now w) (sym (performs-other w c.args.meta.now other));
+      alone = unperformed (memory_of c.args.meta.now w) (uncalled (memory_of c.args.meta.now w) (sym (performs-other w c.args.meta.now other)));
       tried = λ source written. tried-scanned c.load_idling.result.fate w c.load_idling.new.work c.load_idling.result.need h.scanned h.fits c.args.meta.now source written;
       none_failed = h.fate;
       keeps = λ some. (h.forms, refl);

@@ -1,4 +1,5 @@
-use Rattle.trac_core.proofs.Imports.{◌≡◌, ℕ, Option, None, Some, MatchOption, slice_get, sym, IsLastCall, NoCall, text_of_cells, Contents, memory_of, performs}
+use Rattle.trac_core.proofs.Imports.{◌≡◌, ℕ, Option, None, Some, MatchOption, slice_get, sym, IsLastCall, NoCall, text_of_cells, Contents, memory_of}
+use Rattle.trac_core.specs.OpenCalls.{performed_call}
 use Rattle.trac_core.proofs.Performed.{performs-other, performs-none}
 use Rattle.trac_core.proofs.machine.closing.closed_call.Goals as goal
 
@@ -6,7 +7,7 @@ use Rattle.trac_core.proofs.machine.closing.closed_call.Goals as goal
 closes :
     (w : Contents) → slice_get (text_of_cells w.active) 0 ≡ Some 41 →
     (found : Option ℕ) → MatchOption found (NoCall w.neutral) (λ place. IsLastCall w.neutral place) →
-    MatchOption found ((meta : ℕ) → performs (memory_of meta w) ≡ None)
+    MatchOption found ((meta : ℕ) → performed_call (memory_of meta w) ≡ None)
     (λ place. (slice_get (text_of_cells w.active) 0 ≡ Some 41) × IsLastCall w.neutral place)
 closes w first None none = λ meta. sym (performs-none w meta first none)
 closes w first (Some place) last = (first, last)

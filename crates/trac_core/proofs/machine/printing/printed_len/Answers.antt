@@ -1,10 +1,11 @@
 use Rattle.trac_core.proofs.Imports.{ap, sym, ◌∙◌, length, memory_of}
+use Rattle.trac_core.proofs.Performed.{uncalled}
 use Rattle.trac_core.proofs.Printed.{step-prints-none, step-prints-call}
 use Rattle.trac_core.proofs.machine.printing.printed_len.Goals as goal
 
 pub returns-in-None-clause-length : goal.returns-in-None-clause-length
 returns-in-None-clause-length c = λ meta input.
-    ap length (step-prints-none (memory_of meta c.args.work.now) input (sym (c.in-None.ensures.call meta)))
+    ap length (step-prints-none (memory_of meta c.args.work.now) input (sym (uncalled (memory_of meta c.args.work.now) (c.in-None.ensures.call meta))))
 
 pub returns-in-Some-clause-length : goal.returns-in-Some-clause-length
 returns-in-Some-clause-length c = λ meta input.

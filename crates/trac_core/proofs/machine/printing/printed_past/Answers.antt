@@ -1,11 +1,11 @@
 use Rattle.trac_core.proofs.Imports.{◌≡◌, ◌<◌, ◌≤◌, ap, sym, ◌∙◌, subst, length, memory_of, arith, Text, Input, MatchOption}
-use Rattle.trac_core.proofs.Performed.{performs-innermost}
+use Rattle.trac_core.proofs.Performed.{performs-innermost, uncalled}
 use Rattle.trac_core.proofs.Printed.{step-prints-none, step-prints-call}
 use Rattle.trac_core.proofs.machine.printing.printed_past.Goals as goal
 
 pub returns-in-None-clause-past : goal.returns-in-None-clause-past
 returns-in-None-clause-past c = λ meta input.
-    let none = ap length (step-prints-none (memory_of meta c.args.work.now) input (sym (c.in-None.ensures.call meta))) in
+    let none = ap length (step-prints-none (memory_of meta c.args.work.now) input (sym (uncalled (memory_of meta c.args.work.now) (c.in-None.ensures.call meta)))) in
     omega (arith, none)
 
 pub returns-in-Some-clause-past : goal.returns-in-Some-clause-past

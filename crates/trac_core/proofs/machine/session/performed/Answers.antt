@@ -1,9 +1,9 @@
-use Rattle.trac_core.proofs.Imports.{◌∙◌, sym}
-use Rattle.trac_core.proofs.Performed.{performs-innermost}
+use Rattle.trac_core.proofs.Imports.{◌∙◌, sym, memory_of}
+use Rattle.trac_core.proofs.Performed.{performs-innermost, uncalled}
 use Rattle.trac_core.proofs.machine.session.performed.Goals as goal
 
 pub returns-in-None : goal.returns-in-None
-returns-in-None c = λ meta. sym (c.in-None.ensures.call meta)
+returns-in-None c = λ meta. sym (uncalled (memory_of meta c.args.work.now) (c.in-None.ensures.call meta))
 
 pub returns-in-Some : goal.returns-in-Some
 returns-in-Some c = λ meta.
