@@ -37,8 +37,8 @@ pub struct CallMark {
 pub struct NextCall {
     /// The function that the call names. `None` where no function has the name.
     pub function: Option<Function>,
-    /// How many arguments stand behind the name, null ones counted: one for each comma of the call,
-    /// and 0 without a comma. They count alike where no function has the name.
+    /// How many arguments stand behind the name, null ones counted: one for each comma mark of the
+    /// call, so 0 without a comma. They are counted too where no function has the name.
     pub arguments: u32,
     /// How many calls are open around it.
     pub depth: usize,
