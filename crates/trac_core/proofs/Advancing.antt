@@ -11,7 +11,7 @@ use Rattle.trac_core.specs.StepsInRow.{idling_begun, idling_loaded}
 use Rattle.trac_core.proofs.IdlingSteps.{idling-advances, idling-sound}
 use Rattle.trac_core.proofs.RunningOn.{IsNeed}
 
--- the counters after so many steps, with this peak
+-- the counters after `done` steps more, with a peak
 abbrev pub counters_after : Counters → (done peak : ℕ) → Counters
 counters_after at done peak = record { allowance = at.allowance; steps = at.steps + done; peak = peak }
 

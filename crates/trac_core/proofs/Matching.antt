@@ -111,7 +111,7 @@ sides-count (cell ∷ cells) =
     let rights = sum_by-cons (λ c. weight (c == 41)) c (text_of_cells cells) in
     omega (arith, sum_by-cons side_in cell cells, sides-count cells, lefts, rights, side-is c)
 
--- so many of each stand among eight characters
+-- what the table of sides gives for eight characters tells how many of them are left and right parentheses
 sides-eight : (cells : List Cell) (i sides : ℕ) → sides ≡ sum_by side_in (take 8 (drop i cells)) → (sides % 16 ≡ count 40 (take 8 (drop i (text_of_cells cells)))) × (sides / 16 ≡ count 41 (take 8 (drop i (text_of_cells cells)))) × (sides % 16 ≤ 8)
 sides-eight cells i sides is =
     let text = text_of_cells cells in

@@ -19,7 +19,7 @@ course_to start bytes before now =
 abbrev run_with : Text → Text → Fate → ℕ → ℕ → Run
 run_with output left fate steps peak = record { output = output; left = left; fate = fate; steps = steps; peak = peak }
 
--- a run whose numbers are known, with what was printed before it, after so many steps with this peak
+-- a run whose numbers are known, behind a course of `done` steps with the peak `top` and what they printed
 is-report : (done top : ℕ) (r : Run) (c : Course) (report : Report) (output left : Text) (steps peak : ℕ) → record r { output = c.before ++ r.output } ≡ run_with output left report.fate steps peak → c.after ≡ output → report.steps ≡ done + steps → report.peak ≡ max top peak → IsReportOf (after_steps done top r) c report
 is-report done top r c report output left steps peak e after steps_is peak_is =
     record {

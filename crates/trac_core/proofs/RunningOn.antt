@@ -9,7 +9,7 @@ use Rattle.trac_core.proofs.Scanning.{scans-idling}
 use Rattle.trac_core.specs.StepsInRow.{idling_begun, idling_loaded}
 use Rattle.trac_core.proofs.IdlingSteps.{idling-advances, idling-sound}
 
--- the counters where so many steps are left
+-- the counters where `left` steps are left
 abbrev pub with_left : (allowance left peak : ℕ) → Counters
 with_left allowance left peak = record { allowance = allowance; steps = allowance - left; peak = peak }
 

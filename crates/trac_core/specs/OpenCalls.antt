@@ -11,12 +11,12 @@ use Rattle.trac_core.specs.declared.machine.open_calls.NextCall.{NextCall}
 use Rattle.trac_core.specs.declared.machine.open_calls.OpenCall.{OpenCall}
 use Rattle.trac_core.specs.Machine.{MachineState}
 
--- the cells that stand before the mark of a call that is open within these others, behind a base text of
--- so many cells
+-- the cells that stand before the mark of a call that is open within the calls `outer`, where the base text
+-- has `base` cells
 abbrev pub cells_before : ℕ → List Call → ℕ
 cells_before base outer = base + sum_by call_cells outer
 
--- the innermost of these calls, behind a base text of so many cells
+-- the innermost of some open calls, where the base text has `base` cells
 abbrev pub innermost_within : ℕ → List Call → Option OpenCall
 innermost_within base [] = None
 innermost_within base (call ∷ outer) = Some (record {
@@ -29,8 +29,8 @@ innermost_within base (call ∷ outer) = Some (record {
 abbrev pub innermost_of : Neutral → Option OpenCall
 innermost_of n = innermost_within (length n.base) n.calls
 
--- the mark of the call with this number among these, the innermost being 0, behind a base text of so many
--- cells
+-- the mark of an open call by its number, where the innermost call has the number 0 and the base text has
+-- `base` cells
 abbrev pub mark_within : ℕ → ℕ → List Call → Option CallMark
 mark_within number base [] = None
 mark_within zero base (call ∷ outer) = Some (record {
@@ -39,7 +39,7 @@ mark_within zero base (call ∷ outer) = Some (record {
 })
 mark_within (suc number) base (call ∷ outer) = mark_within number base outer
 
--- the same of a neutral string
+-- the mark of an open call of a neutral string by its number
 abbrev pub mark_of : ℕ → Neutral → Option CallMark
 mark_of number n = mark_within number (length n.base) n.calls
 

@@ -25,7 +25,7 @@ pub use Rattle.trac_space.specs.Runs.{number_in, turned, turned_by}
 pub use Rattle.trac_space.specs.Texts.{IsByte, byte_cell_at, character_of, flat_text, text_of_cells}
 pub use Rattle.trac_space.specs.declared.cell.Cell.{Cell}
 pub use Rattle.trac_space.specs.declared.cell.Cell.TheVariants.{Byte, Call, Comma, Gap, Head}
-pub use Rattle.trac_store.proofs.Filling.{AreItems, items, plain-items, plain-text}
+pub use Rattle.trac_store.proofs.Filling.{AreItems, items}
 pub use Rattle.trac_store.proofs.Finding.{bytes-flat, part-seen}
 pub use Rattle.trac_store.proofs.FlatLemmas.{Byte-character_of, character_of-Byte, count-le, flat_items_of, forms_in-flat, item_of-cell, length-flat, length-flat_form, length-new_form}
 pub use Rattle.trac_store.proofs.Gaps.{bytes-seen}
@@ -41,7 +41,7 @@ pub use Rattle.trac_store.specs.FlatForms.{flat_form, flat_forms, flat_item}
 pub use Rattle.trac_store.specs.Forms.{IsNamedAt, body_at, form_at, name_at}
 pub use Rattle.trac_store.specs.Gaps.{gap_cell_at, segmented_cells, text_cells_at}
 pub use Rattle.trac_store.specs.Index.{IsIndex, IsIndexBut, IsIndexed, IsKept, IsOpenFor, IsReached, buried, cell_at, earlier, forward, hash, home_in, home_place, is_open, number_of, quarter, slots, start_in, start_place, started, with_entry}
-pub use Rattle.trac_store.specs.Loading.{AreCharacters, called_part}
+pub use Rattle.trac_store.specs.Loading.{called_part}
 pub use Rattle.trac_store.specs.Parts.{IsTextPart, new_form, part_text, part_texts}
 pub use Rattle.trac_forms.specs.Removal.{AreMarking, HaveOwnNames, IsFormed, IsMarkedFrom, is_among, is_marked, mark, marked, marked_if, unmarked, with_marks, without_all}
 pub use Rattle.trac_store.specs.Search.{IsFirst, NonePasses, character_at, gap_at, is_gap, item_at, text_at}

@@ -6,7 +6,7 @@ use Rattle.trac_language.specs.Text.{Text}
 use Rattle.trac_store.specs.Search.{character_at}
 use Rattle.trac_forms.specs.Contents.{Contents, used, body_at, pointer_at}
 -- what a call of a form goes through, as the store's crate defines it
-pub use Rattle.trac_store.specs.Loading.{called_part, AreCharacters}
+pub use Rattle.trac_store.specs.Loading.{called_part}
 
 -- the text has `n` characters, which fit and stand before the active string
 pub record IsLoaded (old new : Contents) (text : Text) (n : ℕ) : Type 0 where

@@ -22,7 +22,7 @@ pub use Rattle.trac_forms.proofs.ArgumentParts.{before_comma-within, found-comma
 pub use Rattle.trac_forms.proofs.DistinctForms.{changed-at, form_named-at, form_named-none, without-at, without-none}
 pub use Rattle.trac_forms.specs.Arguments.{AreParted, before_comma, filled_body, parts_between, texts_between}
 pub use Rattle.trac_forms.specs.Contents.{AreTextParts, Contents, IsNamedAt, IsSound, IsStringCell, IsTextPart, body_at, form_at, name_at, part_text, part_texts, pointer_at, used}
-pub use Rattle.trac_forms.specs.Loading.{AreCharacters, IsLoaded, called_part}
+pub use Rattle.trac_forms.specs.Loading.{IsLoaded, called_part}
 pub use Rattle.trac_forms.specs.Search.{IsFirst, IsLast, NonePasses, character_at, gap_at, is_gap, text_at}
 pub use Rattle.trac_functions.specs.BitResults.{AreDigits, AreFor, bits_at, bits_made}
 pub use Rattle.trac_functions.specs.Calls.{AreArguments, IsValue, Makes, Means, Performs, Valued, texts, texts_from, world}

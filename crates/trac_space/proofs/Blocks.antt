@@ -1,29 +1,5 @@
 -- Characters that are put once more by blocks, before they are looked at.
-use Rattle.trac_space.proofs.Imports.{◌≡◌, ℕ, ◌+◌, ◌-◌, ◌<◌, ◌≤◌, false, All, List, ◌++◌, length, take, drop, get_or, sym, ap, ◌∙◌, arith, rules, copy_within, take-add, places, same_lists, All-append, Cell, Comma, IsByte, is_byte_cell, byte_cell_at, paste}
-
--- the first cells of a copy, with the cells before it
-pub front-of : {X : Type 0} (was after source : List X) (to m r : ℕ) → to ≤ length was → m ≤ length source → r ≤ m → after ≡ paste was to source m → take (to + r) after ≡ take to was ++ take r source
-front-of was after source to m r within long few is =
-    rw is (same_lists _ _ (search (rules, places)) (λ i d less. grind (arith, places)))
-
--- what stands behind a copy
-pub behind-of : {X : Type 0} (was after source : List X) (to m most : ℕ) → m ≤ most → to + most ≤ length was → m ≤ length source → after ≡ paste was to source m → drop (to + most) after ≡ drop (to + most) was
-behind-of was after source to m most few within long is =
-    rw is (same_lists _ _ (search (rules, places)) (λ i d less. grind (arith, places)))
-
--- j characters more, of cells before the place, which are as they were
-pub bytes-on : (was now : List Cell) (start to n k j : ℕ) → to + n ≤ length was → now ≡ paste was to (drop start was) n → start + k + j ≤ to → All IsByte (take k (drop start was)) → All IsByte (take j (drop (start + k) now)) → All IsByte (take (k + j) (drop start was))
-bytes-on was now start to n k j long is apart bytes more =
-    let part : take j (drop (start + k) now) ≡ take j (drop k (drop start was)) =
-    rw is (same_lists _ _ (search (rules, places)) (λ i d less. grind (arith, places))) in
-    rw take-add (All-append IsByte _ _ bytes (rw part at more))
-
--- the cell behind a run of characters, if it stands before the place of a copy, is as it was
-pub stop-on : (was now : List Cell) (start to n k j : ℕ) → to + n ≤ length was → now ≡ paste was to (drop start was) n → start + k + j < to → byte_cell_at now (start + k + j) ≡ false → byte_cell_at was (start + (k + j)) ≡ false
-stop-on was now start to n k j long is apart stop =
-    let place : start + k + j ≡ start + (k + j) = omega arith in
-    let at : get_or now (start + k + j) Comma ≡ get_or was (start + k + j) Comma = rw is (grind (arith, places)) in
-    rw place at (sym (ap is_byte_cell at) ∙ stop)
+use Rattle.trac_space.proofs.Imports.{◌≡◌, ℕ, ◌+◌, ◌-◌, ◌≤◌, List, length, drop, arith, rules, copy_within, places, same_lists, paste}
 
 -- to a place behind: k cells are there, and the last m follow, of which some may be there
 pub copied-last : {X : Type 0} (was now after : List X) (start to k m n : ℕ) → k ≤ n → m ≤ n → n ≤ k + m → start + n ≤ to → to + n ≤ length was → now ≡ paste was to (drop start was) k → after ≡ copy_within now (start + (n - m)) (start + (n - m) + m) (to + (n - m)) → after ≡ copy_within was start (start + n) to

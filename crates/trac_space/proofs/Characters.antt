@@ -1,11 +1,7 @@
 -- Characters that are put once more at a place behind, one after the other.
 use Rattle.trac_space.proofs.Imports.{◌≡◌, ◌↔◌, ℕ, ◌+◌, ◌<◌, ◌≤◌, true, false, IsTrue, nat_eq, All, List, [], ◌∷◌, ◌++◌, length, take, drop, map, get_or, slice_range, sum_by, refl, sym, ◌-◌, ap, ◌∙◌, subst, ⊎_elim, arith, rules, places, same_lists, length-drop, length-take-le, get_or-take}
-use Rattle.trac_space.proofs.Imports.{get_or-map, get_or-drop, take_more, drop_more, suc, take-map, drop-map, drop-drop, take-add, cases_lt, All-append, All-push, All-map, All-cons, All-head, All-tail, sum_by-cons, Cell, Byte, Call, Comma, seen, IsNoCall, NoCall, IsByte, is_byte_cell, byte_cell_at}
-use Rattle.trac_space.proofs.Imports.{kind_number, paste}
-
--- the cells before the place of a copy are as they were
-pub front-cell : (was now source : List Cell) (to k i : ℕ) (d : Cell) → i < to → to ≤ length was → now ≡ paste was to source k → get_or now i d ≡ get_or was i d
-front-cell was now source to k i d less within is = grind (arith, places)
+use Rattle.trac_space.proofs.Imports.{get_or-map, get_or-drop, take_more, drop_more, suc, take-map, drop-map, drop-drop, take-add, cases_lt, All-append, All-push, All-map, All-cons, All-head, All-tail, sum_by-cons, Cell, Byte, Call, Comma, seen, IsNoCall, IsByte, is_byte_cell, byte_cell_at}
+use Rattle.trac_space.proofs.Imports.{kind_number}
 
 -- a cell that is tested is a character
 pub tested-byte : (cell : Cell) → is_byte_cell cell ≡ true → IsByte cell
@@ -72,9 +68,6 @@ module _ (cells : List Cell) (store a n : ℕ) (within : a + n ≤ store) where
   part-bytes bytes =
       let size : a + n - a ≡ n = omega arith in
       rw (part-seen, size) (All-map IsByte seen (take n (drop a cells)) (λ k d less. rw tested-seen (bytes k d less)))
-
-  pub part-goes : All IsByte (take n (drop a cells)) → NoCall (map seen (slice_range cells a (a + n)))
-  part-goes bytes = λ k d less. byte-no_call (get_or (map seen (slice_range cells a (a + n))) k d) ((rw part-seen at part-bytes bytes) k d less)
 
   pub part-stop : a + n < store → store ≤ length cells → byte_cell_at cells (a + n) ≡ false → byte_cell_at (map seen (take store cells)) (a + n) ≡ false
   part-stop inside fits stop =

@@ -8,7 +8,6 @@ use Rattle.std.proofs.lemmas.List.Elements.{All-drop}
 use Rattle.trac_space.proofs.Imports.{⊎_elim, ◌⊎◌, put_mid, drop_all, get_or_default, take-map, drop-map, drop-drop, map-append, take-take, append-nil, length-append, length-map, length-take-le, drop_more, get_or-take, All-head, All-tail, length-between, Cell, Byte, Comma, IsByte, is_byte_cell, is_comma}
 use Rattle.trac_space.proofs.Imports.{filling, filled, ordinal_of, IsPut, HaveCommas, parts_at, numbered_part, part_between}
 use Rattle.trac_space.specs.Overlay.{has_number, under, over}
-use Rattle.std.proofs.lemmas.List.{get_or_past}
 
 -- what a copy to a place behind leaves
 module _ (now new : List Cell) (start to n : ℕ) (apart : start + n ≤ to) (within : to + n ≤ length now) (is : new ≡ copy_within now start (start + n) to) where
@@ -255,9 +254,6 @@ module _ (cells : List Cell) (commas : ℕ) (have : HaveCommas cells commas) whe
 
   pub part-within : (k : ℕ) → k ≤ commas → ((numbered_part (parts_at 0 0 (map under cells)) (suc k)).0 ≤ (numbered_part (parts_at 0 0 (map under cells)) (suc k)).1) × ((numbered_part (parts_at 0 0 (map under cells)) (suc k)).1 ≤ length cells)
   part-within k less = let h = parts-within 0 0 (map under cells) (omega arith) k (omega (arith, less, have.all)) in (h.0, omega (arith, h.1, length-map cells under))
-
-  pub part-none : (k : ℕ) → commas < k → part_between (map under cells) (suc k) ≡ []
-  part-none k past = ap (λ (p : ℕ × ℕ). slice_range (map under cells) p.0 p.1) (get_or_past ((0, 0) ∷ parts_at 0 0 (map under cells)) (suc k) (0, 0) (omega (arith, past, have.all)))
 
 -- cells behind those over which numbers lie have none
 pub others-in : (cells : List Cell) (start len commas from n : ℕ) → start + len ≤ length cells → HaveCommas (slice_range cells start (start + len)) commas → from + n ≤ len → map under (drop (start + commas - (start + from)) (slice_range cells (start + from) (start + from + n))) ≡ drop (start + commas - (start + from)) (slice_range cells (start + from) (start + from + n))

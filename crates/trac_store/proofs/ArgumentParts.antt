@@ -58,7 +58,7 @@ before_comma-seen : (cells : List Cell) → before_comma (map seen cells) ≡ be
 before_comma-seen [] = refl
 before_comma-seen (cell ∷ cells) = rw (is_comma-seen cell, before_comma-seen cells) refl
 
--- so many cells stand before the comma mark that ends the first part
+-- `n` cells stand before the first comma mark, also as contracts see the cells
 pub found-comma : (cells part : List Cell) (n : ℕ) → map seen cells ≡ part → n ≡ before_comma cells → n ≡ before_comma part
 found-comma cells part n e found = found ∙ sym (before_comma-seen cells) ∙ ap before_comma e
 
@@ -91,7 +91,7 @@ parts-some neutral from end le = let yes : nat_le from end ≡ true = grind arit
 pub parts-none : (neutral : List Cell) (from end : ℕ) → end < from → parts_between neutral from end ≡ []
 parts-none neutral from end lt = let no : nat_le from end ≡ false = grind arith in rw no refl
 
--- the parts from a place on: the first, which ends before so many cells, and those behind it
+-- the parts from a place on: the first has `n` cells, and the others stand behind it
 module _ (neutral : List Cell) (from end n : ℕ) (le : from ≤ end) (within : end ≤ length neutral) (is : n ≡ before_comma (slice_range neutral from end)) where
   pub part-fits : from + n ≤ end
   part-fits = omega (arith, is, before_comma-within (slice_range neutral from end), length-between neutral from end within)

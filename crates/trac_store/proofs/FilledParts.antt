@@ -1,13 +1,11 @@
 -- What fills the gaps of a body: the texts between the comma marks of neutral.
 use Rattle.trac_store.proofs.Imports.{Bool, ◌≡◌, ℕ, zero, suc, ◌+◌, ◌-◌, ◌<◌, ◌≤◌, true, false, cond, All, List, [], ◌∷◌, ◌++◌, length, take, drop, map, get_or, nat_le, refl, sym, ap, ◌∙◌, arith, rules, subst, slice_range, ⊎_elim, cases_lt, length-map, map-append, get_or_past, get_or-map, length-between, drop_more, All-tail, All-cons, All-nil, All-get_or, places, same_lists, Cell, Byte}
-use Rattle.trac_store.proofs.Imports.{Comma, Gap, Call, NoCall, IsByte, is_comma, filled, numbered_part, part_between, parts_at, flat_text, HaveNumbers, under, AreTextParts, IsTextPart, part_text, part_texts, parts_between, append_assoc, length-append, length-take-le, split_between}
-use Rattle.std.proofs.lemmas.List.{take-append-le, drop-append-le}
+use Rattle.trac_store.proofs.Imports.{Comma, Gap, Call, IsByte, is_comma, filled, numbered_part, part_between, parts_at, flat_text, HaveNumbers, under, AreTextParts, IsTextPart, part_text, part_texts, parts_between, append_assoc, length-append, length-take-le, split_between}
 use Rattle.trac_store.proofs.Imports.{take-append-drop}
 use Rattle.trac_space.proofs.Filled.{parts-within}
 use Rattle.trac_space.proofs.LaidCommas.{Takes}
-use Rattle.trac_store.proofs.Filling.{filled as filled_text, part-there, part-text, text-no_call}
-use Rattle.trac_store.proofs.FlatLemmas.{Byte-character_of, part_of_longer}
-use Rattle.trac_store.proofs.Finding.{bytes-flat}
+use Rattle.trac_store.proofs.Filling.{filled as filled_text, part-there, part-text}
+use Rattle.trac_store.proofs.FlatLemmas.{Byte-character_of}
 
 -- parts are counted from another place
 abbrev moved : ℕ → ℕ × ℕ → ℕ × ℕ
@@ -180,9 +178,6 @@ module _ (neutral : List Cell) (first end from : ℕ) (begin : IsBegin first end
       ∙ sym (map-append Byte (get_or ([] ∷ texts) k []) (filled_text texts cells))
   filled-flat (cell ∷ cells) = filled-flat cells
 
-  pub filled-no_call : (cells : List Cell) → NoCall (filled given cells)
-  filled-no_call cells = subst NoCall (sym (filled-flat cells)) (text-no_call (flat_text (filled_text (part_texts neutral (parts_between neutral first end)) cells)) (bytes-flat (filled_text (part_texts neutral (parts_between neutral first end)) cells)))
-
 -- what is under numbers that lie over the cells
 module _ (was now : List Cell) (a b : ℕ) (order : a ≤ b) (within : b ≤ length was) (numbers : HaveNumbers was now a b) where
   pub numbers-long : length now ≡ length was
@@ -199,15 +194,6 @@ module _ (was now : List Cell) (a b : ℕ) (order : a ≤ b) (within : b ≤ len
       let front : length (take a now) ≡ a = length-take-le a now (omega (arith, order, within, size)) in
       let middle : slice_range (take a now ++ mid ++ drop b now) a b ≡ mid = same_lists _ _ (search (rules, places)) (λ i d less. grind (arith, places)) in
       sym middle ∙ ap (λ l. slice_range l a b) numbers
-
-  -- cells that come behind them stay
-  pub lifted-longer : (more : List Cell) → take a (now ++ more) ++ map under (slice_range (now ++ more) a b) ++ drop b (now ++ more) ≡ was ++ more
-  lifted-longer more =
-      let size = numbers-long in
-      let front : take a (now ++ more) ≡ take a now = take-append-le a now more (omega (arith, order, within, size)) in
-      let part : slice_range (now ++ more) a b ≡ slice_range now a b = part_of_longer now more a b order (omega (arith, within, size)) in
-      let rest : drop b (now ++ more) ≡ drop b now ++ more = drop-append-le b now more (omega (arith, within, size)) in
-      rw (front, part, rest) (sym (append_assoc (take a now ++ map under (slice_range now a b)) (drop b now) more) ∙ ap (λ l. l ++ more) numbers)
 
 -- only the first of the cells have numbers
 pub numbers-fewer : (was now : List Cell) (a b n : ℕ) → a ≤ b → b ≤ length was → HaveNumbers was now a b → n ≤ length (slice_range now a b) → map under (drop n (slice_range now a b)) ≡ drop n (slice_range now a b) → HaveNumbers was now a (a + n)

@@ -1,7 +1,7 @@
 -- The text of a form whose gaps are filled, part by part.
-use Rattle.trac_store.proofs.Imports.{◌≡◌, ℕ, zero, suc, ◌+◌, ◌-◌, ◌<◌, ◌≤◌, true, false, List, [], ◌∷◌, ◌++◌, length, take, drop, map, get_or, slice_range, Some, All, refl, sym, ap, ◌∙◌, arith, subst, ⊎_elim, false≢true, cases_lt, drop-map}
-use Rattle.trac_store.proofs.Imports.{length-map, get_or_past, All-head, All-tail, All-nil, All-cons, All-get_or, All-map, length-between, Item, Text, fill, is_character, text_of, IsStore, Cell, Byte, Call, IsNoCall, NoCall, Lists}
-use Rattle.trac_store.proofs.Imports.{flat_text, text_of_cells, character_of, IsByte, is_byte_cell, flat_item, flat_forms, IsTextPart, part_text, AreTextParts, part_texts, form_at, name_at, body_at, pointer_at, gap_number}
+use Rattle.trac_store.proofs.Imports.{◌≡◌, ℕ, ◌+◌, ◌-◌, ◌<◌, ◌≤◌, List, [], ◌∷◌, length, drop, map, get_or, slice_range, All, refl, sym, ap, ◌∙◌, arith, subst, ⊎_elim, cases_lt, drop-map}
+use Rattle.trac_store.proofs.Imports.{length-map, get_or_past, All-head, All-tail, All-nil, All-cons, All-get_or, length-between, Item, Text, fill, IsStore, Cell, Byte, Lists}
+use Rattle.trac_store.proofs.Imports.{flat_text, text_of_cells, character_of, IsByte, flat_item, flat_forms, IsTextPart, part_text, AreTextParts, part_texts, form_at, name_at, body_at, pointer_at}
 use Rattle.trac_store.proofs.Imports.{item_of, forms_in, start_of, begins}
 use Rattle.std.proofs.Math.ListN.{get_or-map as get_or-map-same}
 use Rattle.trac_store.proofs.Places.{stands}
@@ -11,13 +11,6 @@ use Rattle.trac_store.proofs.FlatLemmas.{drop-part, Byte-character_of, item_of-c
 -- the text of cells that stand for items
 abbrev pub filled : List Text → List Cell → Text
 filled given cells = fill given (map item_of cells)
-
--- characters stand for themselves, and the rest comes behind
-filled-run : (given : List Text) (cells : List Cell) (n : ℕ) → All IsByte (take n cells) → filled given cells ≡ text_of_cells (take n cells) ++ filled given (drop n cells)
-filled-run given cells zero h = refl
-filled-run given [] (suc n) h = refl
-filled-run given (Byte c ∷ cells) (suc n) h = ap (λ text. c ∷ text) (filled-run given cells n (All-tail IsByte (Byte c) (take n cells) h))
-filled-run given (cell ∷ cells) (suc n) h = absurd (All-head IsByte cell (take n cells) h)
 
 -- characters alone are their text, which stands as they do and is as long
 filled-plain : (given : List Text) (cells : List Cell) → All IsByte cells → filled given cells ≡ text_of_cells cells
@@ -31,37 +24,6 @@ plain-flat given cells h = ap flat_text (filled-plain given cells h) ∙ Byte-ch
 pub plain-length : (given : List Text) (store : List Cell) (at end : ℕ) → end ≤ length store → All IsByte (slice_range store at end) → length (filled given (slice_range store at end)) ≡ end - at
 plain-length given store at end within h =
     ap length (filled-plain given (slice_range store at end) h) ∙ length-map (slice_range store at end) character_of ∙ length-between store at end within
-
--- cells that are characters stand for items that are, with their text
-pub plain-items : (cells : List Cell) → All IsByte cells → All (λ item. is_character item ≡ true) (map item_of cells)
-plain-items cells h = All-map (λ item. is_character item ≡ true) item_of cells (λ k d less. character-item (get_or cells k d) (h k d less))
-  where
-    character-item : (cell : Cell) → IsByte cell → is_character (item_of cell) ≡ true
-    character-item (Byte c) h = refl
-    character-item cell h = absurd h
-
-pub plain-text : (cells : List Cell) → All IsByte cells → flat_text (text_of (map item_of cells)) ≡ cells
-plain-text [] h = refl
-plain-text (Byte c ∷ cells) h = ap (λ l. Byte c ∷ l) (plain-text cells (All-tail IsByte (Byte c) cells h))
-plain-text (cell ∷ cells) h = absurd (All-head IsByte cell cells h)
-
--- so does one, and a cell that is none has the text of its number
-filled-character : (given : List Text) (cell : Cell) (cells : List Cell) → is_byte_cell cell ≡ true → filled given (cell ∷ cells) ≡ (character_of cell ∷ []) ++ filled given cells
-filled-character given (Byte c) cells h = refl
-filled-character given cell cells h = absurd (false≢true h)
-
-filled-cell : (given : List Text) (cell : Cell) (cells : List Cell) → is_byte_cell cell ≡ false → filled given (cell ∷ cells) ≡ get_or ([] ∷ given) (gap_number (Some cell)) [] ++ filled given cells
-filled-cell given (Byte c) cells h = absurd (false≢true (sym h))
-filled-cell given cell cells h = refl
-
-text-goes : (cell : Cell) → IsByte cell → IsNoCall cell
-text-goes (Call m d) h = absurd h
-text-goes cell h = refl
-
-pub text-no_call : (cells : List Cell) → All IsByte cells → NoCall cells
-text-no_call [] h = All-nil IsNoCall
-text-no_call (cell ∷ cells) h =
-    All-cons IsNoCall cell cells (text-goes cell (All-head IsByte cell cells h)) (text-no_call cells (All-tail IsByte cell cells h))
 
 -- the items of a body from a place on, as they stand in the store
 pub body-items : (store : List Cell) (body : List Item) (at from : ℕ) → from ≤ length body → slice_range store at (at + length body) ≡ map flat_item body → map item_of (slice_range store (at + from) (at + length body)) ≡ drop from body

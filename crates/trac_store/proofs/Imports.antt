@@ -39,7 +39,6 @@ pub use Rattle.trac_store.specs.FlatForms.{flat_form, flat_forms, flat_item}
 pub use Rattle.trac_store.specs.Forms.{IsNamedAt, body_at, form_at, name_at, pointer_at}
 pub use Rattle.trac_store.specs.Gaps.{begins_cells, gap_cell_at, gap_number, gap_ordinal, is_byte, is_gap_cell, segment_cells, segmented_cells, text_cells_at}
 pub use Rattle.trac_store.specs.Index.{HasEntry, IsEntry, IsHeld, IsIndex, IsIndexBut, IsIndexed, IsKept, IsReached, cell_at, hash, home_place, is_blank, mixed, quarter, slot, slots, start_place, with_entry}
-pub use Rattle.trac_store.specs.Loading.{AreCharacters}
 pub use Rattle.trac_store.specs.Parts.{AreTextParts, IsTextPart, new_form, part_text, part_texts}
 pub use Rattle.trac_store.specs.Search.{IsFirst, IsLast, NonePasses, character_at, gap_at, is_gap, item_at, text_at}
 pub use Rattle.trac_store.specs.Stored.{IsFoundAt, IsLocated, forms_in, head_at, head_number, item_of, item_of_cell, read_forms, start_of, stored_item}

@@ -1,7 +1,7 @@
 use Rattle.trac_core.proofs.Imports.{◌-◌, ◌≤◌, length, text_of_cells, IsAt}
 use Rattle.trac_core.proofs.runs.matching.Given as goal
 
--- no match stands among the cells so far, and so many left parentheses are open
+-- no match stands among the first `i` cells, and `depth` left parentheses are open there
 abbrev pub invariant-loop-i : goal.invariant-loop-i
 invariant-loop-i l =
     record {

@@ -1,7 +1,7 @@
 use Rattle.trac_core.proofs.Imports.{◌+◌, ◌-◌, ◌≤◌, text_of_cells, IsAt}
 use Rattle.trac_core.proofs.runs.matching_among.Given as goal
 
--- no match stands among the cells so far, and so many left parentheses are open
+-- no match stands among the cells before `from + count`, and `depth` left parentheses are open there
 abbrev pub invariant-loop-count : goal.invariant-loop-count
 invariant-loop-count l =
     record {

@@ -1,4 +1,4 @@
-use Rattle.trac_space.proofs.Imports.{ℕ, ◌≡◌, ◌+◌, ◌-◌, ◌≤◌, ◌<◌, ◌∙◌, All, length, take, drop, map, slice_range, slice_index_or, sym, ap, subst, arith, drop-drop, get_or_default, length-between, Byte, Comma, IsByte, is_byte_cell, filling, part_between, ordinal_of}
+use Rattle.trac_space.proofs.Imports.{ℕ, ◌≡◌, ◌+◌, ◌-◌, ◌≤◌, ◌<◌, ◌∙◌, length, drop, map, slice_range, slice_index_or, sym, ap, arith, drop-drop, get_or_default, length-between, Byte, Comma, is_byte_cell, filling, part_between, ordinal_of}
 use Rattle.trac_space.specs.Overlay.{under}
 use Rattle.trac_space.proofs.Filled.{FilledFrom, along-start, along-behind, along-end, along-rest, commas-now, same-part, same-cell, block-run, cell-put, cell-full, filling-gap, last-bytes}
 use Rattle.trac_space.proofs.filling.fill_cells.Goals as goal

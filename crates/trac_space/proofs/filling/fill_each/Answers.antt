@@ -1,4 +1,4 @@
-use Rattle.trac_space.proofs.Imports.{◌≡◌, ◌+◌, ◌-◌, ◌≤◌, ◌∙◌, ap, sym, length, map, slice_range, slice_index_or, arith, Comma, length-between, filling}
+use Rattle.trac_space.proofs.Imports.{◌≡◌, ◌+◌, ◌-◌, ◌∙◌, ap, length, map, slice_range, slice_index_or, arith, Comma, length-between, filling}
 use Rattle.trac_space.specs.Overlay.{under}
 use Rattle.trac_space.proofs.Filled.{along-start, along-behind, along-end, commas-now, same-part, same-cell, cell-put, cell-full}
 use Rattle.trac_space.proofs.filling.fill_each.Goals as goal

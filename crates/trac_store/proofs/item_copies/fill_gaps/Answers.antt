@@ -41,28 +41,28 @@ module _ (old mid put last : Lists) (a b : ℕ) (numbers : HaveNumbers old.neutr
 
   lifted : (result : Option ℕ) (more : List Cell) (text : Text) → more ≡ flat_text text
       → MatchOption result
-        ((put ≡ record mid { spare = put.spare }) × (mid.room < used mid + length more))
-        (λ n. (length more ≡ n) × (used mid + n ≤ mid.room) × (put ≡ record mid { active = more ++ mid.active; spare = put.spare }))
+      ((put ≡ record mid { spare = put.spare }) × (mid.room < used mid + length more))
+      (λ n. (length more ≡ n) × (used mid + n ≤ mid.room) × (put ≡ record mid { active = more ++ mid.active; spare = put.spare }))
       → MatchOption result
-        ((last ≡ record old { spare = last.spare }) × (old.room < used old + length text))
-        (λ n. (length text ≡ n) × (used old + n ≤ old.room) × (last ≡ record old { active = flat_text text ++ old.active; spare = last.spare }))
+      ((last ≡ record old { spare = last.spare }) × (old.room < used old + length text))
+      (λ n. (length text ≡ n) × (used old + n ≤ old.room) × (last ≡ record old { active = flat_text text ++ old.active; spare = last.spare }))
   lifted None more text is h = (
     last_is
-    ∙ ap (λ (l : Lists). record l { neutral = take a l.neutral ++ map under (slice_range l.neutral a b) ++ drop b l.neutral }) h.0
-    ∙ ap (λ (l : Lists). record l { neutral = take a mid.neutral ++ map under (slice_range mid.neutral a b) ++ drop b mid.neutral; spare = put.spare }) same
-    ∙ ap (λ cells. record old { neutral = cells; spare = put.spare }) numbers
-    ∙ ap (λ cells. record old { spare = cells }) kept_spare,
+        ∙ ap (λ (l : Lists). record l { neutral = take a l.neutral ++ map under (slice_range l.neutral a b) ++ drop b l.neutral }) h.0
+        ∙ ap (λ (l : Lists). record l { neutral = take a mid.neutral ++ map under (slice_range mid.neutral a b) ++ drop b mid.neutral; spare = put.spare }) same
+        ∙ ap (λ cells. record old { neutral = cells; spare = put.spare }) numbers
+        ∙ ap (λ cells. record old { spare = cells }) kept_spare,
     omega (arith, h.1, same_used, same_room, ap length is, length-map text Byte),
   )
   lifted (Some n) more text is h = (
     omega (arith, h.0, ap length is, length-map text Byte),
     omega (arith, h.1, same_used, same_room),
     last_is
-    ∙ ap (λ (l : Lists). record l { neutral = take a l.neutral ++ map under (slice_range l.neutral a b) ++ drop b l.neutral }) h.2
-    ∙ ap (λ (l : Lists). record l { neutral = take a mid.neutral ++ map under (slice_range mid.neutral a b) ++ drop b mid.neutral; active = more ++ l.active; spare = put.spare }) same
-    ∙ ap (λ cells. record old { neutral = cells; active = more ++ old.active; spare = put.spare }) numbers
-    ∙ ap (λ cells. record old { active = cells ++ old.active; spare = put.spare }) is
-    ∙ ap (λ cells. record old { active = flat_text text ++ old.active; spare = cells }) kept_spare,
+        ∙ ap (λ (l : Lists). record l { neutral = take a l.neutral ++ map under (slice_range l.neutral a b) ++ drop b l.neutral }) h.2
+        ∙ ap (λ (l : Lists). record l { neutral = take a mid.neutral ++ map under (slice_range mid.neutral a b) ++ drop b mid.neutral; active = more ++ l.active; spare = put.spare }) same
+        ∙ ap (λ cells. record old { neutral = cells; active = more ++ old.active; spare = put.spare }) numbers
+        ∙ ap (λ cells. record old { active = cells ++ old.active; spare = put.spare }) is
+        ∙ ap (λ cells. record old { active = flat_text text ++ old.active; spare = cells }) kept_spare,
   )
 
 pub returns-clause-filled : goal.returns-clause-filled

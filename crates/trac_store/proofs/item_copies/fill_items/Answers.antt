@@ -6,10 +6,10 @@ use Rattle.trac_store.proofs.item_copies.fill_items.Goals as goal
 -- characters are filled by no text
 plain : (result : Option ℕ) (old new : Lists) (from stop first end : ℕ) → stop ≤ length old.store → is_some result ≡ true
     → MatchOption result (new ≡ old)
-      (λ n. All IsByte (slice_range old.store from stop) × (from + n ≡ stop) × (used old + n ≤ old.room) × (new ≡ record (claimed n old) { active = slice_range old.store from stop ++ old.active }))
+    (λ n. All IsByte (slice_range old.store from stop) × (from + n ≡ stop) × (used old + n ≤ old.room) × (new ≡ record (claimed n old) { active = slice_range old.store from stop ++ old.active }))
     → MatchOption result
-      ((new ≡ record old { spare = new.spare }) × (old.room < used old + length (filled_cells old from stop first end)))
-      (λ n. (length (filled_cells old from stop first end) ≡ n) × (used old + n ≤ old.room) × (new ≡ record old { active = flat_text (filled_cells old from stop first end) ++ old.active; spare = new.spare }))
+    ((new ≡ record old { spare = new.spare }) × (old.room < used old + length (filled_cells old from stop first end)))
+    (λ n. (length (filled_cells old from stop first end) ≡ n) × (used old + n ≤ old.room) × (new ≡ record old { active = flat_text (filled_cells old from stop first end) ++ old.active; spare = new.spare }))
 plain None old new from stop first end within some h = absurd (false≢true some)
 plain (Some n) old new from stop first end within some h =
     let texts = texts_between old.neutral first end in
@@ -21,8 +21,8 @@ plain (Some n) old new from stop first end within some h =
       omega (arith, size, h.1),
       h.2,
       stands
-      ∙ ap (λ cells. record (claimed n old) { active = cells ++ old.active }) (sym flat)
-      ∙ ap (λ cells. record old { active = flat_text text ++ old.active; spare = cells }) (sym spare),
+          ∙ ap (λ cells. record (claimed n old) { active = cells ++ old.active }) (sym flat)
+          ∙ ap (λ cells. record old { active = flat_text text ++ old.active; spare = cells }) (sym spare),
     )
 
 pub returns-then-is_some-clause-filled : goal.returns-then-is_some-clause-filled

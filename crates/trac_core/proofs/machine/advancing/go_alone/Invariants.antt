@@ -2,7 +2,7 @@ use Rattle.trac_core.proofs.Imports.{◌≡◌, ◌≤◌, ◌+◌, ◌-◌, ◌
 use Rattle.trac_core.proofs.Advancing.{counters_after}
 use Rattle.trac_core.proofs.machine.advancing.go_alone.Given as goal
 
--- so many steps are done that touch no device, and the need is that of the next step or counted
+-- the steps that are done touch no device, and the need is that of the next step or is counted
 abbrev pub invariant-loop-left : goal.invariant-loop-left
 invariant-loop-left l =
     record {

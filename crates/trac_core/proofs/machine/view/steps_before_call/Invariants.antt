@@ -2,7 +2,7 @@ use Rattle.trac_core.proofs.Imports.{◌≡◌, ◌+◌, ◌-◌, ◌≤◌, dro
 use Rattle.trac_core.specs.View.{steps_before_call}
 use Rattle.trac_core.proofs.machine.view.steps_before_call.Given as goal
 
--- so many steps are counted, over the characters up to a place
+-- `steps` steps are counted, over the characters up to `place`
 abbrev pub invariant-loop-steps : goal.invariant-loop-steps
 invariant-loop-steps l =
     record {

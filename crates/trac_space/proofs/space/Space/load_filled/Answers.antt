@@ -1,4 +1,4 @@
-use Rattle.trac_space.proofs.Imports.{◌≡◌, ◌+◌, ◌-◌, ◌++◌, List, length, map, take, slice_range, refl, sym, ap, ◌∙◌, arith, length-map, take-map, drop-map, Cell, lists, seen, seen_lists, filled, Lists}
+use Rattle.trac_space.proofs.Imports.{◌≡◌, ◌+◌, ◌-◌, ◌++◌, List, length, map, slice_range, refl, sym, ap, ◌∙◌, arith, length-map, take-map, drop-map, Cell, lists, seen, filled, Lists}
 use Rattle.trac_space.specs.Overlay.{under}
 use Rattle.trac_space.proofs.BlockChanges.{sizes, shown, laid, parts_of, parts-more, parts-kept, neutral-part, store-part}
 use Rattle.trac_space.proofs.Lifted.{seen-under}
@@ -74,9 +74,9 @@ returns-in-Some c =
       long k is ∙ n_is,
       omega (arith, low, n_is, start, size.store, size.neutral, size.active, size.spare, size.room, h.fits, h.behind),
       shown (s.active + n) moved
-      ∙ seen-more_active (parts_of s) s.active n (more k) n_is
-      ∙ ap (λ (cells : List Cell). record (lists s) { active = cells ++ (lists s).active }) is
-      ∙ ap (λ (l : Lists). record l { active = put_is ++ l.active }) c.self.view_is,
+          ∙ seen-more_active (parts_of s) s.active n (more k) n_is
+          ∙ ap (λ (cells : List Cell). record (lists s) { active = cells ++ (lists s).active }) is
+          ∙ ap (λ (l : Lists). record l { active = put_is ++ l.active }) c.self.view_is,
     )
 
 pub returns-in-None : goal.returns-in-None
