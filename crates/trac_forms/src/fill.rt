@@ -5,6 +5,7 @@ ghost use Rattle.std.specs.Prelude.{◌∷◌, [], length, map, slice_range, sli
 ghost use Rattle.std.specs.Prelude.{MatchOption};
 ghost use Rattle.std.specs.Bool.{OnTrue, OnFalse};
 ghost use Rattle.trac_space.specs.declared.cell.Cell.TheVariants.{Comma};
+ghost use Rattle.trac_space.specs.Cells.{NoComma};
 ghost use Rattle.trac_space.specs.Lists.{used as cells_used, claimed};
 ghost use Rattle.trac_space.specs.Texts.{flat_text, IsByte};
 ghost use Rattle.trac_forms.specs.Contents.{used, IsSound, form_place, form_at, pointer_at};
@@ -36,7 +37,7 @@ impl<'a> Work<'a> {
         ensures full { OnFalse result (self.new ≡ self.old) }
         ensures sound { IsSound self.new }
     {
-        match self.load_filled(form, first, end) {
+        match self.load_filled(form, first, end, end) {
             Some(size) => {
                 self.active_to_neutral(size);
                 true
@@ -46,11 +47,13 @@ impl<'a> Work<'a> {
     }
 
     /// Copies the form's body from its pointer on to the front of active, its gaps replaced as by `fill_body`,
-    /// and gives how many characters these are. None, with nothing changed, if the copy doesn't fit.
+    /// and gives how many characters these are. No comma mark stands in neutral from place `plain` up to
+    /// `end`. None, with nothing changed, if the copy doesn't fit.
     #[inline(always)]
-    pub fn load_filled(&mut self, form: FormId, first: u32, end: u32) -> Option<u32>
+    pub fn load_filled(&mut self, form: FormId, first: u32, end: u32, plain: u32) -> Option<u32>
         requires known { form_place form < length self.old.forms }
         requires arguments { AreParted self.old.neutral first end }
+        requires plain { NoComma (slice_range self.old.neutral plain end) }
         ensures loaded { let text = filled_body self.old (form_place form) first end in
             MatchOption result
             ((self.new ≡ self.old) × (self.old.room < used self.old + length text))
@@ -63,7 +66,7 @@ impl<'a> Work<'a> {
             from: first,
             to: end,
         };
-        fill_items(&mut self.space, items, texts)
+        fill_items(&mut self.space, items, texts, plain)
     }
 
     // The part of the store that a call of the form copies: its body from its pointer on.

@@ -1,6 +1,6 @@
 -- Where comma marks stand, laid over the first of the cells.
 use Rattle.trac_space.proofs.Imports.{◌≡◌, ℕ, ◌+◌, ◌-◌, ◌<◌, ◌≤◌, true, false, cond, All, List, [], ◌∷◌, ◌++◌, length, drop, map, get_or, set, refl, sym, ap, ◌∙◌, arith, subst, ⊎_elim, IsTrue}
-use Rattle.trac_space.proofs.Imports.{append_assoc, drop-drop, drop-set-lt, drop-map, drop_all, drop_more, get_or-drop, get_or-append_seam, get_or_append_left, get_or-set_same, get_or-set_other, get_or_default, length-append, length-map, All-head, All-tail, All-get_or, cases_eq, Cell, Byte, Call, Comma, Gap, Head, is_comma, HaveCommas, parts_at}
+use Rattle.trac_space.proofs.Imports.{append_assoc, drop-drop, drop-set-lt, drop-map, drop_all, drop_more, get_or-drop, get_or-append_seam, get_or_append_left, get_or-set_same, get_or-set_other, get_or_default, length-append, length-map, All-head, All-tail, All-get_or, cases_eq, Cell, Byte, Call, Comma, Gap, Head, is_comma, NoComma, HaveCommas, parts_at}
 use Rattle.std.proofs.Math.Seq.{map-set_same}
 use Rattle.trac_space.specs.Overlay.{takes_number, under, over, has_number}
 
@@ -117,16 +117,24 @@ module _ (was now : List Cell) (at count : ℕ) (h : LaidSoFar was now at count)
             (cases_eq k count);
       }
 
--- all are
-pub laid-commas : (was now : List Cell) (at count : ℕ) → LaidSoFar was now at count → length was ≤ at → All Takes was → HaveCommas now count
-laid-commas was now at count h end takes =
+-- cells without comma marks are one part
+parts-plain : (from at : ℕ) (cells : List Cell) → NoComma cells → parts_at from at cells ≡ (from, at + length cells) ∷ []
+parts-plain from at [] none = ap (λ n. (from, n) ∷ []) (omega arith)
+parts-plain from at (cell ∷ cells) none =
+    ap (λ b. cond b ((from, at) ∷ parts_at (at + 1) (at + 1) cells) (parts_at from (at + 1) cells)) (All-head (λ cell. is_comma cell ≡ false) cell cells none)
+    ∙ parts-plain from (at + 1) cells (All-tail (λ cell. is_comma cell ≡ false) cell cells none)
+    ∙ ap (λ n. (from, n) ∷ []) (omega arith)
+
+-- all are, since none follows
+pub laid-commas : (was now : List Cell) (at count : ℕ) → LaidSoFar was now at count → NoComma (drop at was) → All Takes was → HaveCommas now count
+laid-commas was now at count h plain takes =
     let long : length now ≡ length was = sym (length-map now under) ∙ ap length h.under_is in
-    let none : drop at was ≡ [] = drop_all at was end in
-    let parts : parts_at 0 0 (map under now) ≡ h.done ++ (h.from, at) ∷ [] = ap (parts_at 0 0) h.under_is ∙ h.split ∙ ap (λ l. h.done ++ parts_at h.from at l) none in
+    let end = at + length (drop at was) in
+    let parts : parts_at 0 0 (map under now) ≡ h.done ++ (h.from, end) ∷ [] = ap (parts_at 0 0) h.under_is ∙ h.split ∙ ap (λ l. h.done ++ l) (parts-plain h.from at (drop at was) plain) in
     record {
       within = omega (arith, h.few, h.within, long);
       others = ap (map under) h.behind ∙ sym (drop-map under count was) ∙ ap (drop count) (takes-all was takes) ∙ sym h.behind;
-      all = ap length parts ∙ length-append h.done ((h.from, at) ∷ []) ∙ omega (arith, h.size);
+      all = ap length parts ∙ length-append h.done ((h.from, end) ∷ []) ∙ omega (arith, h.size);
       laid = h.laid;
-      ends = λ k less. h.ends k less ∙ ap (λ (p : ℕ × ℕ). p.1) (sym (get_or_append_left h.done ((h.from, at) ∷ []) (0, 0) k (omega (arith, less, h.size))) ∙ ap (λ l. get_or l k (0, 0)) (sym parts));
+      ends = λ k less. h.ends k less ∙ ap (λ (p : ℕ × ℕ). p.1) (sym (get_or_append_left h.done ((h.from, end) ∷ []) (0, 0) k (omega (arith, less, h.size))) ∙ ap (λ l. get_or l k (0, 0)) (sym parts));
     }

@@ -1,6 +1,8 @@
 -- Parts between comma marks, as contracts see them.
-use Rattle.trac_space.proofs.Imports.{◌≡◌, ℕ, suc, ◌+◌, ◌-◌, All, List, [], ◌∷◌, ◌++◌, length, take, drop, map, get_or, slice_range, refl, sym, ap, ◌∙◌, arith, subst}
-use Rattle.trac_space.proofs.Imports.{take-map, drop-map, map-append, length-map, All-head, All-tail, All-cons, All-nil, Cell, Byte, Call, Comma, Gap, Head, seen, is_comma, HaveCommas, parts_at, numbered_part, part_between, filling, filled}
+use Rattle.std.proofs.lemmas.List.{drop-take}
+use Rattle.std.proofs.lemmas.List.Elements.{All-drop}
+use Rattle.trac_space.proofs.Imports.{◌≡◌, ℕ, suc, false, ◌+◌, ◌-◌, ◌<◌, ◌≤◌, All, List, [], ◌∷◌, ◌++◌, length, take, drop, map, get_or, slice_range, refl, sym, ap, ◌∙◌, arith, subst, ⊎_elim}
+use Rattle.trac_space.proofs.Imports.{take-map, drop-map, map-append, length-map, All-head, All-tail, All-cons, All-nil, Cell, Byte, Call, Comma, Gap, Head, seen, is_comma, cases_lt, drop-drop, NoComma, HaveCommas, parts_at, numbered_part, part_between, filling, filled}
 use Rattle.std.proofs.Math.ListN.{get_or-map as get_or-map-same}
 use Rattle.trac_space.specs.Overlay.{has_number, under, over}
 use Rattle.trac_space.proofs.LaidCommas.{Takes}
@@ -97,3 +99,38 @@ filled-seen given (cell ∷ cells) =
     map-append seen (filling given cell) (filled given cells)
     ∙ ap (λ more. more ++ map seen (filled given cells)) (filling-seen given cell)
     ∙ ap (λ more. filling (map seen given) (seen cell) ++ more) (filled-seen given cells)
+
+plain-from-seen : (cells : List Cell) → NoComma (map seen cells) → NoComma cells
+plain-from-seen [] none = none
+plain-from-seen (cell ∷ cells) none =
+    let No : Cell → Type 0 = λ cell. is_comma cell ≡ false in
+    All-cons No cell cells (sym (comma-seen cell) ∙ All-head No (seen cell) (map seen cells) none) (plain-from-seen cells (All-tail No (seen cell) (map seen cells) none))
+
+-- the last cells of a part
+last-cells : (cells : List Cell) (from end n m : ℕ) → from + n + m ≡ end → drop n (slice_range cells from end) ≡ take m (drop (from + n) cells)
+last-cells cells from end n m whole =
+    let size : end - from ≡ n + m = omega (arith, whole) in
+    ap (λ k. drop n (take k (drop from cells))) size ∙ drop-take n m (drop from cells) ∙ ap (take m) (drop-drop n from cells)
+
+-- no comma mark stands among the last cells of a part, if none stands from an earlier place on
+plain-behind : (cells : List Cell) (first end plain n : ℕ) → first + n ≤ end → plain ≤ first + n → NoComma (slice_range (map seen cells) plain end) → NoComma (drop n (slice_range cells first end))
+plain-behind cells first end plain n within before none =
+    let m = end - (first + n) in
+    let k = first + n - plain in
+    let place : plain + k ≡ first + n = omega (arith, before) in
+    let shown : slice_range (map seen cells) plain end ≡ map seen (slice_range cells plain end) = simp (take-map, drop-map) refl in
+    let all = plain-from-seen (slice_range cells plain end) (subst NoComma shown none) in
+    let last = All-drop (λ cell. is_comma cell ≡ false) k (slice_range cells plain end) all in
+    let same : drop k (slice_range cells plain end) ≡ drop n (slice_range cells first end) =
+    last-cells cells plain end k m (omega (arith, within, before)) ∙ ap (λ i. take m (drop i cells)) place ∙ sym (last-cells cells first end n m (omega (arith, within))) in
+    subst NoComma same last
+
+-- the same, where there may be no last cells
+pub plain-last : (cells : List Cell) (first end plain n : ℕ) → first + n ≤ end → (first + n < plain → end ≤ first + n) → NoComma (slice_range (map seen cells) plain end) → NoComma (drop n (slice_range cells first end))
+plain-last cells first end plain n within at none =
+    ⊎_elim
+    (λ less.
+    let e : first + n + 0 ≡ end = omega (arith, within, at less) in
+    subst NoComma (sym (last-cells cells first end n 0 e)) (All-nil (λ cell. is_comma cell ≡ false)))
+    (λ past. plain-behind cells first end plain n within past none)
+    (cases_lt (first + n) plain)

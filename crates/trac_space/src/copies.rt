@@ -5,7 +5,7 @@
 //! cells go at once.
 ghost use Rattle.std.specs.Prelude.{◌≡◌, ◌+◌, ◌-◌, ◌≤◌, ◌<◌, ◌⊎◌};
 ghost use Rattle.std.specs.Prelude.{All, IsTrue, drop, false, ℕ};
-ghost use Rattle.std.specs.Prelude.{length, take, ◌==◌, if◌then◌else◌, slice_index_or};
+ghost use Rattle.std.specs.Prelude.{length, take, ◌++◌, ◌==◌, if◌then◌else◌, slice_index_or};
 ghost use Rattle.std.specs.List.{copy_within};
 ghost use Rattle.trac_space.specs.declared.cell.Cell.TheVariants.{Byte};
 ghost use Rattle.trac_space.specs.Cells.{NoComma};
@@ -39,7 +39,7 @@ pub(crate) fn copy_cells(cells: &mut [Cell], start: usize, end: usize, to: usize
     }
 }
 
-// Copies cells as `copy_within` does. One cell needs no call.
+// Copies cells as `copy_within` does. One cell needs no call, nor do a few blocks to a lower place.
 #[inline]
 pub(crate) fn copy_mostly_one(cells: &mut [Cell], start: usize, end: usize, to: usize)
     requires order { start ≤ end }
@@ -48,8 +48,11 @@ pub(crate) fn copy_mostly_one(cells: &mut [Cell], start: usize, end: usize, to: 
     ensures len { length cells.new ≡ length cells.old }
     ensures after { cells.new ≡ copy_within cells.old start end to }
 {
-    if end - start == 1 {
+    let n = end - start;
+    if n == 1 {
         cells.copy_within(start..start + 1, to);
+    } else if n >= BLOCK && n <= MOST_INLINE && to + BLOCK <= start {
+        copy_lower_by_blocks(cells, start, n, to);
     } else {
         copy_long(cells, start, end, to);
     }
@@ -327,23 +330,6 @@ pub(crate) fn copy_mostly_apart(cells: &mut [Cell], start: usize, end: usize, to
     }
 }
 
-// Copies cells as `copy_within` does, to a lower place. A few blocks need no call.
-#[inline(always)]
-pub(crate) fn copy_lower(cells: &mut [Cell], start: usize, end: usize, to: usize)
-    requires order { start ≤ end }
-    requires within { end ≤ length cells.old }
-    requires before { to ≤ start }
-    ensures len { length cells.new ≡ length cells.old }
-    ensures after { cells.new ≡ copy_within cells.old start end to }
-{
-    let n = end - start;
-    if n >= BLOCK && n <= MOST_INLINE && start - to >= BLOCK {
-        copy_lower_by_blocks(cells, start, n, to);
-    } else {
-        copy_cells(cells, start, end, to);
-    }
-}
-
 // Copies cells as `copy_within` does, to a higher place. A few blocks need no call.
 #[inline(always)]
 pub(crate) fn copy_higher(cells: &mut [Cell], start: usize, end: usize, to: usize)
@@ -375,14 +361,13 @@ fn copy_higher_by_blocks(cells: &mut [Cell], start: usize, n: usize, distance: u
     let mut left = n;
     while left > BLOCK {
         left -= BLOCK;
-        copy_at_once_higher(cells, start + left, distance, BLOCK);
+        copy_at_once_higher::<BLOCK>(cells, start + left, distance);
     }
-    copy_at_once_higher(cells, start, distance, BLOCK);
+    copy_at_once_higher::<BLOCK>(cells, start, distance);
 }
 
 // Copies `n` cells as `copy_within` does, to a lower place apart. Up to `MOST_INLINE` need no call.
 #[inline(always)]
-#[tactic(auto, using(crate::proofs::Moves::move_one))]
 pub(crate) fn copy_apart_lower(cells: &mut [Cell], start: usize, n: usize, to: usize)
     requires apart { to + n ≤ start }
     requires within { start + n ≤ length cells.old }
@@ -394,39 +379,53 @@ pub(crate) fn copy_apart_lower(cells: &mut [Cell], start: usize, n: usize, to: u
     } else if n >= BLOCK {
         copy_lower_by_blocks(cells, start, n, to);
     } else if n >= 4 {
-        copy_lower_by_halves(cells, start, n, to, 4);
+        copy_lower_by_halves::<4>(cells, start, n, to);
     } else if n >= 2 {
-        copy_lower_by_halves(cells, start, n, to, 2);
+        copy_lower_by_halves::<2>(cells, start, n, to);
     } else if n == 1 {
-        cells[to] = cells[start];
+        copy_at_once_lower::<1>(cells, start, to);
     }
 }
 
-// Copies `n` cells as `copy_within` does, to a lower place apart: the first `half` cells, then the last
-// `half`, which may overlap them.
+// Copies `n` cells as `copy_within` does, to a lower place apart: the first `HALF` cells, then the last
+// `HALF`, which may overlap them.
 #[inline(always)]
-fn copy_lower_by_halves(cells: &mut [Cell], start: usize, n: usize, to: usize, half: usize)
-    requires some { half ≤ n }
-    requires few { n ≤ half + half }
+fn copy_lower_by_halves<const HALF: usize>(cells: &mut [Cell], start: usize, n: usize, to: usize)
+    requires some { HALF ≤ n }
+    requires few { n ≤ HALF + HALF }
     requires apart { to + n ≤ start }
     requires within { start + n ≤ length cells.old }
     ensures len { length cells.new ≡ length cells.old }
     ensures after { cells.new ≡ copy_within cells.old start (start + n) to }
 {
-    copy_at_once_lower(cells, start, to, half);
-    copy_at_once_lower(cells, start + (n - half), to + (n - half), half);
+    copy_at_once_lower::<HALF>(cells, start, to);
+    copy_at_once_lower::<HALF>(cells, start + (n - HALF), to + (n - HALF));
 }
 
-// Copies `n` cells as `copy_within` does, to a lower place apart, as one copy of memory.
+// Copies `N` cells as `copy_within` does, to a lower place apart, all at once.
 #[inline(always)]
-fn copy_at_once_lower(cells: &mut [Cell], start: usize, to: usize, n: usize)
-    requires apart { to + n ≤ start }
-    requires within { start + n ≤ length cells.old }
+fn copy_at_once_lower<const N: usize>(cells: &mut [Cell], start: usize, to: usize)
+    requires apart { to + N ≤ start }
+    requires within { start + N ≤ length cells.old }
     ensures len { length cells.new ≡ length cells.old }
-    ensures after { cells.new ≡ copy_within cells.old start (start + n) to }
+    ensures after { cells.new ≡ copy_within cells.old start (start + N) to }
 {
     let (front, back) = cells.split_at_mut(start);
-    front[to..to + n].copy_from_slice(&back[..n]);
+    put_at_once::<N>(&back[..N], &mut front[to..to + N]);
+}
+
+// Copies `N` cells over as many, all at once.
+#[inline(always)]
+fn put_at_once<const N: usize>(from: &[Cell], to: &mut [Cell])
+    requires from { length from.now ≡ N }
+    requires to { length to.old ≡ N }
+    ensures { to.new ≡ from.now }
+{
+    if let Some(place) = to.as_mut_array::<N>() {
+        if let Some(cells) = from.as_array::<N>() {
+            *place = *cells;
+        }
+    }
 }
 
 // Copies `n` cells as `copy_within` does, to a place that is `distance` higher and apart, without a
@@ -439,14 +438,16 @@ pub(crate) fn copy_short_higher(cells: &mut [Cell], start: usize, distance: usiz
     ensures after { (to : ℕ) → to ≡ start + distance →
         cells.new ≡ copy_within cells.old start (start + n) to }
 {
-    if n >= BLOCK {
+    if n > 2 * BLOCK {
         copy_higher_by_blocks(cells, start, n, distance);
+    } else if n >= BLOCK {
+        copy_higher_by_halves::<BLOCK>(cells, start, distance, n);
     } else if n >= 4 {
-        copy_higher_by_halves(cells, start, distance, n, 4);
+        copy_higher_by_halves::<4>(cells, start, distance, n);
     } else if n >= 2 {
-        copy_higher_by_halves(cells, start, distance, n, 2);
+        copy_higher_by_halves::<2>(cells, start, distance, n);
     } else if n == 1 {
-        cells[start + distance] = cells[start];
+        copy_at_once_higher::<1>(cells, start, distance);
     }
 }
 
@@ -466,36 +467,37 @@ pub(crate) fn copy_apart_higher(cells: &mut [Cell], start: usize, n: usize, to: 
 }
 
 // Copies `n` cells as `copy_within` does, to a place that is `distance` higher and apart: the first
-// `half` cells, then the last `half`, which may overlap them.
+// `HALF` cells, then the last `HALF`, which may overlap them.
 #[inline(always)]
-fn copy_higher_by_halves(cells: &mut [Cell], start: usize, distance: usize, n: usize, half: usize)
-    requires some { half ≤ n }
-    requires few { n ≤ half + half }
+fn copy_higher_by_halves<const HALF: usize>(
+    cells: &mut [Cell],
+    start: usize,
+    distance: usize,
+    n: usize,
+)
+    requires some { HALF ≤ n }
+    requires few { n ≤ HALF + HALF }
     requires apart { n ≤ distance }
     requires room { start + distance + n ≤ length cells.old }
     ensures len { length cells.new ≡ length cells.old }
     ensures after { (to : ℕ) → to ≡ start + distance →
         cells.new ≡ copy_within cells.old start (start + n) to }
 {
-    copy_at_once_higher(cells, start, distance, half);
-    copy_at_once_higher(cells, start + (n - half), distance, half);
+    copy_at_once_higher::<HALF>(cells, start, distance);
+    copy_at_once_higher::<HALF>(cells, start + (n - HALF), distance);
 }
 
-// Copies `n` cells as `copy_within` does, to a place that is `distance` higher and apart, as one copy
-// of memory.
+// Copies `N` cells as `copy_within` does, to a place that is `distance` higher and apart, all at once.
 #[inline(always)]
-pub(crate) fn copy_at_once_higher(cells: &mut [Cell], start: usize, distance: usize, n: usize)
-    requires apart { n ≤ distance }
-    requires room { start + distance + n ≤ length cells.old }
+pub(crate) fn copy_at_once_higher<const N: usize>(cells: &mut [Cell], start: usize, distance: usize)
+    requires apart { N ≤ distance }
+    requires room { start + distance + N ≤ length cells.old }
     ensures len { length cells.new ≡ length cells.old }
     ensures after { (to : ℕ) → to ≡ start + distance →
-        cells.new ≡ copy_within cells.old start (start + n) to }
+        cells.new ≡ copy_within cells.old start (start + N) to }
 {
-    let to = start + distance;
-    let end = start + n;
-    let n = end - start;
-    let (front, back) = cells.split_at_mut(to);
-    back[..n].copy_from_slice(&front[start..end]);
+    let (front, back) = cells.split_at_mut(start + distance);
+    put_at_once::<N>(&front[start..start + N], &mut back[..N]);
 }
 
 // Copies `n` cells as `copy_within` does, to a place that is a block lower or more: block by block,
@@ -510,8 +512,8 @@ fn copy_lower_by_blocks(cells: &mut [Cell], start: usize, n: usize, to: usize)
 {
     let mut done = 0;
     while n - done > BLOCK {
-        copy_at_once_lower(cells, start + done, to + done, BLOCK);
+        copy_at_once_lower::<BLOCK>(cells, start + done, to + done);
         done += BLOCK;
     }
-    copy_at_once_lower(cells, start + (n - BLOCK), to + (n - BLOCK), BLOCK);
+    copy_at_once_lower::<BLOCK>(cells, start + (n - BLOCK), to + (n - BLOCK));
 }

@@ -4,6 +4,7 @@ ghost use Rattle.std.specs.Prelude.{◌≡◌, ◌+◌, ◌-◌, ◌≤◌, ◌<
 ghost use Rattle.std.specs.Prelude.{map, slice_range, slice_index_or, suc};
 ghost use Rattle.std.specs.List.{copy_within};
 ghost use Rattle.trac_space.specs.declared.cell.Cell.TheVariants.{Comma};
+ghost use Rattle.trac_space.specs.Cells.{NoComma};
 ghost use Rattle.trac_space.specs.Filled.{ordinal_of, part_between, filling, filled, HaveCommas};
 ghost use Rattle.trac_space.specs.Filled.{IsPut, parts_at, numbered_part};
 ghost use Rattle.trac_space.specs.Overlay.{takes_number, under};
@@ -21,16 +22,19 @@ pub(crate) struct Given {
     pub(crate) commas: usize,
 }
 
-/// Lays the places of the comma marks over the first cells, in order, and gives how many they are.
+/// Lays the places of the comma marks over the first cells, in order, and gives how many they are. None
+/// stands from place `plain` on.
 #[inline(always)]
-pub(crate) fn lay_commas(cells: &mut [Cell]) -> usize
+pub(crate) fn lay_commas(cells: &mut [Cell], plain: usize) -> usize
     requires takes { All (λ cell. IsTrue (takes_number cell)) cells.old }
     requires bounded { length cells.old ≤ 16777216 }
+    requires within { plain ≤ length cells.old }
+    requires plain { NoComma (drop plain cells.old) }
     ensures commas { HaveCommas cells.new result }
     ensures same { map under cells.new ≡ cells.old }
 {
     let mut count = 0;
-    for at in 0..cells.len() {
+    for at in 0..plain {
         if is_comma(&cells[at]) {
             cells[count] = laid(cells[count], at as u32);
             count += 1;
@@ -70,7 +74,7 @@ pub(crate) fn fill_cells(
     let mut at = stop;
     let mut to = to;
     while at >= BLOCK && distance(low, to) >= BLOCK {
-        copy_at_once_higher(cells, at - BLOCK, distance(at, to), BLOCK);
+        copy_at_once_higher::<BLOCK>(cells, at - BLOCK, distance(at, to));
         let run = characters_before(cells, at);
         if at - from <= run {
             return Some(to - (at - from));
@@ -167,7 +171,7 @@ fn put_plain(cells: &mut [Cell], start: usize, to: usize, n: usize)
     ensures after { cells.new ≡ copy_within cells.old start (start + n) to }
 {
     if n == 1 {
-        cells.copy_within(start..start + 1, to);
+        copy_at_once_higher::<1>(cells, start, distance(start, to));
     } else {
         copy_short_higher(cells, start, distance(start, to), n);
     }

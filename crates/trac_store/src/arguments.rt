@@ -25,7 +25,10 @@ pub fn before_comma(cells: &[Cell]) -> u32
     if let Cell::Comma = cells[3] {
         return 3;
     }
-    before_far_comma(cells)
+    match cells.get(4) {
+        Some(Cell::Comma) | None => 4,
+        Some(_) => before_far_comma(cells),
+    }
 }
 
 // How many cells stand before the first comma mark, if the first four are none. Looks at eight cells in

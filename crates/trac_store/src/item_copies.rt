@@ -2,7 +2,7 @@
 ghost use Rattle.std.specs.Prelude.{◌≡◌, ◌+◌, ◌≤◌, ◌<◌, ◌↔◌, ◌++◌};
 ghost use Rattle.std.specs.Prelude.{length, map, slice_range, All, IsTrue, MatchOption};
 ghost use Rattle.std.specs.Bool.{OnTrue, OnFalse};
-ghost use Rattle.trac_space.specs.Cells.{NoCall};
+ghost use Rattle.trac_space.specs.Cells.{NoCall, NoComma};
 ghost use Rattle.trac_space.specs.Filled.{HaveCommas, filled};
 ghost use Rattle.trac_space.specs.Lists.{used as cells_used, claimed};
 ghost use Rattle.trac_space.specs.Overlay.{under};
@@ -14,13 +14,14 @@ use trac_space::{Part, Space};
 
 /// Copies items of the store to the front of active, each gap k replaced by argument k: the k-th, from 1,
 /// of the texts between the comma marks of a part of neutral, or nothing if there is no such text (Mooers
-/// 1966). Gives how many characters the copy has. None if it doesn't fit; then at most the spare list has
-/// been dropped.
+/// 1966). No comma mark stands in that part from place `plain` on. Gives how many characters the copy has.
+/// None if it doesn't fit; then at most the spare list has been dropped.
 #[inline(always)]
-pub fn fill_items(space: &mut Space, items: Part, texts: Part) -> Option<u32>
+pub fn fill_items(space: &mut Space, items: Part, texts: Part, plain: u32) -> Option<u32>
     requires order { items.from ≤ items.to }
     requires within { items.to ≤ length space.old.store }
     requires arguments { AreParted space.old.neutral texts.from texts.to }
+    requires plain { NoComma (slice_range space.old.neutral plain texts.to) }
     ensures filled { let text = filled_cells space.old items.from items.to texts.from texts.to in
         MatchOption result
         ((space.new ≡ record space.old { spare = space.new.spare })
@@ -39,7 +40,7 @@ pub fn fill_items(space: &mut Space, items: Part, texts: Part) -> Option<u32>
             return loaded;
         }
     }
-    fill_gaps(space, items, texts)
+    fill_gaps(space, items, texts, plain)
 }
 
 // Copies items of the store to the front of active if all of them are characters and fit, and gives how
@@ -91,10 +92,11 @@ fn load_items_over_spare(space: &mut Space, items: Part) -> Option<u32>
 // Does what `fill_items` does where gaps may be among the items. Meanwhile the places of the comma marks
 // lie over the texts.
 #[inline(never)]
-fn fill_gaps(space: &mut Space, items: Part, texts: Part) -> Option<u32>
+fn fill_gaps(space: &mut Space, items: Part, texts: Part, plain: u32) -> Option<u32>
     requires order { items.from ≤ items.to }
     requires within { items.to ≤ length space.old.store }
     requires arguments { AreParted space.old.neutral texts.from texts.to }
+    requires plain { NoComma (slice_range space.old.neutral plain texts.to) }
     ensures filled { let text = filled_cells space.old items.from items.to texts.from texts.to in
         MatchOption result
         ((space.new ≡ record space.old { spare = space.new.spare })
@@ -107,7 +109,7 @@ fn fill_gaps(space: &mut Space, items: Part, texts: Part) -> Option<u32>
     ensures kept { IsKept space.old.spare space.new.spare }
 {
     let first = texts.from.min(texts.to);
-    let commas = space.lay_commas(first, texts.to);
+    let commas = space.lay_commas(first, texts.to, plain);
     let given = Part {
         from: first,
         to: texts.to,

@@ -1,4 +1,4 @@
-use Rattle.trac_space.proofs.Imports.{◌∙◌, arith, sym}
+use Rattle.trac_space.proofs.Imports.{◌≡◌, ◌<◌, ◌∙◌, arith, length, subst, sym, drop, NoComma}
 use Rattle.trac_space.proofs.LaidCommas.{laid-none, laid-other, laid-comma, laid-commas, first-takes}
 use Rattle.trac_space.proofs.filling.lay_commas.Goals as goal
 use Rattle.trac_space.proofs.filling.lay_commas.Goals.{then-is_comma, else-is_comma}
@@ -8,20 +8,22 @@ loop-at-init c = laid-none c.args.cells.now c.requires.takes
 
 pub laid-requires-clause-takes : goal.laid-requires-clause-takes
 laid-requires-clause-takes c =
-    first-takes c.args.cells.now c.loop-at.cells c.loop-at.at c.loop-at.count c.loop-at.invariant c.loop-at-test.true c.requires.takes
+    first-takes c.args.cells.now c.loop-at.cells c.loop-at.at c.loop-at.count c.loop-at.invariant (omega (arith, c.loop-at-test.true, c.requires.within)) c.requires.takes
 
 pub loop-at-preserved : goal.loop-at-preserved
 loop-at-preserved c =
     let was = c.args.cells.now in
     let now = c.loop-at.cells in
     let h = c.loop-at.invariant in
+    let less : c.loop-at.at < length was = omega (arith, c.loop-at-test.true, c.requires.within) in
     elim c.if-is_comma.branch [
       | then-is_comma w ↦
-          rw (w.cells-is, w.count-is) (laid-comma was now c.loop-at.at c.loop-at.count h c.loop-at-test.true w.laid.result (sym c.is_comma.ensures ∙ w.if-is_comma.true) w.laid.ensures.under w.laid.ensures.over w.laid.ensures.numbered)
+          rw (w.cells-is, w.count-is) (laid-comma was now c.loop-at.at c.loop-at.count h less w.laid.result (sym c.is_comma.ensures ∙ w.if-is_comma.true) w.laid.ensures.under w.laid.ensures.over w.laid.ensures.numbered)
       | else-is_comma w ↦
-          rw (w.cells-is, w.count-is) (laid-other was now c.loop-at.at c.loop-at.count h c.loop-at-test.true (sym c.is_comma.ensures ∙ w.if-is_comma.false))
+          rw (w.cells-is, w.count-is) (laid-other was now c.loop-at.at c.loop-at.count h less (sym c.is_comma.ensures ∙ w.if-is_comma.false))
     ]
 
 pub returns-clause-commas : goal.returns-clause-commas
 returns-clause-commas c =
-    laid-commas c.args.cells.now c.loop-at.cells c.loop-at.at c.loop-at.count c.loop-at.invariant (omega (arith, c.loop-at-test.false)) c.requires.takes
+    let end : c.loop-at.at ≡ c.args.plain = omega (arith, c.loop-at-test.false, c.loop-at.auto.at-end) in
+    laid-commas c.args.cells.now c.loop-at.cells c.loop-at.at c.loop-at.count c.loop-at.invariant (subst (λ i. NoComma (drop i c.args.cells.now)) (sym end) c.requires.plain) c.requires.takes

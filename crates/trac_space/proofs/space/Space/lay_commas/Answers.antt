@@ -1,10 +1,10 @@
-use Rattle.trac_space.proofs.Imports.{◌≡◌, ◌+◌, ◌-◌, ◌++◌, ◌∙◌, All, ap, arith, refl, sym, subst, length, map, take, drop, slice_range, length-map, length-between, take-map, drop-map, seen, HaveCommas, Lists, lists}
+use Rattle.trac_space.proofs.Imports.{◌≡◌, ◌+◌, ◌-◌, ◌++◌, ◌∙◌, All, ap, arith, refl, sym, subst, length, map, take, drop, slice_range, length-map, length-between, take-map, drop-map, seen, NoComma, HaveCommas, Lists, lists}
 use Rattle.trac_space.specs.Overlay.{under, HaveNumbers}
 use Rattle.trac_space.proofs.BlockChanges.{sizes, shown, laid, parts-in_neutral, parts_of, neutral-part}
 use Rattle.trac_space.proofs.Calls.{marks-numbered, marks-calls, marks-linked}
 use Rattle.trac_space.proofs.LaidCommas.{Takes}
 use Rattle.trac_space.proofs.Lifted.{in-middle, numbers-middle, numbers-seen}
-use Rattle.trac_space.proofs.SeenParts.{takes-from-seen, all-numbered-seen, commas-seen}
+use Rattle.trac_space.proofs.SeenParts.{takes-from-seen, all-numbered-seen, commas-seen, plain-last}
 use Rattle.trac_space.proofs.space.Space.lay_commas.Goals as goal
 use Rattle.trac_space.proofs.space.Space.lay_commas.Goals.{After-lay_commas, After-self}
 
@@ -25,6 +25,20 @@ pub lay_commas-requires-clause-takes : goal.lay_commas-requires-clause-takes
 lay_commas-requires-clause-takes c =
     let k = (goal.at.lay_commas-requires-clause-takes c).After-self in
     subst (All Takes) (sym (part_is k)) (takes k)
+
+pub lay_commas-requires-clause-within : goal.lay_commas-requires-clause-within
+lay_commas-requires-clause-within c =
+    let k = (goal.at.lay_commas-requires-clause-within c).After-self in
+    let size = sizes c.self.invariant c.self.view_is in
+    let long = ap length (part_is k) ∙ length-between (parts_of c.self.inside).neutral c.args.first c.args.end (omega (arith, c.requires.within, size.neutral, size.cells)) in
+    omega (arith, long, c.min.ensures, c.max.ensures, c.requires.order)
+
+pub lay_commas-requires-clause-plain : goal.lay_commas-requires-clause-plain
+lay_commas-requires-clause-plain c =
+    let k = (goal.at.lay_commas-requires-clause-plain c).After-self in
+    let n = c.min.result - c.args.first in
+    let none = subst (λ (l : Lists). NoComma (slice_range l.neutral c.args.plain c.args.end)) (sym c.self.view_is) c.requires.plain in
+    subst (λ l. NoComma (drop n l)) (sym (part_is k)) (plain-last (parts_of c.self.inside).neutral c.args.first c.args.end c.args.plain n (omega (arith, c.min.ensures, c.max.ensures, c.requires.order)) (λ less. omega (arith, c.min.ensures, c.max.ensures, c.requires.order, less)) none)
 
 same_under : (c : After-lay_commas) → slice_range c.self.inside.cells.now (c.self.inside.store + c.args.first) (c.self.inside.store + c.args.end) ≡ slice_range (parts_of c.self.inside).neutral c.args.first c.args.end → map under c.lay_commas.new.cells ≡ slice_range (parts_of c.self.inside).neutral c.args.first c.args.end
 same_under c is = c.lay_commas.ensures.same ∙ is
