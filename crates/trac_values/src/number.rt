@@ -5,11 +5,13 @@ ghost use Rattle.std.specs.Prelude.{ℤ, min, IfSome, IsSome, IsTrue, length, in
 ghost use Rattle.std.specs.Prelude.{unsigned_abs, ◌<ℤ◌};
 ghost use Rattle.std.specs.Int.{int_rem_euclid};
 ghost use Rattle.std.specs.Ordering.{nat_cmp};
-ghost use Rattle.trac_language.specs.Number.{arith, before_digits, digits, ends_with};
+ghost use Rattle.std.specs.Prelude.{FitsSigned, Some};
+ghost use Rattle.std.specs.Int.{w64};
+ghost use Rattle.trac_language.specs.Number.{arith, before_digits, digits, ends_with, exactly};
 ghost use Rattle.trac_language.specs.Number.{if_in_range, in_range, prefix};
 ghost use Rattle.std.specs.Str.Parse.{digits_value};
 ghost use Rattle.trac_space.specs.Texts.{text_of_cells, IsByte};
-ghost use Rattle.trac_values.specs.Digits.{IsDecimal, decimal_value, value_upto};
+ghost use Rattle.trac_values.specs.Digits.{IsDecimal, decimal_value, signed, value_upto};
 ghost use Rattle.trac_values.specs.Cells.{IsText, number_in};
 
 use crate::text::ends_with;
@@ -69,6 +71,47 @@ fn split_digits(cells: &[Cell]) -> (&[Cell], &[Cell])
 /// digits, which can be too many for 64 bits.
 #[inline(always)]
 fn short_number(cells: &[Cell]) -> Option<(usize, u64)>
+    requires bytes { All IsByte cells.now }
+    ensures start { IfSome result (λ r. r.0 ≡ length (before_digits (text_of_cells cells.now))) }
+    ensures value { IfSome result (λ r. r.1 ≡ digits_value 10 (digits (text_of_cells cells.now))) }
+    ensures below { IfSome result (λ r. r.1 < 10 ^ 19) }
+    ensures few { length (digits (text_of_cells cells.now)) < 19 → IsSome result }
+{
+    if cells.len() <= DIGITS_IN_64_BITS {
+        Some(number_in_few(cells))
+    } else {
+        number_from_end(cells)
+    }
+}
+
+/// Where the longest suffix of decimal digits begins, and its number, in a text of at most 19 characters.
+/// Each character that is no digit begins the number anew.
+#[inline(always)]
+fn number_in_few(cells: &[Cell]) -> (usize, u64)
+    requires bytes { All IsByte cells.now }
+    requires few { length cells.now ≤ 19 }
+    ensures start { result.0 ≡ length (before_digits (text_of_cells cells.now)) }
+    ensures value { result.1 ≡ digits_value 10 (digits (text_of_cells cells.now)) }
+    ensures below { result.1 < 10 ^ 19 }
+{
+    let mut start = 0;
+    let mut value = 0;
+    for i in 0..cells.len() {
+        let character = byte_in(&cells[i]);
+        if character.is_ascii_digit() {
+            value = value * 10 + u64::from(character - b'0');
+        } else {
+            value = 0;
+            start = i + 1;
+        }
+    }
+    (start, value)
+}
+
+/// Where the longest suffix of decimal digits begins, and its number, read from the last digit to the
+/// first. None if it may have more than 19 digits.
+#[inline(never)]
+fn number_from_end(cells: &[Cell]) -> Option<(usize, u64)>
     requires bytes { All IsByte cells.now }
     ensures start { IfSome result (λ r. r.0 ≡ length (before_digits (text_of_cells cells.now))) }
     ensures value { IfSome result (λ r. r.1 ≡ digits_value 10 (digits (text_of_cells cells.now))) }
@@ -164,6 +207,28 @@ fn short_tail(cells: &[Cell]) -> Option<(usize, i128)>
     Some(with_sign(cells, start, i128::from(size)))
 }
 
+/// The length of the prefix of a text, in cells, and whether a minus sign stands between the prefix and
+/// the digits, which begin at `start`.
+#[inline(always)]
+fn sign_before(cells: &[Cell], start: usize) -> (usize, bool)
+    requires text { IsText cells.now }
+    requires start { start ≡ length (before_digits (text_of_cells cells.now)) }
+    ensures start { result.0 ≡ length (prefix (text_of_cells cells.now)) }
+    ensures minus { let size = digits_value 10 (digits (text_of_cells cells.now)) in
+        number_in cells.now ≡ signed result.1 size }
+{
+    let front = cells.split_at(start).0;
+    if start == cells.len() {
+        (start, false)
+    } else if is_last(front, b'-') {
+        (start - 1, true)
+    } else if is_last(front, b'+') {
+        (start - 1, false)
+    } else {
+        (start, false)
+    }
+}
+
 /// The length of the prefix of a text, in cells, and the number at its end, whose digits begin at `start`
 /// and have the value `size`.
 #[inline(always)]
@@ -175,16 +240,8 @@ fn with_sign(cells: &[Cell], start: usize, size: i128) -> (usize, i128)
     ensures value { result.1 ≡ number_in cells.now }
     ensures in_range { IsTrue (in_range result.1) }
 {
-    let front = cells.split_at(start).0;
-    if start == cells.len() {
-        (start, size)
-    } else if is_last(front, b'-') {
-        (start - 1, -size)
-    } else if is_last(front, b'+') {
-        (start - 1, size)
-    } else {
-        (start, size)
-    }
+    let (start, negative) = sign_before(cells, start);
+    (start, if negative { -size } else { size })
 }
 
 /// Where the longest suffix of decimal digits begins, and its number, read as two numbers of at most 19
@@ -285,6 +342,71 @@ pub fn result_of(operation: Arith, a: Option<i128>, b: Option<i128>) -> Option<i
         result ≡ arith operation m n }
 {
     operation.apply(a?, b?)
+}
+
+/// The result of an operation on numbers of 64 bits. None if it is outside 64 bits, or if the divisor is 0.
+#[inline(always)]
+fn result_in_64_bits(operation: Arith, a: i64, b: i64) -> Option<i64>
+    ensures exact { IfSome result (λ n. exactly operation a b ≡ Some n) }
+    ensures fits { (n : ℤ) → exactly operation a b ≡ Some n → FitsSigned w64 n → IsSome result }
+{
+    match operation {
+        Arith::Add => a.checked_add(b),
+        Arith::Subtract => a.checked_sub(b),
+        Arith::Multiply => a.checked_mul(b),
+        Arith::Divide => a.checked_div(b),
+    }
+}
+
+/// The length of the prefix of a text, in cells, and the number at its end. None if the number may have
+/// more than 19 digits, or is outside 64 bits.
+#[inline(always)]
+fn tail_in_64_bits(cells: &[Cell]) -> Option<(usize, i64)>
+    requires { IsText cells.now }
+    ensures start { IfSome result (λ r. r.0 ≡ length (prefix (text_of_cells cells.now))) }
+    ensures value { IfSome result (λ r. r.1 ≡ number_in cells.now) }
+    ensures few { length (digits (text_of_cells cells.now)) < 19 → IsSome result }
+{
+    let (start, size) = short_number(cells)?;
+    let size = i64::try_from(size).ok()?;
+    let (start, negative) = sign_before(cells, start);
+    Some((start, if negative { -size } else { size }))
+}
+
+/// The result of an operation on the numbers at the ends of two texts, where each of the three fits in 64
+/// bits, and where the first number begins.
+#[derive(Clone, Copy)]
+pub struct ShortResult {
+    /// The length of the first text's prefix, the text before its number and its sign, in cells.
+    pub start: u32,
+    /// The result.
+    pub number: i64,
+}
+
+/// The result of an operation on the numbers at the ends of two texts (Mooers 1966), where all fit in 64
+/// bits. None where one doesn't, or may have more than 19 digits, or if the divisor is 0: then `tail_number`
+/// and `result_of` tell the result.
+#[inline(always)]
+pub fn short_result(operation: Arith, a: &[Cell], b: &[Cell]) -> Option<ShortResult>
+    requires left { IsText a.now }
+    requires right { IsText b.now }
+    ensures start { IfSome result (λ r. r.start ≡ length (prefix (text_of_cells a.now))) }
+    ensures number { IfSome result (λ r.
+        Some r.number ≡ arith operation (number_in a.now) (number_in b.now)) }
+    ensures fits { length a.now < 19 → length b.now < 19 →
+        (n : ℤ) → exactly operation (number_in a.now) (number_in b.now) ≡ Some n →
+        FitsSigned w64 n → IsSome result }
+{
+    if may_be_long(a) || may_be_long(b) {
+        return None;
+    }
+    let (start, left) = tail_in_64_bits(a)?;
+    let (_, right) = tail_in_64_bits(b)?;
+    let number = result_in_64_bits(operation, left, right)?;
+    Some(ShortResult {
+        start: start as u32,
+        number,
+    })
 }
 
 /// The digit at a place of a number that is filled with zeros at the left up to `long` digits.

@@ -3,7 +3,7 @@ use Rattle.trac_values.proofs.DigitsFromEnd.{value_before, fits_before}
 use Rattle.trac_values.proofs.Suffixes.{digit_facts, suffix_more, suffix_stops}
 use Rattle.trac_values.proofs.SuffixCells.{place}
 use Rattle.trac_values.proofs.TwoParts.{below-power}
-use Rattle.trac_values.proofs.number.short_number.Goals as goal
+use Rattle.trac_values.proofs.number.number_from_end.Goals as goal
 
 pub returns-then-not-is_ascii_digit-clause-start : goal.returns-then-not-is_ascii_digit-clause-start
 returns-then-not-is_ascii_digit-clause-start c =
