@@ -1,10 +1,7 @@
 -- The digits at the end of a text, read from the first character to the last.
-use Rattle.trac_values.proofs.Imports.{◌≡◌, ℕ, suc, ◌+◌, ◌-◌, ◌*◌, ◌^◌, ◌<◌, ◌≤◌, true, false, List, [], ◌∷◌, length, take, drop, get_or, sym, ap, ◌∙◌, arith, suffix_len, is_ascii_digit, digit_value, digits_value, digits_value_more, pow-le-pow_right, pow_more, length-drop, length-map, get_or-drop}
-use Rattle.trac_values.proofs.Imports.{suffix_len-take_yes, suffix_len-take_no, get_or-map, Text, Cell, character_of, text_of_cells, digits, EachIs}
-use Rattle.std.specs.Str.Parse.{AllDigits}
-use Rattle.std.proofs.lemmas.Int.Digits.{digits_value-lt}
+use Rattle.trac_values.proofs.Imports.{◌≡◌, ℕ, ◌+◌, ◌-◌, ◌*◌, ◌^◌, ◌<◌, ◌≤◌, true, false, List, length, take, drop, get_or, sym, ap, ◌∙◌, arith, suffix_len, is_ascii_digit, digit_value, digits_value, digits_value_more, pow-le-pow_right, pow_more, length-drop, length-map, get_or-drop}
+use Rattle.trac_values.proofs.Imports.{suffix_len-take_yes, suffix_len-take_no, get_or-map, Cell, character_of, text_of_cells}
 use Rattle.trac_values.proofs.Suffixes.{digit_facts}
-use Rattle.trac_values.proofs.SuffixCells.{suffix_passes}
 
 -- the value of at most 18 digits, with one more digit behind them, fits in 64 bits
 pub fits_more : (k v d : ℕ) → k < 19 → v < 10 ^ k → d < 10 → (v * 10 + d < 2 ^ 64) × (v * 10 + d < 10 ^ (k + 1))
@@ -46,18 +43,3 @@ module _ (cells : List Cell) (i c : ℕ) (lt : i < length cells) (is : c ≡ cha
   pub none_longer : is_ascii_digit c ≡ false → suffix_len is_ascii_digit (take (i + 1) (text_of_cells cells)) ≡ 0
   none_longer stops =
       suffix_len-take_no is_ascii_digit (text_of_cells cells) (i + 1) 0 (omega arith) (omega (arith, long)) (last false stops)
-
--- decimal digits are digits in the radix 10
-all_digits : (text : Text) → EachIs is_ascii_digit text → AllDigits 10 text
-all_digits [] each = tt
-all_digits (c ∷ cs) each =
-    let facts = digit_facts c (each 0 (omega arith)) in
-    (omega (arith, facts.0, facts.1, facts.2), all_digits cs (λ k less. each (suc k) (omega arith)))
-
--- the number of the digits at the end of a text, by how many they are
-pub value_of_few : (text : Text) (n : ℕ) → length (digits text) ≤ n → digits_value 10 (digits text) < 10 ^ n
-value_of_few text n few =
-    let base : 0 < 10 = omega arith in
-    let below = digits_value-lt 10 (digits text) (all_digits (digits text) (suffix_passes is_ascii_digit text)) in
-    let most : 10 ^ length (digits text) ≤ 10 ^ n = pow-le-pow_right base few in
-    omega (arith, below, most)

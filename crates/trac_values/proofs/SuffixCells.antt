@@ -9,7 +9,7 @@ module _ (p : ℕ → Bool) where
   length-suffix t = omega (arith, length-drop (length t - suffix_len p t) t, suffix_len-le-length p t)
 
   -- each character of the longest suffix passes the test
-  pub suffix_passes : (t : Text) (k : ℕ) → k < length (drop (length t - suffix_len p t) t) → p (get_or (drop (length t - suffix_len p t) t) k 0) ≡ true
+  suffix_passes : (t : Text) (k : ℕ) → k < length (drop (length t - suffix_len p t) t) → p (get_or (drop (length t - suffix_len p t) t) k 0) ≡ true
   suffix_passes t k h =
       let n = suffix_len p t in
       let m = n - 1 - k in

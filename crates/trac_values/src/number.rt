@@ -22,6 +22,9 @@ use trac_space::{Cell, byte_in, character_of};
 /// Each number of this many decimal digits fits in 64 bits.
 const DIGITS_IN_64_BITS: usize = 19;
 
+/// The sum and the difference of two numbers of at most this many decimal digits fit in 64 bits.
+const DIGITS_THAT_ADD: usize = 18;
+
 // 10 ^ 19.
 const POWER: u128 = 10_000_000_000_000_000_000;
 
@@ -77,22 +80,31 @@ fn short_number(cells: &[Cell]) -> Option<(usize, u64)>
     ensures below { IfSome result (λ r. r.1 < 10 ^ 19) }
     ensures few { length (digits (text_of_cells cells.now)) < 19 → IsSome result }
 {
-    if cells.len() <= DIGITS_IN_64_BITS {
-        Some(number_in_few(cells))
-    } else {
-        number_from_end(cells)
+    let least = cells.len().saturating_sub(19);
+    let mut start = cells.len();
+    let mut value: u64 = 0;
+    let mut power: u64 = 1;
+    while start > least {
+        let character = byte_in(&cells[start - 1]);
+        if !character.is_ascii_digit() {
+            return Some((start, value));
+        }
+        value += u64::from(character - b'0') * power;
+        power *= 10;
+        start -= 1;
     }
+    if least == 0 { Some((0, value)) } else { None }
 }
 
-/// Where the longest suffix of decimal digits begins, and its number, in a text of at most 19 characters.
+/// Where the longest suffix of decimal digits begins, and its number, in a text of at most 18 characters.
 /// Each character that is no digit begins the number anew.
 #[inline(always)]
 fn number_in_few(cells: &[Cell]) -> (usize, u64)
     requires bytes { All IsByte cells.now }
-    requires few { length cells.now ≤ 19 }
+    requires few { length cells.now ≤ 18 }
     ensures start { result.0 ≡ length (before_digits (text_of_cells cells.now)) }
     ensures value { result.1 ≡ digits_value 10 (digits (text_of_cells cells.now)) }
-    ensures below { result.1 < 10 ^ 19 }
+    ensures below { result.1 < 10 ^ 18 }
 {
     let mut start = 0;
     let mut value = 0;
@@ -108,30 +120,19 @@ fn number_in_few(cells: &[Cell]) -> (usize, u64)
     (start, value)
 }
 
-/// Where the longest suffix of decimal digits begins, and its number, read from the last digit to the
-/// first. None if it may have more than 19 digits.
-#[inline(never)]
-fn number_from_end(cells: &[Cell]) -> Option<(usize, u64)>
-    requires bytes { All IsByte cells.now }
-    ensures start { IfSome result (λ r. r.0 ≡ length (before_digits (text_of_cells cells.now))) }
-    ensures value { IfSome result (λ r. r.1 ≡ digits_value 10 (digits (text_of_cells cells.now))) }
-    ensures below { IfSome result (λ r. r.1 < 10 ^ 19) }
-    ensures few { length (digits (text_of_cells cells.now)) < 19 → IsSome result }
+/// The length of the prefix of a text of at most 18 characters, in cells, and the number at its end.
+#[inline(always)]
+fn tail_of_few(cells: &[Cell]) -> (usize, i64)
+    requires text { IsText cells.now }
+    requires few { length cells.now ≤ 18 }
+    ensures start { result.0 ≡ length (prefix (text_of_cells cells.now)) }
+    ensures value { result.1 ≡ number_in cells.now }
+    ensures below { unsigned_abs result.1 < 10 ^ 18 }
 {
-    let least = cells.len().saturating_sub(19);
-    let mut start = cells.len();
-    let mut value: u64 = 0;
-    let mut power: u64 = 1;
-    while start > least {
-        let character = byte_in(&cells[start - 1]);
-        if !character.is_ascii_digit() {
-            return Some((start, value));
-        }
-        value += u64::from(character - b'0') * power;
-        power *= 10;
-        start -= 1;
-    }
-    if least == 0 { Some((0, value)) } else { None }
+    let (start, size) = number_in_few(cells);
+    let (start, negative) = sign_before(cells, start);
+    let size = size as i64;
+    (start, if negative { -size } else { size })
 }
 
 /// The number of at most 19 digits, and ten to the power of how many they are.
@@ -344,37 +345,25 @@ pub fn result_of(operation: Arith, a: Option<i128>, b: Option<i128>) -> Option<i
     operation.apply(a?, b?)
 }
 
-/// The result of an operation on numbers of 64 bits. None if it is outside 64 bits, or if the divisor is 0.
+/// The result of an operation on numbers of at most 18 digits. None if it is outside 64 bits, or if the
+/// divisor is 0.
 #[inline(always)]
 fn result_in_64_bits(operation: Arith, a: i64, b: i64) -> Option<i64>
+    requires left { unsigned_abs a < 10 ^ 18 }
+    requires right { unsigned_abs b < 10 ^ 18 }
     ensures exact { IfSome result (λ n. exactly operation a b ≡ Some n) }
     ensures fits { (n : ℤ) → exactly operation a b ≡ Some n → FitsSigned w64 n → IsSome result }
 {
     match operation {
-        Arith::Add => a.checked_add(b),
-        Arith::Subtract => a.checked_sub(b),
+        Arith::Add => Some(a + b),
+        Arith::Subtract => Some(a - b),
         Arith::Multiply => a.checked_mul(b),
         Arith::Divide => a.checked_div(b),
     }
 }
 
-/// The length of the prefix of a text, in cells, and the number at its end. None if the number may have
-/// more than 19 digits, or is outside 64 bits.
-#[inline(always)]
-fn tail_in_64_bits(cells: &[Cell]) -> Option<(usize, i64)>
-    requires { IsText cells.now }
-    ensures start { IfSome result (λ r. r.0 ≡ length (prefix (text_of_cells cells.now))) }
-    ensures value { IfSome result (λ r. r.1 ≡ number_in cells.now) }
-    ensures few { length (digits (text_of_cells cells.now)) < 19 → IsSome result }
-{
-    let (start, size) = short_number(cells)?;
-    let size = i64::try_from(size).ok()?;
-    let (start, negative) = sign_before(cells, start);
-    Some((start, if negative { -size } else { size }))
-}
-
-/// The result of an operation on the numbers at the ends of two texts, where each of the three fits in 64
-/// bits, and where the first number begins.
+/// The result of an operation on the numbers at the ends of two texts, as `short_result` finds it, and
+/// where the first number begins.
 #[derive(Clone, Copy)]
 pub struct ShortResult {
     /// The length of the first text's prefix, the text before its number and its sign, in cells.
@@ -383,9 +372,9 @@ pub struct ShortResult {
     pub number: i64,
 }
 
-/// The result of an operation on the numbers at the ends of two texts (Mooers 1966), where all fit in 64
-/// bits. None where one doesn't, or may have more than 19 digits, or if the divisor is 0: then `tail_number`
-/// and `result_of` tell the result.
+/// The result of an operation on the numbers at the ends of two texts (Mooers 1966). None if a text has
+/// more than 18 characters, if the result is outside 64 bits, or if the divisor is 0: then `tail_number` and
+/// `result_of` tell the result.
 #[inline(always)]
 pub fn short_result(operation: Arith, a: &[Cell], b: &[Cell]) -> Option<ShortResult>
     requires left { IsText a.now }
@@ -393,15 +382,15 @@ pub fn short_result(operation: Arith, a: &[Cell], b: &[Cell]) -> Option<ShortRes
     ensures start { IfSome result (λ r. r.start ≡ length (prefix (text_of_cells a.now))) }
     ensures number { IfSome result (λ r.
         Some r.number ≡ arith operation (number_in a.now) (number_in b.now)) }
-    ensures fits { length a.now < 19 → length b.now < 19 →
+    ensures fits { length a.now ≤ 18 → length b.now ≤ 18 →
         (n : ℤ) → exactly operation (number_in a.now) (number_in b.now) ≡ Some n →
         FitsSigned w64 n → IsSome result }
 {
-    if may_be_long(a) || may_be_long(b) {
+    if a.len() > DIGITS_THAT_ADD || b.len() > DIGITS_THAT_ADD {
         return None;
     }
-    let (start, left) = tail_in_64_bits(a)?;
-    let (_, right) = tail_in_64_bits(b)?;
+    let (start, left) = tail_of_few(a);
+    let (_, right) = tail_of_few(b);
     let number = result_in_64_bits(operation, left, right)?;
     Some(ShortResult {
         start: start as u32,
@@ -444,6 +433,20 @@ fn compare_digits(a: &[Cell], b: &[Cell]) -> Ordering
 /// `gr` (Mooers 1966). That the numbers may have any length is this processor's own choice.
 #[inline(always)]
 pub fn greater(a: &[Cell], b: &[Cell]) -> bool
+    requires left { IsText a.now }
+    requires right { IsText b.now }
+    ensures { IsTrue result ↔ (number_in b.now <ℤ number_in a.now) }
+{
+    if a.len() > DIGITS_THAT_ADD || b.len() > DIGITS_THAT_ADD {
+        return longer_greater(a, b);
+    }
+    tail_of_few(a).1 > tail_of_few(b).1
+}
+
+/// Whether the number at the end of text `a` is greater than the one at the end of text `b`. Takes less
+/// for numbers of at most 19 digits.
+#[inline(never)]
+fn longer_greater(a: &[Cell], b: &[Cell]) -> bool
     requires left { IsText a.now }
     requires right { IsText b.now }
     ensures { IsTrue result ↔ (number_in b.now <ℤ number_in a.now) }

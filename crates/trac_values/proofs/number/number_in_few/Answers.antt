@@ -2,7 +2,12 @@ use Rattle.trac_values.proofs.Imports.{◌≡◌, ◌∙◌, ◌+◌, ◌-◌, �
 use Rattle.trac_values.proofs.Suffixes.{digit_facts}
 use Rattle.trac_values.proofs.Forward.{fits_more, one_longer, one_more, none_longer}
 use Rattle.trac_values.proofs.number.number_in_few.Goals.{then-is_ascii_digit, else-is_ascii_digit}
+use Rattle.trac_values.proofs.TwoParts.{below-power}
 use Rattle.trac_values.proofs.number.number_in_few.Goals as goal
+
+pub returns-clause-below : goal.returns-clause-below
+returns-clause-below c =
+    below-power c.loop-i.value (c.loop-i.i - c.loop-i.start) 18 (omega (arith, c.requires.few)) c.loop-i.invariant.below
 
 pub overflow_mul-value : goal.overflow_mul-value
 overflow_mul-value c =

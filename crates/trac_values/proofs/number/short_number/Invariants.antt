@@ -1,5 +1,5 @@
 use Rattle.trac_values.proofs.Imports.{◌≡◌, length, ◌+◌, ◌-◌, ◌<◌, ◌≤◌, ◌^◌, take, drop, suffix_len, is_ascii_digit, digits_value, text_of_cells}
-use Rattle.trac_values.proofs.number.number_from_end.Given as goal
+use Rattle.trac_values.proofs.number.short_number.Given as goal
 
 -- the cells from start on are digits, and the value is theirs
 abbrev pub invariant-loop-start : goal.invariant-loop-start

@@ -3,7 +3,7 @@ use Rattle.trac_values.proofs.DigitsFromEnd.{value_before, fits_before}
 use Rattle.trac_values.proofs.Suffixes.{digit_facts, suffix_more, suffix_stops}
 use Rattle.trac_values.proofs.SuffixCells.{place}
 use Rattle.trac_values.proofs.TwoParts.{below-power}
-use Rattle.trac_values.proofs.number.number_from_end.Goals as goal
+use Rattle.trac_values.proofs.number.short_number.Goals as goal
 
 pub returns-then-not-is_ascii_digit-clause-start : goal.returns-then-not-is_ascii_digit-clause-start
 returns-then-not-is_ascii_digit-clause-start c =
@@ -16,11 +16,11 @@ returns-then-not-is_ascii_digit-clause-value c =
 
 pub returns-then-not-is_ascii_digit-clause-below : goal.returns-then-not-is_ascii_digit-clause-below
 returns-then-not-is_ascii_digit-clause-below c =
-    below-power c.loop-start.value (length c.args.cells.now - c.loop-start.start) (omega (arith, c.loop-start.invariant.least, c.saturating_sub-least.ensures)) c.loop-start.invariant.below
+    below-power c.loop-start.value (length c.args.cells.now - c.loop-start.start) 19 (omega (arith, c.loop-start.invariant.least, c.saturating_sub-least.ensures)) c.loop-start.invariant.below
 
 pub returns-then-least-eq0-clause-below : goal.returns-then-least-eq0-clause-below
 returns-then-least-eq0-clause-below c =
-    below-power c.loop-start.value (length c.args.cells.now - c.loop-start.start) (omega (arith, c.loop-start.invariant.least, c.saturating_sub-least.ensures)) c.loop-start.invariant.below
+    below-power c.loop-start.value (length c.args.cells.now - c.loop-start.start) 19 (omega (arith, c.loop-start.invariant.least, c.saturating_sub-least.ensures)) c.loop-start.invariant.below
 
 pub overflow_mul-value : goal.overflow_mul-value
 overflow_mul-value c =
