@@ -44,7 +44,8 @@ pub fn arithmetic(work: &mut Work, operation: Arith, mut arguments: Arguments) -
     let second = arguments.next(work);
     let short = trac_values::short_result(operation, text(work, first), text(work, second));
     let Some(result) = short else {
-        return long_arithmetic(work, operation, first, second, arguments, scanned);
+        let other = arguments.next(work);
+        return long_arithmetic(work, operation, first, second, other, scanned);
     };
     let prefix = Part {
         from: first.from,
@@ -54,24 +55,26 @@ pub fn arithmetic(work: &mut Work, operation: Arith, mut arguments: Arguments) -
     give_decimal(work, prefix, buffer.format(result.number).as_bytes(), scanned)
 }
 
-/// What `arithmetic` does where a number doesn't fit in 64 bits or has many digits, or a divisor is 0. The
-/// parts of the neutral string are N1 and N2, and the arguments are those behind them.
+/// What `arithmetic` does with N1, N2 and Z, which are parts of the neutral string, where N1 or N2 is long,
+/// the result doesn't fit in 64 bits, or a divisor is 0.
+#[cold]
 #[inline(never)]
 fn long_arithmetic(
     work: &mut Work,
     operation: Arith,
     first: Part,
     second: Part,
-    mut arguments: Arguments,
+    other: Part,
     scanned: bool,
 ) -> CallResult
+    requires sound { IsSound work.old }
     requires first { IsTextPart work.old.neutral first.from first.to }
     requires second { IsTextPart work.old.neutral second.from second.to }
-    requires arguments { AreArguments work.old arguments }
+    requires other { IsTextPart work.old.neutral other.from other.to }
     ensures makes { (name : Text) (args : List Text) →
         part_text work.old.neutral first.from first.to ≡ argument args 0 →
         part_text work.old.neutral second.from second.to ≡ argument args 1 →
-        argument (texts work.old arguments) 0 ≡ argument args 2 →
+        part_text work.old.neutral other.from other.to ≡ argument args 2 →
         Makes (Arithmetic operation) (name ∷ args) scanned work.old result work.new }
     ensures unmade { result ≡ CallResult.Full → work.new.forms ≡ work.old.forms }
     ensures keeps { KeepsRoom work.old work.new }
@@ -86,10 +89,7 @@ fn long_arithmetic(
             };
             give_number(work, prefix, number, scanned)
         }
-        None => {
-            let other = arguments.next(work);
-            give(work, other, true)
-        }
+        None => give(work, other, true),
     }
 }
 

@@ -445,6 +445,7 @@ pub fn greater(a: &[Cell], b: &[Cell]) -> bool
 
 /// Whether the number at the end of text `a` is greater than the one at the end of text `b`. Takes less
 /// for numbers of at most 19 digits.
+#[cold]
 #[inline(never)]
 fn longer_greater(a: &[Cell], b: &[Cell]) -> bool
     requires left { IsText a.now }

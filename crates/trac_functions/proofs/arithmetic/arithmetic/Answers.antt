@@ -19,7 +19,7 @@ returns-in_default-clause-makes c = λ name.
     c.long_arithmetic.ensures.makes name (texts c.args.work.now c.args.arguments)
     c.next-first.ensures.text
     (c.next-second.ensures.text ∙ c.next-first.ensures.later 0)
-    (c.next-second.ensures.later 0 ∙ c.next-first.ensures.later 1)
+    (c.next-other.ensures.text ∙ c.next-second.ensures.later 0 ∙ c.next-first.ensures.later 1)
 
 pub give_decimal-requires-clause-prefix : goal.give_decimal-requires-clause-prefix
 give_decimal-requires-clause-prefix c =

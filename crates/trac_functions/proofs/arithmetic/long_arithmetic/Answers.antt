@@ -9,8 +9,8 @@ pub overflow_add-prefix : goal.overflow_add-prefix
 overflow_add-prefix c =
     let fits = inside _ _ _ _ c.requires.first prefix prefix-front _ c.text.ensures.text c.tail_number-left.ensures.start in
     let within = c.requires.first.within in
-    let sound = c.requires.arguments.sound.fits in
-    let bounded = c.requires.arguments.sound.bounded in
+    let sound = c.requires.sound.fits in
+    let bounded = c.requires.sound.bounded in
     omega arith
 
 pub result_of-requires-clause-left : goal.result_of-requires-clause-left
@@ -50,7 +50,6 @@ returns-in-None-clause-makes c = λ name ts first-is second-is third-is.
     let operation = c.args.operation in
     let left = c.text.ensures.text ∙ first-is in
     let right = c.text-2.ensures.text ∙ second-is in
-    let third = c.next-other.ensures.text ∙ third-is in
     let result : None ≡ result_of_arith operation (number (argument ts 0)) (number (argument ts 1)) =
     c.in-None.ensures (number (argument ts 0)) (number (argument ts 1))
     (c.tail_number-left.ensures.value ∙ ap (λ t. if_in_range (Some (number t))) left)
@@ -58,5 +57,5 @@ returns-in-None-clause-makes c = λ name ts first-is second-is third-is.
     c.give.ensures.makes (Arithmetic operation) (name ∷ ts) true c.args.scanned refl
     (valued-of (Arithmetic operation) (name ∷ ts) w.forms w.forms _ true
     (λ meta input. ap (λ r. result_or r (prefix (argument ts 0)) (argument ts 2) (world w.forms meta input)) (sym result)
-    ∙ ap (λ t. forced t (world w.forms meta input)) (sym third))
+    ∙ ap (λ t. forced t (world w.forms meta input)) (sym third-is))
     (λ _. refl))
