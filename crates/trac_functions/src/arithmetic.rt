@@ -5,6 +5,7 @@ ghost use Rattle.std.specs.Fmt.{signed_decimal};
 ghost use Rattle.trac_language.specs.declared.function.Function.{Function};
 ghost use Rattle.trac_language.specs.declared.function.Function.TheVariants.{Arithmetic};
 ghost use Rattle.trac_language.specs.Text.{Text};
+ghost use Rattle.trac_language.specs.State.{argument};
 ghost use Rattle.trac_space.specs.Texts.{flat_text};
 ghost use Rattle.trac_forms.specs.Contents.{used, part_text, IsTextPart, IsSound};
 ghost use Rattle.trac_values.specs.Digits.{padded_text, signed};
@@ -41,6 +42,43 @@ pub fn arithmetic(work: &mut Work, operation: Arith, mut arguments: Arguments) -
     let scanned = arguments.scanned;
     let first = arguments.next(work);
     let second = arguments.next(work);
+    let short = trac_values::short_result(operation, text(work, first), text(work, second));
+    let Some(result) = short else {
+        let other = arguments.next(work);
+        return long_arithmetic(work, operation, first, second, other, scanned);
+    };
+    let prefix = Part {
+        from: first.from,
+        to: first.from + result.start,
+    };
+    let mut buffer = Buffer::new();
+    give_decimal(work, prefix, buffer.format(result.number).as_bytes(), scanned)
+}
+
+/// What `arithmetic` does with N1, N2 and Z, which are parts of the neutral string, where N1 or N2 is long,
+/// the result doesn't fit in 64 bits, or a divisor is 0.
+#[cold]
+#[inline(never)]
+fn long_arithmetic(
+    work: &mut Work,
+    operation: Arith,
+    first: Part,
+    second: Part,
+    other: Part,
+    scanned: bool,
+) -> CallResult
+    requires sound { IsSound work.old }
+    requires first { IsTextPart work.old.neutral first.from first.to }
+    requires second { IsTextPart work.old.neutral second.from second.to }
+    requires other { IsTextPart work.old.neutral other.from other.to }
+    ensures makes { (name : Text) (args : List Text) →
+        part_text work.old.neutral first.from first.to ≡ argument args 0 →
+        part_text work.old.neutral second.from second.to ≡ argument args 1 →
+        part_text work.old.neutral other.from other.to ≡ argument args 2 →
+        Makes (Arithmetic operation) (name ∷ args) scanned work.old result work.new }
+    ensures unmade { result ≡ CallResult.Full → work.new.forms ≡ work.old.forms }
+    ensures keeps { KeepsRoom work.old work.new }
+{
     let left = trac_values::tail_number(text(work, first));
     let right = trac_values::tail_number(text(work, second));
     match trac_values::result_of(operation, left.value, right.value) {
@@ -51,10 +89,7 @@ pub fn arithmetic(work: &mut Work, operation: Arith, mut arguments: Arguments) -
             };
             give_number(work, prefix, number, scanned)
         }
-        None => {
-            let other = arguments.next(work);
-            give(work, other, true)
-        }
+        None => give(work, other, true),
     }
 }
 
@@ -74,7 +109,23 @@ fn give_number(work: &mut Work, prefix: Part, number: i128, scanned: bool) -> Ca
         return give_long_number(work, prefix, number, scanned);
     }
     let mut buffer = Buffer::new();
-    let digits = decimal(&mut buffer, number);
+    give_decimal(work, prefix, decimal(&mut buffer, number), scanned)
+}
+
+/// A part of the neutral string, and digits behind it, at most 40 characters with a sign, are the value of
+/// a call, which goes to the active string where it is scanned again.
+#[inline(always)]
+fn give_decimal(work: &mut Work, prefix: Part, digits: &[u8], scanned: bool) -> CallResult
+    requires prefix { IsTextPart work.old.neutral prefix.from prefix.to }
+    requires short { length digits.now ≤ 40 }
+    ensures makes { (function : Function) (args : List Text) →
+        let before = part_text work.old.neutral prefix.from prefix.to in
+        let value = before ++ digits.now in
+        Valued function args work.old.forms value false work.old.forms →
+        Makes function args scanned work.old result work.new }
+    ensures unmade { result ≡ CallResult.Full → work.new.forms ≡ work.old.forms }
+    ensures keeps { KeepsRoom work.old work.new }
+{
     let free = work.free();
     let size = prefix.to - prefix.from + digits.len() as u32;
     if free < size {

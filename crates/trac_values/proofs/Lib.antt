@@ -1,5 +1,6 @@
 pub mod DigitBits
 pub mod DigitsFromEnd
+pub mod Forward
 pub mod LongNumbers
 pub mod OctalDigits
 pub mod Shifts

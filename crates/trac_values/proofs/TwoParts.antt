@@ -107,9 +107,9 @@ module _ (cells : List Cell) (n : ℕ) (few : n ≤ length cells) where
         ∙ ap (λ k. digits_value 10 (digits front) * 10 ^ k + digits_value 10 back) long
         ∙ ap (λ t. digits_value 10 (digits front) * 10 ^ size + digits_value 10 t) (sym all-digits)
 
--- a number of at most 19 digits is below 10 ^ 19
-pub below-power : (v k : ℕ) → k ≤ 19 → v < 10 ^ k → v < 10 ^ 19
-below-power v k few below =
+-- a number of at most n digits is below 10 ^ n
+pub below-power : (v k n : ℕ) → k ≤ n → v < 10 ^ k → v < 10 ^ n
+below-power v k n few below =
     let base : 0 < 10 = omega arith in
-    let most : 10 ^ k ≤ 10 ^ 19 = pow-le-pow_right base few in
+    let most : 10 ^ k ≤ 10 ^ n = pow-le-pow_right base few in
     omega (arith, below, most)

@@ -5,11 +5,13 @@ ghost use Rattle.std.specs.Prelude.{ℤ, min, IfSome, IsSome, IsTrue, length, in
 ghost use Rattle.std.specs.Prelude.{unsigned_abs, ◌<ℤ◌};
 ghost use Rattle.std.specs.Int.{int_rem_euclid};
 ghost use Rattle.std.specs.Ordering.{nat_cmp};
-ghost use Rattle.trac_language.specs.Number.{arith, before_digits, digits, ends_with};
+ghost use Rattle.std.specs.Prelude.{FitsSigned, Some};
+ghost use Rattle.std.specs.Int.{w64};
+ghost use Rattle.trac_language.specs.Number.{arith, before_digits, digits, ends_with, exactly};
 ghost use Rattle.trac_language.specs.Number.{if_in_range, in_range, prefix};
 ghost use Rattle.std.specs.Str.Parse.{digits_value};
 ghost use Rattle.trac_space.specs.Texts.{text_of_cells, IsByte};
-ghost use Rattle.trac_values.specs.Digits.{IsDecimal, decimal_value, value_upto};
+ghost use Rattle.trac_values.specs.Digits.{IsDecimal, decimal_value, signed, value_upto};
 ghost use Rattle.trac_values.specs.Cells.{IsText, number_in};
 
 use crate::text::ends_with;
@@ -19,6 +21,9 @@ use trac_space::{Cell, byte_in, character_of};
 
 /// Each number of this many decimal digits fits in 64 bits.
 const DIGITS_IN_64_BITS: usize = 19;
+
+/// The sum and the difference of two numbers of at most this many decimal digits fit in 64 bits.
+const DIGITS_THAT_ADD: usize = 18;
 
 // 10 ^ 19.
 const POWER: u128 = 10_000_000_000_000_000_000;
@@ -89,6 +94,45 @@ fn short_number(cells: &[Cell]) -> Option<(usize, u64)>
         start -= 1;
     }
     if least == 0 { Some((0, value)) } else { None }
+}
+
+/// Where the longest suffix of decimal digits begins, and its number, in a text of at most 18 characters.
+/// Each character that is no digit begins the number anew.
+#[inline(always)]
+fn number_in_few(cells: &[Cell]) -> (usize, u64)
+    requires bytes { All IsByte cells.now }
+    requires few { length cells.now ≤ 18 }
+    ensures start { result.0 ≡ length (before_digits (text_of_cells cells.now)) }
+    ensures value { result.1 ≡ digits_value 10 (digits (text_of_cells cells.now)) }
+    ensures below { result.1 < 10 ^ 18 }
+{
+    let mut start = 0;
+    let mut value = 0;
+    for i in 0..cells.len() {
+        let character = byte_in(&cells[i]);
+        if character.is_ascii_digit() {
+            value = value * 10 + u64::from(character - b'0');
+        } else {
+            value = 0;
+            start = i + 1;
+        }
+    }
+    (start, value)
+}
+
+/// The length of the prefix of a text of at most 18 characters, in cells, and the number at its end.
+#[inline(always)]
+fn tail_of_few(cells: &[Cell]) -> (usize, i64)
+    requires text { IsText cells.now }
+    requires few { length cells.now ≤ 18 }
+    ensures start { result.0 ≡ length (prefix (text_of_cells cells.now)) }
+    ensures value { result.1 ≡ number_in cells.now }
+    ensures below { unsigned_abs result.1 < 10 ^ 18 }
+{
+    let (start, size) = number_in_few(cells);
+    let (start, negative) = sign_before(cells, start);
+    let size = size as i64;
+    (start, if negative { -size } else { size })
 }
 
 /// The number of at most 19 digits, and ten to the power of how many they are.
@@ -164,6 +208,28 @@ fn short_tail(cells: &[Cell]) -> Option<(usize, i128)>
     Some(with_sign(cells, start, i128::from(size)))
 }
 
+/// The length of the prefix of a text, in cells, and whether a minus sign stands between the prefix and
+/// the digits, which begin at `start`.
+#[inline(always)]
+fn sign_before(cells: &[Cell], start: usize) -> (usize, bool)
+    requires text { IsText cells.now }
+    requires start { start ≡ length (before_digits (text_of_cells cells.now)) }
+    ensures start { result.0 ≡ length (prefix (text_of_cells cells.now)) }
+    ensures minus { let size = digits_value 10 (digits (text_of_cells cells.now)) in
+        number_in cells.now ≡ signed result.1 size }
+{
+    let front = cells.split_at(start).0;
+    if start == cells.len() {
+        (start, false)
+    } else if is_last(front, b'-') {
+        (start - 1, true)
+    } else if is_last(front, b'+') {
+        (start - 1, false)
+    } else {
+        (start, false)
+    }
+}
+
 /// The length of the prefix of a text, in cells, and the number at its end, whose digits begin at `start`
 /// and have the value `size`.
 #[inline(always)]
@@ -175,16 +241,8 @@ fn with_sign(cells: &[Cell], start: usize, size: i128) -> (usize, i128)
     ensures value { result.1 ≡ number_in cells.now }
     ensures in_range { IsTrue (in_range result.1) }
 {
-    let front = cells.split_at(start).0;
-    if start == cells.len() {
-        (start, size)
-    } else if is_last(front, b'-') {
-        (start - 1, -size)
-    } else if is_last(front, b'+') {
-        (start - 1, size)
-    } else {
-        (start, size)
-    }
+    let (start, negative) = sign_before(cells, start);
+    (start, if negative { -size } else { size })
 }
 
 /// Where the longest suffix of decimal digits begins, and its number, read as two numbers of at most 19
@@ -287,6 +345,59 @@ pub fn result_of(operation: Arith, a: Option<i128>, b: Option<i128>) -> Option<i
     operation.apply(a?, b?)
 }
 
+/// The result of an operation on numbers of at most 18 digits. None if it is outside 64 bits, or if the
+/// divisor is 0.
+#[inline(always)]
+fn result_in_64_bits(operation: Arith, a: i64, b: i64) -> Option<i64>
+    requires left { unsigned_abs a < 10 ^ 18 }
+    requires right { unsigned_abs b < 10 ^ 18 }
+    ensures exact { IfSome result (λ n. exactly operation a b ≡ Some n) }
+    ensures fits { (n : ℤ) → exactly operation a b ≡ Some n → FitsSigned w64 n → IsSome result }
+{
+    match operation {
+        Arith::Add => Some(a + b),
+        Arith::Subtract => Some(a - b),
+        Arith::Multiply => a.checked_mul(b),
+        Arith::Divide => a.checked_div(b),
+    }
+}
+
+/// The result of an operation on the numbers at the ends of two texts, as `short_result` finds it, and
+/// where the first number begins.
+#[derive(Clone, Copy)]
+pub struct ShortResult {
+    /// The length of the first text's prefix, the text before its number and its sign, in cells.
+    pub start: u32,
+    /// The result.
+    pub number: i64,
+}
+
+/// The result of an operation on the numbers at the ends of two texts (Mooers 1966). None if a text has
+/// more than 18 characters, if the result is outside 64 bits, or if the divisor is 0: then `tail_number` and
+/// `result_of` tell the result.
+#[inline(always)]
+pub fn short_result(operation: Arith, a: &[Cell], b: &[Cell]) -> Option<ShortResult>
+    requires left { IsText a.now }
+    requires right { IsText b.now }
+    ensures start { IfSome result (λ r. r.start ≡ length (prefix (text_of_cells a.now))) }
+    ensures number { IfSome result (λ r.
+        Some r.number ≡ arith operation (number_in a.now) (number_in b.now)) }
+    ensures fits { length a.now ≤ 18 → length b.now ≤ 18 →
+        (n : ℤ) → exactly operation (number_in a.now) (number_in b.now) ≡ Some n →
+        FitsSigned w64 n → IsSome result }
+{
+    if a.len() > DIGITS_THAT_ADD || b.len() > DIGITS_THAT_ADD {
+        return None;
+    }
+    let (start, left) = tail_of_few(a);
+    let (_, right) = tail_of_few(b);
+    let number = result_in_64_bits(operation, left, right)?;
+    Some(ShortResult {
+        start: start as u32,
+        number,
+    })
+}
+
 /// The digit at a place of a number that is filled with zeros at the left up to `long` digits.
 fn digit_at(digits: &[Cell], long: usize, place: usize) -> u8
     requires digits { IsDecimal digits.now }
@@ -322,6 +433,21 @@ fn compare_digits(a: &[Cell], b: &[Cell]) -> Ordering
 /// `gr` (Mooers 1966). That the numbers may have any length is this processor's own choice.
 #[inline(always)]
 pub fn greater(a: &[Cell], b: &[Cell]) -> bool
+    requires left { IsText a.now }
+    requires right { IsText b.now }
+    ensures { IsTrue result ↔ (number_in b.now <ℤ number_in a.now) }
+{
+    if a.len() > DIGITS_THAT_ADD || b.len() > DIGITS_THAT_ADD {
+        return longer_greater(a, b);
+    }
+    tail_of_few(a).1 > tail_of_few(b).1
+}
+
+/// Whether the number at the end of text `a` is greater than the one at the end of text `b`. Takes less
+/// for numbers of at most 19 digits.
+#[cold]
+#[inline(never)]
+fn longer_greater(a: &[Cell], b: &[Cell]) -> bool
     requires left { IsText a.now }
     requires right { IsText b.now }
     ensures { IsTrue result ↔ (number_in b.now <ℤ number_in a.now) }

@@ -16,11 +16,11 @@ returns-then-not-is_ascii_digit-clause-value c =
 
 pub returns-then-not-is_ascii_digit-clause-below : goal.returns-then-not-is_ascii_digit-clause-below
 returns-then-not-is_ascii_digit-clause-below c =
-    below-power c.loop-start.value (length c.args.cells.now - c.loop-start.start) (omega (arith, c.loop-start.invariant.least, c.saturating_sub-least.ensures)) c.loop-start.invariant.below
+    below-power c.loop-start.value (length c.args.cells.now - c.loop-start.start) 19 (omega (arith, c.loop-start.invariant.least, c.saturating_sub-least.ensures)) c.loop-start.invariant.below
 
 pub returns-then-least-eq0-clause-below : goal.returns-then-least-eq0-clause-below
 returns-then-least-eq0-clause-below c =
-    below-power c.loop-start.value (length c.args.cells.now - c.loop-start.start) (omega (arith, c.loop-start.invariant.least, c.saturating_sub-least.ensures)) c.loop-start.invariant.below
+    below-power c.loop-start.value (length c.args.cells.now - c.loop-start.start) 19 (omega (arith, c.loop-start.invariant.least, c.saturating_sub-least.ensures)) c.loop-start.invariant.below
 
 pub overflow_mul-value : goal.overflow_mul-value
 overflow_mul-value c =
