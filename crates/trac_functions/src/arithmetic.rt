@@ -52,7 +52,8 @@ pub fn arithmetic(work: &mut Work, operation: Arith, mut arguments: Arguments) -
         to: first.from + result.start,
     };
     let mut buffer = Buffer::new();
-    give_decimal(work, prefix, buffer.format(result.number).as_bytes(), scanned)
+    let digits = buffer.format(result.number).as_bytes();
+    give_decimal(work, prefix, digits, scanned)
 }
 
 /// What `arithmetic` does with N1, N2 and Z, which are parts of the neutral string, where N1 or N2 is long,
@@ -109,7 +110,8 @@ fn give_number(work: &mut Work, prefix: Part, number: i128, scanned: bool) -> Ca
         return give_long_number(work, prefix, number, scanned);
     }
     let mut buffer = Buffer::new();
-    give_decimal(work, prefix, decimal(&mut buffer, number), scanned)
+    let digits = decimal(&mut buffer, number);
+    give_decimal(work, prefix, digits, scanned)
 }
 
 /// A part of the neutral string, and digits behind it, at most 40 characters with a sign, are the value of
@@ -155,7 +157,7 @@ fn decimal(buffer: &mut Buffer, number: i128) -> &[u8]
 
 /// What `give_number` does with a number of more than nineteen digits: its last nineteen, and those
 /// before them with the sign, are numbers of 64 bits.
-#[inline(never)]
+#[inline(always)]
 fn give_long_number(work: &mut Work, prefix: Part, number: i128, scanned: bool) -> CallResult
     requires prefix { IsTextPart work.old.neutral prefix.from prefix.to }
     requires long { 10 ^ 19 ≤ unsigned_abs number }

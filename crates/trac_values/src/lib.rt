@@ -14,8 +14,8 @@ pub use bit_string::{
     intersection_digit, octal_start, rotated_digit, shifted_digit, union_digit,
 };
 pub use number::{
-    Count, ShortResult, TailNumber, count_of, greater, result_of, rotation_of, shift_of, short_result,
-    tail_number,
+    Count, ShortResult, TailNumber, count_of, greater, result_of, rotation_of, shift_of,
+    short_result, tail_number,
 };
 pub use text::{ends_with, equal};
 pub use trac_language::Arith;

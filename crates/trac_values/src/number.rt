@@ -264,7 +264,7 @@ fn number_in_two_parts(cells: &[Cell]) -> Option<(usize, u128)>
 }
 
 /// The number at the end of a text, and where it begins. Takes less for a number of 20 to 38 digits.
-#[inline(never)]
+#[inline(always)]
 fn long_tail(cells: &[Cell]) -> TailNumber
     requires { IsText cells.now }
     ensures start { result.start ≡ length (prefix (text_of_cells cells.now)) }

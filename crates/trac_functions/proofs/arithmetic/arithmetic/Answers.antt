@@ -42,7 +42,7 @@ returns-clause-makes c = λ name.
     ∙ ap (λ t. result_of_arith operation (number t) (number (text_of_cells c.text-2.result.now))) left
     ∙ ap (λ t. result_of_arith operation (number (argument ts 0)) (number t)) right in
     let fits : FitsSigned w64 n = search rules in
-    let written : c.as_bytes.result.now ≡ signed_decimal n = c.as_bytes.ensures.value ∙ c.format.ensures.text ∙ ap signed_decimal (to_z-of_z w64 n fits) in
+    let written : c.as_bytes-digits.result.now ≡ signed_decimal n = c.as_bytes-digits.ensures.value ∙ c.format.ensures.text ∙ ap signed_decimal (to_z-of_z w64 n fits) in
     c.give_decimal.ensures.makes (Arithmetic operation) (name ∷ ts)
     (valued-of (Arithmetic operation) (name ∷ ts) w.forms w.forms _ false
     (λ meta input. ap (λ r. result_or r (prefix (argument ts 0)) (argument ts 2) (world w.forms meta input)) (sym result)

@@ -2,7 +2,6 @@ use Rattle.trac_functions.proofs.Imports.{Some, ◌≡◌, ℕ, ◌+◌, ◌<◌
 use Rattle.trac_functions.proofs.Imports.{flat_text, filled_body, Contents, used, IsNamedAt, IsSound, IsLoaded, called_part, form_named-at, Arguments, texts, AreArguments, Valued}
 use Rattle.trac_functions.proofs.MadeValues.{valued-of}
 use Rattle.trac_functions.proofs.FormLemmas.{idle, parted, parted-texts}
-use Rattle.trac_functions.proofs.PutCharacters.{with_text, stands-behind}
 use Rattle.trac_functions.proofs.form_calls.call_form.Goals as goal
 
 pub returns-in_default-clause-makes : goal.returns-in_default-clause-makes

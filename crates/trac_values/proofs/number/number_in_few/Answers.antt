@@ -1,4 +1,4 @@
-use Rattle.trac_values.proofs.Imports.{◌≡◌, ◌∙◌, ◌+◌, ◌-◌, ◌*◌, ◌^◌, ◌<◌, length, sym, ap, subst, arith, drop, take, is_ascii_digit, digits_value, text_of_cells}
+use Rattle.trac_values.proofs.Imports.{◌≡◌, ◌∙◌, ◌+◌, ◌-◌, ◌*◌, ◌^◌, ◌<◌, length, sym, ap, subst, arith, drop, take, digits_value, text_of_cells}
 use Rattle.trac_values.proofs.Suffixes.{digit_facts}
 use Rattle.trac_values.proofs.Forward.{fits_more, one_longer, one_more, none_longer}
 use Rattle.trac_values.proofs.number.number_in_few.Goals.{then-is_ascii_digit, else-is_ascii_digit}

@@ -1,4 +1,4 @@
-use Rattle.trac_values.proofs.Imports.{◌≡◌, ◌+◌, ◌-◌, ◌<◌, ◌≤◌, ◌^◌, take, drop, suffix_len, is_ascii_digit, digits_value, text_of_cells}
+use Rattle.trac_values.proofs.Imports.{◌≡◌, ◌-◌, ◌<◌, ◌≤◌, ◌^◌, take, drop, suffix_len, is_ascii_digit, digits_value, text_of_cells}
 use Rattle.trac_values.proofs.number.number_in_few.Given as goal
 
 -- of the characters so far, those from start on are the longest suffix of digits, and the value is theirs

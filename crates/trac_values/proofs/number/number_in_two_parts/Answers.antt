@@ -1,4 +1,4 @@
-use Rattle.trac_values.proofs.Imports.{◌≡◌, ◌+◌, ◌-◌, ◌*◌, ◌^◌, ◌<◌, ◌∙◌, ap, sym, arith, length, drop, take, digits, digits_value, before_digits, text_of_cells, length-map, length-drop, character_of}
+use Rattle.trac_values.proofs.Imports.{◌≡◌, ◌-◌, ◌∙◌, ap, sym, arith, length, drop, digits, digits_value, before_digits, text_of_cells, length-map, length-drop, character_of}
 use Rattle.trac_values.proofs.TwoParts.{behind-start, behind-digits, across-start, across-value}
 use Rattle.trac_values.proofs.number.number_in_two_parts.Goals as goal
 
