@@ -1,6 +1,6 @@
 -- Where comma marks stand, laid over the first of the cells.
 use Rattle.trac_space.proofs.Imports.{◌≡◌, ℕ, ◌+◌, ◌-◌, ◌<◌, ◌≤◌, true, false, cond, All, List, [], ◌∷◌, ◌++◌, length, drop, map, get_or, set, refl, sym, ap, ◌∙◌, arith, subst, ⊎_elim, IsTrue}
-use Rattle.trac_space.proofs.Imports.{append_assoc, drop-drop, drop-set-lt, drop-map, drop_all, drop_more, get_or-drop, get_or-append_seam, get_or_append_left, get_or-set_same, get_or-set_other, get_or_default, length-append, length-map, All-head, All-tail, All-get_or, cases_eq, Cell, Byte, Call, Comma, Gap, Head, is_comma, NoComma, HaveCommas, parts_at}
+use Rattle.trac_space.proofs.Imports.{append_assoc, drop-drop, drop-set-lt, drop-map, drop_more, get_or-drop, get_or-append_seam, get_or_append_left, get_or-set_same, get_or-set_other, get_or_default, length-append, length-map, All-head, All-tail, All-get_or, cases_eq, Cell, Byte, Call, Comma, Gap, Head, is_comma, NoComma, HaveCommas, parts_at}
 use Rattle.std.proofs.Math.Seq.{map-set_same}
 use Rattle.trac_space.specs.Overlay.{takes_number, under, over, has_number}
 
