@@ -39,6 +39,17 @@ module _ (cells : List Cell) (i c : ℕ) (lt : i < length cells) (is : c ≡ cha
       let digit : digit_value (get_or rest (i - s) 0) ≡ c - 48 = ap digit_value (get_or-drop s (text_of_cells cells) (i - s) 0 ∙ ap (λ k. get_or (text_of_cells cells) k 0) at ∙ read) ∙ (digit_facts c passes).2 in
       ap (λ k. digits_value 10 (take k rest)) e ∙ value ∙ ap (λ d. digits_value 10 (take (i - s) rest) * 10 + d) digit
 
+  -- one more digit behind digits alone
+  pub all_longer : is_ascii_digit c ≡ true → suffix_len is_ascii_digit (take i (text_of_cells cells)) ≡ i → suffix_len is_ascii_digit (take (i + 1) (text_of_cells cells)) ≡ i + 1
+  all_longer passes so_far =
+      omega (arith, one_longer 0 (omega arith) passes (omega (arith, so_far)))
+
+  pub all_more : is_ascii_digit c ≡ true → digits_value 10 (take (i + 1) (text_of_cells cells)) ≡ digits_value 10 (take i (text_of_cells cells)) * 10 + (c - 48)
+  all_more passes =
+      let value = digits_value_more 10 (text_of_cells cells) i (omega (arith, long)) in
+      let digit : digit_value (get_or (text_of_cells cells) i 0) ≡ c - 48 = ap digit_value read ∙ (digit_facts c passes).2 in
+      value ∙ ap (λ d. digits_value 10 (take i (text_of_cells cells)) * 10 + d) digit
+
   -- a character that is no digit ends it
   pub none_longer : is_ascii_digit c ≡ false → suffix_len is_ascii_digit (take (i + 1) (text_of_cells cells)) ≡ 0
   none_longer stops =

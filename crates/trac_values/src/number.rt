@@ -97,9 +97,30 @@ fn short_number(cells: &[Cell]) -> Option<(usize, u64)>
 }
 
 /// Where the longest suffix of decimal digits begins, and its number, in a text of at most 18 characters.
-/// Each character that is no digit begins the number anew.
+/// Takes less where they all are digits.
 #[inline(always)]
 fn number_in_few(cells: &[Cell]) -> (usize, u64)
+    requires bytes { All IsByte cells.now }
+    requires few { length cells.now ≤ 18 }
+    ensures start { result.0 ≡ length (before_digits (text_of_cells cells.now)) }
+    ensures value { result.1 ≡ digits_value 10 (digits (text_of_cells cells.now)) }
+    ensures below { result.1 < 10 ^ 18 }
+{
+    let mut value = 0;
+    for i in 0..cells.len() {
+        let character = byte_in(&cells[i]);
+        if !character.is_ascii_digit() {
+            return number_among_others(cells);
+        }
+        value = value * 10 + u64::from(character - b'0');
+    }
+    (0, value)
+}
+
+/// Where the longest suffix of decimal digits begins, and its number, in a text of at most 18 characters.
+/// Each character that is no digit begins the number anew.
+#[inline(always)]
+fn number_among_others(cells: &[Cell]) -> (usize, u64)
     requires bytes { All IsByte cells.now }
     requires few { length cells.now ≤ 18 }
     ensures start { result.0 ≡ length (before_digits (text_of_cells cells.now)) }
