@@ -310,12 +310,6 @@ only-full f args scanned w mid Full is some = refl
 only-full f args scanned w mid (Over fate) is some = absurd is
 only-full f args scanned w mid _ is some = absurd (some refl)
 
--- and then nothing is settled
-pub unsettled : (made : CallResult) (place from : ℕ) (w : Contents) → fate_after made ≢ None → settled made place from w ≡ w
-unsettled Full place from w some = refl
-unsettled (Over fate) place from w some = refl
-unsettled _ place from w some = absurd (some refl)
-
 -- a null value stands anywhere
 pub stands-null : (w : Contents) → IsSound w → Stands (Null 0) (used w) (length w.neutral) w
 stands-null w sound = let fits = sound.fits in record { within = omega arith; fits = omega arith }
@@ -364,11 +358,3 @@ plain-alone PrintForm alone c g = absurd cc
 plain-alone ChangeMeta alone c g = absurd (c refl)
 plain-alone Halt alone c g = absurd (g refl)
 plain-alone _ alone c g = refl
-
--- the functions that have no arm of their own touch no device
-pub rest-alone : (f : Function) → f ≢ ReadString → f ≢ ReadCharacter → f ≢ PrintString → f ≢ PrintForm → touches_device (Some f) ≡ false
-rest-alone ReadString a b d e = absurd (a refl)
-rest-alone ReadCharacter a b d e = absurd (b refl)
-rest-alone PrintString a b d e = absurd (d refl)
-rest-alone PrintForm a b d e = absurd (e refl)
-rest-alone _ a b d e = refl

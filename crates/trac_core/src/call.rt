@@ -132,12 +132,15 @@ fn perform<I: Source, O: Sink>(
     ensures keeps { KeepsRoom work.old work.new }
 {
     let before = work.used();
-    let end = work.neutral_len();
-    let made = answer(work, call, meta, source, sink);
     let part = Part {
         from: call.place,
-        to: end,
+        to: work.neutral_len(),
     };
+    let parts = named(work, call);
+    let Some(function) = parts.function else {
+        return finish_call(work, part, before, nothing(work, parts));
+    };
+    let made = answer(work, parts, function, meta, source, sink);
     finish_call(work, part, before, made)
 }
 
@@ -222,18 +225,32 @@ fn has_text(work: &Work, mut arguments: Arguments) -> bool
     part.from < part.to
 }
 
-/// What the function of the innermost call answers. A call of a name that is no function has a null
-/// value (this processor's own choice).
+/// What a call of a name that is no function answers: its value is null (this processor's own choice).
+#[inline(always)]
+fn nothing(work: &Work, call: NamedCall) -> CallResult
+    requires named { IsNamed call work.now }
+    requires none { call.function ≡ None }
+    ensures answers { (meta : ℕ) (source : Stream) (written : Text) →
+        AnswersCall call.place (scene work.now meta source written) result
+        (scene work.now meta source written) }
+    ensures stands { Stands result (used work.now) (length work.now.neutral) work.now }
+    ensures null { result ≡ CallResult.Null 0 }
+{
+    CallResult::Null(0)
+}
+
+/// What the function of the innermost call answers, which is `function`.
 #[inline(always)]
 fn answer<I: Source, O: Sink>(
     work: &mut Work,
-    call: InnermostCall,
+    call: NamedCall,
+    function: Function,
     meta: &mut u8,
     source: &mut I,
     sink: &mut O,
 ) -> CallResult
-    requires innermost { IsLastCall work.old.neutral call.place }
-    requires plain { IsPlainFrom call.plain work.old.neutral }
+    requires named { IsNamed call work.old }
+    requires function { call.function ≡ Some function }
     requires source_counts { I.failure_count source.old < 2 ^ 64 - 1 }
     requires sink_counts { O.failure_count sink.old < 2 ^ 64 - 1 }
     requires sound { IsSound work.old }
@@ -252,21 +269,12 @@ fn answer<I: Source, O: Sink>(
         TakesFrom work.old (I.stream source.old) (I.stream source.new) taken }
     ensures keeps { KeepsRoom work.old work.new }
 {
-    let mut arguments = Arguments {
-        from: call.place + 1,
-        end: work.neutral_len(),
-        plain: call.plain,
-        scanned: is_active_call(work, call.place),
-    };
-    let Some(function) = arguments.function(work) else {
-        return CallResult::Null(0);
-    };
     match function {
         Function::ReadString => read_string(work, *meta, source),
         Function::ReadCharacter => read_character(work, source),
-        Function::PrintString => print_string(work, arguments, sink),
-        Function::PrintForm => print_form(work, arguments, sink),
-        _ => made_alone(work, function, arguments, meta),
+        Function::PrintString => print_string(work, call.arguments, sink),
+        Function::PrintForm => print_form(work, call.arguments, sink),
+        _ => made_alone(work, function, call.arguments, meta),
     }
 }
 
