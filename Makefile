@@ -2,12 +2,19 @@
 .POSIX:
 .NOTPARALLEL:
 
-CC = cc
+# The compiler that the environment names, else the first that is there.
+CC != echo $${CC:-$$(for name in cc gcc clang tcc; do command -v $$name >/dev/null && echo $$name && break; done)}
 CFLAGS = -O2
 PREFIX = $(HOME)/.local
 LIBDIR = lib
-# Debian's own Python has Debian's packages of pytest and Selenium.
-PYTHON = /usr/bin/python3
+# Archives have the time of the last change, so that they are the same when they are made twice.
+TIME != echo $${SOURCE_DATE_EPOCH:-$$(git log -1 --format=%at 2>/dev/null || date -r CHANGELOG.md +%s)}
+export SOURCE_DATE_EPOCH=$(TIME)
+# The scripts get the folder from the environment, where quotes in its name do no harm.
+export TRAC_PREFIX=$(PREFIX)
+export TRAC_TO=$(DESTDIR)$(PREFIX)
+# Debian's own Python has Debian's packages of pytest and Selenium. The page needs any Python.
+PYTHON != command -v /usr/bin/python3 || echo python3
 VERSION != cat VERSION
 SOURCES != find crates.txt crates -name out -prune -o -type f \( -name '*.rt' -o -name '*.antt' -o -name crates.txt \) -print
 PAGE != find hosts/page hosts/js examples docs/EXERCISES.md docs/LANGUAGE.md docs/LESSON.md -type f ! -name '*.pyc'
@@ -17,26 +24,45 @@ CRATES != ls further-edits
 RT = $(PYTHON) checks/progress.py
 PYTEST = $(PYTHON) -m pytest -q -n auto --dist loadfile
 
-TERMINAL = hosts/c/terminal.c hosts/c/calls.c hosts/c/saving.c hosts/c/suspicions.c hosts/c/texts.c hosts/c/typing.c
+TERMINAL = hosts/c/terminal.c hosts/c/calls.c hosts/c/loading.c hosts/c/replacing.c hosts/c/saving.c \
+    hosts/c/suspicions.c hosts/c/texts.c hosts/c/typing.c
 # Lines are edited by libedit, where it is there.
 EDITING = -DWITH_LIBEDIT -ledit
-# The engine in two parts, of which build/trac needs the first: the check takes longer to compile than all else.
-OBJECTS = build/TRAC_WITHOUT_CHECK.o build/TRAC_CHECK_ALONE.o
+# A file is made under another name, and renamed when it is whole and on the disk. So nothing takes for it what a kill,
+# a full disk or lost power leaves.
+NEW = $@.$$$$
+DONE = sync $(NEW) && mv -f $(NEW) $@
+
+# The engine in units that take about as long to compile, and are compiled beside each other. A run needs the first.
+RUN_UNITS = build/units/1.o build/units/2.o build/units/3.o build/units/4.o
+CHECK_UNITS = build/units/5.o build/units/6.o
+UNITS = $(RUN_UNITS) $(CHECK_UNITS)
+COMPILE = compile() { \
+    file=build/units/$$1.o && $(CC) -std=c11 $(CPPFLAGS) $(CFLAGS) $$2 -fPIC -ffunction-sections -DTRAC_EXPORT \
+        -DTRAC_UNIT=$$1 -c -o $$file.$$$$ hosts/c/trac_engine.c && sync $$file.$$$$ && \
+    mv -f $$file.$$$$ $$file; }
+WAIT = for process in $$started; do wait $$process || exit; done
+# In trac_check one function has ten thousand lines, which gcc compiles in half the time by -O1, and no worse.
+CHECK_CFLAGS = -O1
+# The shared library is another wherever trac_abi refuses a program: where the version differs but for the patch.
+ABI != cut -d . -f 1,2 VERSION
+SHARED = build/libtrac.so.$(ABI)
 
 all: build/trac build/trac_terminal
 
+# About how long each takes on four cores, where nothing is built or proved yet.
 help:
 	@sed -n 's/^## //p' Makefile
 
-## make            the programs in C, build/trac and build/trac_terminal: any C compiler, some seconds
-build/trac: hosts/c/trac.c hosts/c/words.h build/TRAC_WITHOUT_CHECK.o
-	$(CC) -std=c11 $(CFLAGS) -o $@ hosts/c/trac.c build/TRAC_WITHOUT_CHECK.o
+## make            the programs in C, build/trac and build/trac_terminal (a C compiler; 5 seconds)
+build/trac: hosts/c/trac.c hosts/c/words.h $(RUN_UNITS)
+	$(CC) -std=c11 $(CPPFLAGS) $(CFLAGS) $(LDFLAGS) -o $(NEW) hosts/c/trac.c $(RUN_UNITS) && $(DONE)
 
-build/trac_terminal: $(TERMINAL) hosts/c/terminal.h hosts/c/words.h build/libtrac.a
-	$(CC) -std=c11 $(CFLAGS) -o $@ $(TERMINAL) build/libtrac.a $(EDITING) 2>/dev/null || \
-	    $(CC) -std=c11 $(CFLAGS) -o $@ $(TERMINAL) build/libtrac.a
+build/trac_terminal: $(TERMINAL) hosts/c/terminal.h hosts/c/words.h $(UNITS)
+	{ $(CC) -std=c11 $(CPPFLAGS) $(CFLAGS) $(LDFLAGS) -o $(NEW) $(TERMINAL) $(UNITS) $(EDITING) 2>/dev/null || \
+	    $(CC) -std=c11 $(CPPFLAGS) $(CFLAGS) $(LDFLAGS) -o $(NEW) $(TERMINAL) $(UNITS); } && $(DONE)
 
-## make prove      the proved program, crates/trac_cli/out/trac_cli: proves all that it stands on
+## make prove      the proved program, crates/trac_cli/out/trac_cli (the Rattle kit; 12 minutes)
 prove: crates/trac_cli/out/trac_cli
 
 crates/trac_cli/out/trac_cli crates/trac_trace/out/trac_trace: $(SOURCES)
@@ -45,16 +71,16 @@ crates/trac_cli/out/trac_cli crates/trac_trace/out/trac_trace: $(SOURCES)
 
 programs: prove crates/trac_trace/out/trac_trace
 
-## make check      all that needs no kit, over the programs in C
-check: check-tools all build/libtrac.so.0
-	$(PYTEST) checks --ignore checks/proved --ignore checks/machines
+## make check      all that needs no kit, over the programs in C (Debian's packages, which it installs; 5 minutes)
+check: check-tools all build/libtrac.a $(SHARED) page npm
+	$(PYTEST) -m 'not timed' checks --ignore checks/proved --ignore checks/machines
 
-## make check-machines  the engine in C on a Cortex-M3, aarch64, arm and s390x, each emulated
+## make check-machines  the engine in C on a Cortex-M3, aarch64, arm and s390x (emulators, which it installs; minutes)
 check-machines: check-tools
 	@checks/tools machines
 	$(PYTEST) checks/machines
 
-## make test       the gate: make check, all proofs, tests and edits, and the checks of what is proved
+## make test       the gate: all checks, proofs, tests and edits (the kit, Debian's packages; 45 minutes)
 test:
 	@checks/gate check check-machines proofs check-proved check-timed
 
@@ -65,20 +91,21 @@ proofs:
 	    trap 'exit 130' HUP INT TERM && status=0 && \
 	    if [ ! -d crates/trac_c/out ]; then \
 	        tar -cf - --exclude=.git --exclude=out --exclude=./build --exclude=./dist . | tar -xf - -C "$$copy" && \
-	        { setsid nice -n 19 make -C "$$copy" dist/libtrac.a dist/trac.wasm >"$$copy/said" 2>&1 & }; \
+	        { setsid nice -n 19 make -C "$$copy" libraries >"$$copy/said" 2>&1 & }; \
 	    fi; \
 	    $(RT) . rt ci || status=$$?; [ ! -f "$$copy/said" ] || tail -n +1 -f --pid="$$!" "$$copy/said"; \
-	    [ ! -f "$$copy/dist/trac.wasm" ] || { rm -rf crates/*/out/rlib && \
+	    [ ! -f "$$copy/dist/libtrac.a" ] || { rm -rf crates/*/out/rlib && \
 	        (cd "$$copy" && tar -cf - build dist crates/*/out/rlib crates/trac_c/out) | tar -xf -; }; exit "$$status"
 
 check-proved: check-tools programs dist
-	$(PYTEST) -m 'not timed' checks/proved
+	$(PYTEST) checks/proved
 	$(PYTHON) bench/bench.py --smoke
 
-check-timed: check-tools dist
-	$(PYTEST) -n 0 -m timed checks/proved
+# What measures time runs by itself.
+check-timed: check-tools page
+	$(PYTEST) -n 0 -m timed checks/test_page*.py
 
-## make edits      the edits that the gate leaves out; CRATES='trac_space ..' names some
+## make edits      the edits that the gate leaves out; CRATES='trac_space ..' names some (the kit; not timed)
 edits:
 	@copy=$$(mktemp -d) && trap 'rm -rf "$$copy"' EXIT && \
 	    cp -a crates crates.txt HANDLES "$$copy" && rm -f "$$copy"/crates/*/must-fail/*.edit && \
@@ -87,19 +114,33 @@ edits:
 	        cp further-edits/$$crate/*.edit "$$copy/crates/$$crate/must-fail" || exit; \
 	    done && cd "$$copy" && printf '%s\n' $(CRATES) | xargs -n 1 -P "$$(nproc)" rt must-fail
 
-## make generate   the engine as C, hosts/c/trac_engine.c, anew from the proved library
+## make generate   hosts/c/trac_engine.c and hosts/wasm/trac.wasm anew (the kit, Python, binaryen, wabt; 15 minutes)
 generate:
 	hosts/c/generate
 
-## make dist       what is handed out, in dist/: programs, libraries, the page, the manual
-dist: programs all build/libtrac.so.0 dist/libtrac.a dist/trac.html dist/npm/package.json \
-    dist/trac_t64-$(VERSION).tar.gz dist/trac.pdf
-	cp -p crates/trac_trace/out/trac_trace build/trac_terminal dist
-	cp -p crates/trac_cli/out/trac_cli dist/trac
-	cp docs/*.[0-9] hosts/c/trac.h hosts/c/trac.c hosts/c/words.h hosts/c/trac_engine.c dist
+## make rust       the crate for Rust, hosts/rust, anew from the sources of the crates (Python; a second)
+rust:
+	hosts/rust/generate
+
+# What the kit makes of dist/, where the kit is.
+PROVED != ! command -v rt >/dev/null || echo programs dist/libtrac.a
+
+## make dist       what is handed out, in dist/, of which the kit makes what is proved (what make check needs; 25 minutes)
+dist: $(PROVED) all build/libtrac.a $(SHARED) page npm dist/trac_t64-$(VERSION).tar.gz dist/trac.pdf
+	rm -rf dist/trac dist/trac_trace dist/doc dist/npm
+	cp docs/*.[0-9] hosts/c/trac.h hosts/c/trac.c hosts/c/words.h hosts/c/trac_engine.c build/trac.html dist
+	cp -p build/trac_terminal dist && cp -R build/npm dist
+	@if [ -n "$(PROVED)" ]; then \
+	    cp -p crates/trac_trace/out/trac_trace dist && cp -p crates/trac_cli/out/trac_cli dist/trac; \
+	else \
+	    rm -f dist/libtrac.a dist/trac_trace.1 && \
+	    echo 'dist: trac, trac_trace and libtrac.a are missing: they are proved and built by the Rattle kit' >&2; \
+	fi
 	@stage=$$(mktemp -d) && trap 'rm -rf "$$stage"' EXIT && hosts/system/stage "$$stage/all" /usr/local lib && \
-	    rm -rf dist/doc && cp -R "$$stage/all/share/doc/trac-t64" dist/doc
-	sed 's/@VERSION@/$(VERSION)/' hosts/system/README.in >dist/README
+	    cp -R "$$stage/all/share/doc/trac-t64" dist/doc
+	@# The lines of a file that is missing are left out.
+	sed 's/@VERSION@/$(VERSION)/' hosts/system/README.in | awk '/^[a-z]/ { name = $$1; sub(",", "", name); \
+	    missing = system("test -e dist/" name) } !missing' >dist/README
 
 # The proved library: its exports are hidden behind the functions of trac.h.
 dist/libtrac.a: $(SOURCES) hosts/c/proved.c hosts/c/api.c hosts/c/trac.h
@@ -108,66 +149,82 @@ dist/libtrac.a: $(SOURCES) hosts/c/proved.c hosts/c/api.c hosts/c/trac.h
 	$(CC) -std=c11 $(CFLAGS) -fPIC -c -o build/proved.o hosts/c/proved.c
 	ld -r -o build/libtrac.o build/proved.o --whole-archive crates/trac_c/out/libtrac_c.a
 	objcopy -w --keep-global-symbol='trac_[!e]*' build/libtrac.o
-	rm -f $@ && ar rcs $@ build/libtrac.o
+	rm -f $(NEW) && ar rcs $(NEW) build/libtrac.o && $(DONE)
 
-dist/trac.wasm: $(SOURCES)
-	mkdir -p build dist
+# The same library as it is for browsers, which hosts/c/generate takes.
+libraries: dist/libtrac.a
 	@$(RT) trac_c rt lib --target wasm64-unknown-unknown
-	kit=$$(dirname "$$(rt doc)") && "$$kit/bin/rattle-link" --target wasm64-unknown-unknown \
-	    --toolchain "$$kit/toolchain" --stack 65536 -o build/trac64.wasm crates/trac_c/out/libtrac_c.a
-	wasm-opt --enable-memory64 --enable-bulk-memory --memory64-lowering -O2 build/trac64.wasm -o $@
 
-dist/trac.mjs: hosts/js/trac.mjs VERSION
-	mkdir -p dist
-	sed 's/@VERSION@/$(VERSION)/' hosts/js/trac.mjs >$@
+## make page       build/trac.html, which steps through a script in any browser (any Python; a second)
+page: build/trac.html
 
-# The package for npm.
-dist/npm/package.json: dist/trac.wasm dist/trac.mjs hosts/js/package.json hosts/js/README.md hosts/js/trac.d.mts
-	mkdir -p dist/npm
-	cp dist/trac.wasm dist/trac.mjs hosts/js/README.md hosts/js/trac.d.mts dist/npm
-	sed 's/"version": "[^"]*"/"version": "$(VERSION)"/' hosts/js/package.json >$@
+build/trac.html: hosts/wasm/trac.wasm $(PAGE) VERSION
+	mkdir -p build
+	$(PYTHON) hosts/page/make.py hosts/wasm/trac.wasm $(VERSION) $(NEW) && $(DONE)
+
+## make npm        build/npm, the package for JavaScript in browsers and Node (a shell; a second)
+npm: build/npm/package.json
+
+build/npm/package.json: hosts/wasm/trac.wasm hosts/js/*.* VERSION
+	mkdir -p build/npm
+	cp hosts/wasm/trac.wasm hosts/js/README.md hosts/js/trac.d.mts build/npm
+	sed 's/@VERSION@/$(VERSION)/' hosts/js/trac.mjs >build/npm/trac.mjs
+	sed 's/"version": "[^"]*"/"version": "$(VERSION)"/' hosts/js/package.json >$(NEW) && $(DONE)
 
 # The package for Python, as an archive from which pip builds it.
 dist/trac_t64-$(VERSION).tar.gz: hosts/c/trac.h hosts/c/trac_engine.c hosts/python/*.* hosts/python/trac_t64/*.*
 	mkdir -p build dist
-	top=$$(pwd) && cd hosts/python && \
-	    $(PYTHON) setup.py -q egg_info --egg-base "$$top/build" sdist --dist-dir "$$top/build/python"
-	mv build/python/trac?t64-$(VERSION).tar.gz $@
+	top=$$(pwd) && cd hosts/python && $(PYTHON) setup.py -q egg_info --egg-base "$$top/build" \
+	    sdist --formats=tar --dist-dir "$$top/build/python"
+	rm -rf build/python/*/ && cd build/python && tar -xf trac?t64-$(VERSION).tar && \
+	    tar --sort=name --mtime=@$(TIME) --owner=0 --group=0 --numeric-owner --mode=u=rwX,go=rX -cf archive */
+	gzip -9n <build/python/archive >$(NEW) && $(DONE)
 
 # The language on one page, to print.
 dist/trac.pdf: docs/trac.7
 	mkdir -p dist
-	groff -t -man -T pdf -dpaper=a4 -P-pa4 docs/trac.7 >$@ || { rm -f $@ && exit 1; }
+	groff -t -man -T pdf -dpaper=a4 -P-pa4 docs/trac.7 >$(NEW) && $(DONE)
 
-## make types      the types of the module for JavaScript, hosts/js/trac.d.mts, anew from its comments
+## make types      the types of the module for JavaScript, from its comments (TypeScript's tsc; 4 seconds)
 types:
 	tsc -p hosts/js
 	sed -i '1i // Generated from trac.mjs by `make types`, and never edited.' hosts/js/trac.d.mts
 
-dist/trac.html: dist/trac.wasm $(PAGE) VERSION
-	$(PYTHON) hosts/page/make.py dist/trac.wasm $(VERSION) $@
+$(RUN_UNITS): hosts/c/trac_engine.c hosts/c/trac.h
+	mkdir -p build/units
+	$(COMPILE); for unit in 1 2 3 4; do compile $$unit & started="$$started $$!"; done; $(WAIT)
 
-$(OBJECTS): hosts/c/trac_engine.c hosts/c/trac.h
-	mkdir -p build
-	$(CC) -std=c11 $(CFLAGS) -fPIC -ffunction-sections -D$(@F:.o=) -c -o $@ hosts/c/trac_engine.c
+$(CHECK_UNITS): hosts/c/trac_engine.c hosts/c/trac.h
+	mkdir -p build/units
+	$(COMPILE); for unit in 5 6; do compile $$unit "$(CHECK_CFLAGS)" & started="$$started $$!"; done; $(WAIT)
 
-build/libtrac.a: $(OBJECTS)
-	rm -f $@ && ar rcs $@ $(OBJECTS)
+# One object, in which what the units share is nobody else's any more.
+build/libtrac.a: $(UNITS)
+	$(CC) -r -nostdlib -o build/units/libtrac.o $(UNITS)
+	! command -v objcopy >/dev/null || objcopy --localize-hidden build/units/libtrac.o
+	rm -f $(NEW) && ar rcs $(NEW) build/units/libtrac.o && $(DONE)
 
-build/libtrac.so.0: build/libtrac.a
-	$(CC) -shared -Wl,-soname,libtrac.so.0 -o $@ $(OBJECTS)
+$(SHARED): $(UNITS)
+	$(CC) $(LDFLAGS) -shared -Wl,-soname,$(@F) -o $(NEW) $(UNITS) && $(DONE)
 
-## make install    puts what is built below PREFIX (~/.local); make uninstall takes it away again
-install: all build/libtrac.so.0
+## make install    puts what is built below PREFIX, ~/.local (a C compiler; 10 seconds); make uninstall undoes it
+install: needs-prefix all build/libtrac.a $(SHARED)
 	@stage=$$(mktemp -d) && trap 'rm -rf "$$stage"' EXIT && chmod 755 "$$stage" && \
-	    hosts/system/stage "$$stage/all" "$(PREFIX)" "$(LIBDIR)" && \
-	    hosts/system/install "$$stage/all" "$(DESTDIR)$(PREFIX)"
+	    hosts/system/stage "$$stage/all" "$$TRAC_PREFIX" "$(LIBDIR)" && \
+	    hosts/system/install "$$stage/all" "$$TRAC_TO"
 
-uninstall:
-	@hosts/system/install --undo "$(DESTDIR)$(PREFIX)"
+uninstall: needs-prefix
+	@hosts/system/install --undo "$$TRAC_TO"
 
-## make package    Debian packages of it, in dist/
-package: all build/libtrac.so.0
+needs-prefix:
+	@case $$TRAC_PREFIX in \
+	    /.local) [ -n "$$HOME" ] || { echo 'install: HOME is empty, so give PREFIX' >&2; exit 1; } ;; \
+	    /*) ;; \
+	    *) echo "install: PREFIX is to begin with /, and is '$$TRAC_PREFIX'" >&2; exit 1 ;; \
+	    esac
+
+## make package    Debian packages, in dist/ (a C compiler, dpkg-dev, binutils; 10 seconds)
+package: all build/libtrac.a $(SHARED)
 	@stage=$$(mktemp -d) && trap 'rm -rf "$$stage"' EXIT && \
 	    lib=lib/$$(dpkg-architecture -qDEB_HOST_MULTIARCH 2>/dev/null || $(CC) -print-multiarch) && \
 	    hosts/system/stage "$$stage/all" /usr "$$lib" && hosts/system/package "$$stage/all" "$$lib"
@@ -180,5 +237,5 @@ clean:
 check-tools:
 	@checks/tools
 
-.PHONY: all help prove programs check check-machines test proofs check-proved check-timed edits generate types dist \
-    install uninstall package clean check-tools
+.PHONY: all help prove programs check check-machines test proofs check-proved check-timed edits generate rust types \
+    dist libraries page npm install uninstall needs-prefix package clean check-tools

@@ -107,6 +107,110 @@ static int checks(void) {
                TRAC_REFUSED;
 }
 
+/* Whether a form that was found is still there by its place. */
+static int is_found(const trac_form *form) {
+    char name[4];
+    return trac_form_name(form, name, sizeof name) || trac_form_text(form, name, sizeof name) ||
+           trac_form_codes(form, NULL, 0) || trac_form_pointer(form);
+}
+
+/* Whether a place in the list of forms is none any more after a turn, again, a move and another opening over the same
+ * words, in the same block or in another one, whose forms are the same. */
+static int places(void) {
+    static const char script[] = "#(ds,a,b)#(ds,c,d)'";
+    trac_cell *cells = (trac_cell *)buffer(64 * sizeof *cells);
+    trac_machine machine = TRAC_NO_MACHINE;
+    for (int way = 0; way < 5; way++) {
+        trac_form form, behind;
+        form = behind = TRAC_NO_FORM;
+        if (trac_open(&machine, cells, 64, 99) ||
+            trac_turn(&machine, script, sizeof script - 1, 1, NULL, 0, 99).fate != TRAC_INPUT_ENDED ||
+            !trac_next_form(&machine, &form) || !is_found(&form))
+            return 1;
+        while (trac_next_form(&machine, &behind))
+            ;
+        trac_cell *const other = (trac_cell *)buffer(64 * sizeof *cells);
+        if (way == 0 && trac_turn(&machine, NULL, 0, 1, NULL, 0, 0).fate != TRAC_GOING)
+            return 2;
+        if (way == 1 && trac_again(&machine, 99))
+            return 3;
+        if (way == 2 && trac_open(&machine, cells, 64, 99))
+            return 4;
+        if (way >= 3) {
+            memcpy(other, cells, 64 * sizeof *cells);
+            free(cells);
+            cells = other;
+            if (way == 3 ? trac_moved(&machine, cells) : trac_open(&machine, cells, 64, 99))
+                return 5;
+        } else {
+            free(other);
+        }
+        if (way != 3 && trac_turn(&machine, script, sizeof script - 1, 1, NULL, 0, 99).fate == TRAC_REFUSED)
+            return 6;
+        if (is_found(&form) || trac_next_form(&machine, &form) || is_found(&behind))
+            return 7;
+    }
+    free(cells);
+    return 0;
+}
+
+/* Whether a machine goes on where it was when it and its block were moved, together and alone, at each step. */
+static int moves(void) {
+    static const char script[] = "#(ds,A,(x#(ps,-y)z))#(ss,A,y)#(cl,A,1)#(cl,A,2)#(ps,##(cc,A)#(ad,41,1))'";
+    char wanted[64], printed[64];
+    trac_cell cells[96];
+    const trac_report whole = trac_run(cells, 96, 999, script, sizeof script - 1, wanted, sizeof wanted);
+    trac_cell *block = (trac_cell *)buffer(96 * sizeof *block);
+    trac_machine *machine = (trac_machine *)buffer(sizeof *machine);
+    size_t at = 0, written = 0;
+    trac_report report = {0, 0, 0, 0, 0, 0};
+    if (whole.fate != TRAC_INPUT_ENDED || trac_open(machine, block, 96, 999))
+        return 1;
+    for (int step = 0; report.fate == TRAC_GOING; step++) {
+        report = trac_turn(machine, script + at, sizeof script - 1 - at, 1, printed + written, sizeof printed - written,
+                           1);
+        at += report.consumed;
+        written += report.written;
+        trac_cell *const to = (trac_cell *)buffer(96 * sizeof *to);
+        trac_machine *const there = (trac_machine *)buffer(sizeof *there);
+        memcpy(to, block, 96 * sizeof *to);
+        memset(block, 0xA5, 96 * sizeof *block);
+        memcpy(there, machine, sizeof *there);
+        free(block);
+        free(machine);
+        block = to;
+        machine = there;
+        if (trac_moved(machine, block))
+            return 2;
+    }
+    const int is_same = report.fate == whole.fate && report.steps == whole.steps && report.peak == whole.peak &&
+                        written == whole.written && memcmp(printed, wanted, written) == 0;
+    trac_cell *const crooked = (trac_cell *)(void *)((char *)block + 1);
+    const int is_kept = trac_moved(NULL, block) == TRAC_REFUSED && trac_moved(machine, NULL) == TRAC_REFUSED &&
+                        trac_moved(machine, crooked) == TRAC_REFUSED && trac_form_count(machine) == 1;
+    free(block);
+    free(machine);
+    return is_same && is_kept ? 0 : 3;
+}
+
+/* Whether an opening that is refused leaves a machine as it was. */
+static int refusals(void) {
+    trac_cell cells[64], others[64];
+    trac_machine machine = TRAC_NO_MACHINE;
+    memset(others, 0xA5, sizeof others);
+    if (trac_open(&machine, cells, 64, 99) || trac_turn(&machine, "#(ds,a,b)'", 10, 1, NULL, 0, 99).fate != 2)
+        return 1;
+    const trac_machine before = machine;
+    if (trac_open(&machine, others, TRAC_MOST_CELLS + 1, 9) != TRAC_REFUSED ||
+        trac_open(&machine, NULL, 64, 9) != TRAC_REFUSED ||
+        trac_open(&machine, (trac_cell *)(void *)((char *)others + 1), 8, 9) != TRAC_REFUSED)
+        return 2;
+    for (size_t i = 0; i < sizeof others; i++)
+        if (((const unsigned char *)others)[i] != 0xA5)
+            return 3;
+    return memcmp(&before, &machine, sizeof machine) || trac_form_count(&machine) != 1;
+}
+
 static int pointers(void) {
     trac_cell cells[64];
     uint8_t byte[4] = {'a', 'b', 'c', '\''};
@@ -155,6 +259,8 @@ static int pointers(void) {
         return 9;
     if (checks())
         return 10;
+    if (places() || moves() || refusals())
+        return 11;
     return sizeof cells != 512 || !trac_abi(TRAC_VERSION_NUMBER, sizeof machine, sizeof(trac_report)) ||
            trac_abi(TRAC_VERSION_NUMBER + 1000, sizeof machine, sizeof(trac_report)) ||
            trac_abi(TRAC_VERSION_NUMBER, sizeof form - 1, sizeof(trac_report)) ||

@@ -8,6 +8,10 @@ import pytest
 import python_package
 
 
+def pytest_configure(config):
+    config.addinivalue_line('markers', 'timed: measures time, and so runs by itself')
+
+
 def pytest_terminal_summary(terminalreporter):
     stats = terminalreporter.stats
     terminalreporter.passed_and_failed = (

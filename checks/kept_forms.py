@@ -53,6 +53,14 @@ def kept_by(found, script, cells=CELLS):
     return forms, found.trac_meta(machine)
 
 
+def sum_of(saved):
+    """The checksum of a saved session, FNV-1a with 64 bits over all bytes but for the digits that say it."""
+    total = 0xcbf29ce484222325
+    for byte in saved[:-20] + saved[-4:]:
+        total = (total ^ byte) * 0x100000001b3 % 2**64
+    return f'{total:016x}'
+
+
 def typed(text):
     """Calls that read so many bytes one by one, and the bytes."""
     return '##(rc)' * len(text), text

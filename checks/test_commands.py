@@ -24,6 +24,8 @@ NOT_RUN = {
     'make edits CRATES=trac_core': KIT,
     'LENGTH=7 /usr/bin/python3 -m pytest checks/proved/test_engines.py -k short': KIT,
     '/usr/bin/python3 -m pytest -q checks/test_python*.py': 'takes minutes',
+    '/usr/bin/python3 -m pytest -q checks/test_page*.py': 'takes minutes',
+    '/usr/bin/python3 -m pytest -q checks/test_npm.py checks/test_module.py': 'make check runs these',
     'jupyter nbconvert --execute --inplace --ExecutePreprocessor.record_timing=False examples/lesson.ipynb':
         'needs the kernel installed; test_python_kernel.py runs the notebook',
     'cc -ffreestanding -nostdlib -Ihosts/c program.c hosts/c/trac_engine.c -lgcc':
@@ -36,7 +38,7 @@ GIVEN = {'script.trac': "#(ps,hello)'", 'yours.trac': "#(ds,A,(#(ps,(To NAME, an
 FENCE = re.compile(r'^ *```(\S*)\n(.*?)^ *```$', re.MULTILINE | re.DOTALL)
 INDENTED = re.compile(r'(?:^|\n)\n((?:    \S.*\n)(?:    .*\n|\n(?=    ))*)')
 TABLE = re.compile(r'^\| To \| Command \|\n\|---\|---\|\n((?:\|.*\n)+)', re.MULTILINE)
-NAMED = re.compile(r'`([\w./]+\.(?:c|py))`[^`]*:\n+\Z')
+NAMED = re.compile(r'`([\w./]+\.(?:c|py|mjs))`[^`]*:\n+\Z')
 
 
 class Block:
@@ -56,7 +58,7 @@ def of_fence(text, fence):
     kind, inner = fence.groups()
     named = NAMED.search(text[:fence.start()])
     if kind != 'sh':
-        return (named[1], inner) if named and kind in ('c', 'python') else None
+        return (named[1], inner) if named and kind in ('c', 'python', 'js') else None
     block = Block(inner)
     shown = re.match(r'\n+```output\n(.*?)^```$', text[fence.end():], re.MULTILINE | re.DOTALL)
     if shown:

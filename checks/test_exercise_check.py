@@ -27,6 +27,56 @@ WRONG = [
      "got:\n1 first come,\n2 first served\nfirst difference: line 1\n"),
 ]
 
+# Scripts that print what is to be printed, but not in the way that is asked for, and what is then said of them.
+NEEDS_PS, NEEDS_CL, CONSTANT = [f'it prints the right text, but {what}\n' for what in (
+    'also without its calls of ps', 'also without its calls of cl', 'it holds all of that text')]
+TOASTS = ''.join(f'To {name}, and long may they live!\n' for name in ('Ada', 'Grace', 'the typists'))
+FIZZES = '1 2 Fizz 4 Buzz Fizz 7 8 Fizz Buzz 11 Fizz 13 14 FizzBuzz'
+CONSTANTS = [
+    (1, "(Hello, world!)'", NEEDS_PS),
+    (3, "#(ps,(#(ps,hello) prints hello))'",
+     'with the second of these for each of the first:\n#(ps,hello)\n#(ps,#(ad,20,22))\n'
+     'expected:\n#(ps,#(ad,20,22)) prints 42\ngot:\n#(ps,#(ad,20,22)) prints hello\nfirst difference: line 1\n'),
+    (5, f"#(ps,({TOASTS}))'", NEEDS_CL),
+    (5, f"#(ds,A,({TOASTS}))#(ps,##(cl,A))'", CONSTANT),
+    (6, "#(ps,(Ada is 28 years old.\nCharles is 52 years old.\n))'",
+     'with the second of these for each of the first:\n1843\n1853\n'
+     'expected:\nAda is 38 years old.\nCharles is 62 years old.\n'
+     'got:\nAda is 28 years old.\nCharles is 52 years old.\nfirst difference: line 1\n'),
+    (6, "#(ps,(Ada is )#(su,1843,1815)( years old.\nCharles is )#(su,1843,1791)( years old.\n))'", NEEDS_CL),
+    (7, "#(ds,put,x)#(ds,ask,(tea: 14\ncake: 30\ngin: none))#(ps,##(cl,ask))'", CONSTANT),
+    (8, "#(ps,(12 squared is )#(ml,12,12))'", NEEDS_CL),
+    (8, "#(ps,(12 squared is 144))'",
+     'with the second of these for each of the first:\n12\n13\nexpected:\n13 squared is 169\n'
+     'got:\n13 squared is 144\nfirst difference: line 1\n'),
+    (9, "7 7 8'", 'with the second of these for each of the first:\n-4\n-41\nexpected:\n7 7 45\ngot:\n7 7 8\n'
+     'first difference: line 1\n'),
+    (9, "#(ds,A,7)#(cl,A) #(cl,A) #(su,4,-4)'",
+     'with the second of these for each of the first:\n10\n20\nexpected:\n17 17 8\ngot:\n7 7 8\n'
+     'first difference: line 1\n'),
+    (9, "#(su,10,3) #(su,10,3) #(su,4,-4)'", NEEDS_CL),
+    (10, "1 2 3 4 5 6 7 8 9 10'", NEEDS_CL),
+    (10, "#(ds,A,(1 2 3 4 5 6 7 8 9 10))#(cl,A)'", CONSTANT),
+    (11, "55 5050'", 'with the second of these for each of the first:\n100\n200\nexpected:\n55 20100\n'
+     'got:\n55 5050\nfirst difference: line 1\n'),
+    (11, "55 #(dv,#(ml,100,#(ad,100,1)),2)'", NEEDS_CL),
+    (12, f"{FIZZES}'", NEEDS_CL),
+    (12, f"#(ds,A,({FIZZES}))#(cl,A)'", CONSTANT),
+]
+# Scripts that are right, and look otherwise than the solutions.
+RIGHT = [
+    (1, "#(ds,G,(Hello, world!))#(PS,##(cl,G))'"),
+    (3, "#(ds,C,(#(ps,hello)))#(ps,##(cl,C)( prints ))#(cl,C)'"),
+    (5, "#(ds,A,(#(ps,(To X, and long may they live!\n))))#(ss,A,X)#(CL,A,Ada)#(cl,A,Grace)#(cl,A,the typists)#(hl)'"),
+    (9, "#(ds,d,(#(ps,#(gr,A,B,(#(su,A,B)),(#(su,B,A))))))#(ss,d,A,B)\n"
+     "#(cl,d,3,10)#(ps, )#(cl,d,10,3)#(ps, )#(cl,d,-4,4)#(hl)'\n"),
+    (11, "#(ds,s,(#(gr,N,0,(#(ad,N,#(cl,s,#(su,N,1)))),0)))#(ss,s,N)#(ps,#(cl,s,10) #(cl,s,100))"),
+    # which has a word of its own for a multiple of both
+    (12, "#(ds,m,(#(eq,#(ml,BY,#(dv,N,BY)),N,SAY,(OR))))#(ss,m,BY,N,SAY,OR)"
+     "#(ds,w,(#(cl,m,15,N,FizzBuzz,(#(cl,m,3,N,Fizz,(#(cl,m,5,N,Buzz,N)))))))#(ss,w,N)"
+     "#(ds,c,(#(cl,w,N)#(gr,15,N,(( )#(cl,c,#(ad,N,1))))))#(ss,c,N)#(cl,c,1)'"),
+]
+
 
 def check(*words, **more):
     """What is printed, what is said on standard error, and the status."""
@@ -73,6 +123,31 @@ class Check(unittest.TestCase):
         for number, script, wanted in WRONG:
             with self.subTest(number=number):
                 self.assertEqual(check(number, self.write(script)), (wanted, '', 1))
+
+    def test_what_prints_the_same_in_another_way_is_wrong(self):
+        for number, script, wanted in CONSTANTS:
+            with self.subTest(number=number):
+                self.assertEqual(check(number, self.write(script)), (wanted, '', 1))
+
+    def test_other_scripts_that_are_right(self):
+        for number, script in RIGHT:
+            with self.subTest(number=number):
+                self.assertEqual(check(number, self.write(script)), ('right\n', '', 0))
+
+    def test_few_lines_and_characters_are_shown(self):
+        long = "#(ds,T,(" + 'xyz ' * 2500 + "))"
+        for script, bytes_shown in ((long + "#(ps,##(cl,T))'", 4000),
+                                    ('#(ps,(' + ('x' * 99 + '\n') * 60 + "))'", 4000),
+                                    ("#(ps,(" + 'x\n' * 60 + "))'", 80)):
+            output, lines, status = check(1, self.write(script))
+            shown, end = output.split('got:\n')[1].split(' ..\n')
+            self.assertEqual((len(shown), end, lines, status), (bytes_shown, 'first difference: line 1\n', '', 1))
+        endless = long + "#(ds,L,(#(ps,##(cl,T))#(cl,L)))#(cl,L)'"
+        for shell in ('dash', 'bash'):
+            output, lines, status = check(1, self.write(endless), shell=[shell], env={'TMPDIR': self.room})
+            self.assertEqual((lines, status), ('', 1))
+            self.assertIn(' ..\nit was stopped, since it printed 1000000 bytes\nit ended with status ', output)
+            self.assertLess(len(output), 4300)
 
     def test_a_script_that_prints_without_end_is_cut(self):
         output, _, status = check(1, self.write("#(ds,L,(#(ps,x)#(ps,(\n))#(cl,L)))#(cl,L)'"))

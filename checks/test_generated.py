@@ -1,5 +1,7 @@
-"""hosts/c/trac_engine.c was made from the sources that stand here, and says so in its head; an edit of them shows."""
+"""hosts/c/trac_engine.c and hosts/wasm/trac.wasm were made from the sources that stand here, and say so, the one in its
+head, the other in a file beside it; an edit of the sources shows, and so does another module."""
 import os
+import re
 import shutil
 import subprocess
 import tempfile
@@ -8,10 +10,24 @@ import unittest
 from trac import TOP, crates_of
 
 GENERATE = os.path.join('hosts', 'c', 'generate')
+ENGINE = os.path.join('hosts', 'c', 'trac_engine.c')
+MODULE = os.path.join('hosts', 'wasm', 'trac.wasm')
+IN_BOTH = ['crates/trac_language/specs/Lib.antt', 'crates/trac_core/src/machine/session.rt', 'crates.txt',
+           'crates/trac_c/src/lib.rt', 'hosts/c/generate']
+IN_THE_ENGINE = ['hosts/c/api.c', 'hosts/c/generator/wasm_to_c.py']
+IN_NEITHER = ['crates/trac_core/proofs/Lib.antt', 'hosts/c/trac.c', 'crates/trac_core/src/lib.rt~']
 
 
-def is_current(top):
-    return subprocess.run([os.path.join(top, GENERATE), '--is-current'], check=False).returncode == 0
+def generate(top, *words):
+    done = subprocess.run([os.path.join(top, GENERATE), *words], capture_output=True, text=True, check=False)
+    return done.returncode, done.stdout + done.stderr
+
+
+def are_current(top):
+    """Whether the engine is, and whether the module is."""
+    told = generate(top, '--is-current'), generate(top, '--is-current', 'module')
+    assert not [said for _, said in told if said], told
+    return tuple(status == 0 for status, _ in told)
 
 
 class Generated(unittest.TestCase):
@@ -19,39 +35,104 @@ class Generated(unittest.TestCase):
         self.top = tempfile.mkdtemp()
         self.addCleanup(shutil.rmtree, self.top)
         shutil.copy(os.path.join(TOP, 'crates.txt'), self.top)
-        shutil.copytree(os.path.join(TOP, 'hosts', 'c'), os.path.join(self.top, 'hosts', 'c'))
+        for host in ('c', 'wasm'):
+            shutil.copytree(os.path.join(TOP, 'hosts', host), os.path.join(self.top, 'hosts', host))
         for crate in crates_of('trac_c'):
             for part in ('src', 'specs', 'proofs'):
                 place = os.path.join('crates', crate, part)
                 if os.path.exists(os.path.join(TOP, place)):
                     shutil.copytree(os.path.join(TOP, place), os.path.join(self.top, place))
 
-    def test_it_is_of_these_sources(self):
-        self.assertTrue(is_current(TOP), 'make generate makes hosts/c/trac_engine.c anew')
+    def after_an_edit(self, name):
+        """What is current with another line in a file, which is then as it was."""
+        path = os.path.join(self.top, name)
+        with open(path, encoding='utf-8') as file:
+            text = file.read()
+        with open(path, 'w', encoding='utf-8') as file:
+            file.write(text.replace('trac_core:', 'trac_core: itoa') if name == 'crates.txt' else text + '\n')
+        found = are_current(self.top)
+        with open(path, 'w', encoding='utf-8') as file:
+            file.write(text)
+        self.assertEqual(are_current(self.top), (True, True))
+        return found
 
-    def test_what_it_is_made_of(self):
-        self.assertTrue(is_current(self.top))
-        for name in ('crates/trac_language/specs/Lib.antt', 'crates/trac_core/src/machine/session.rt', 'crates.txt',
-                     'crates/trac_c/src/lib.rt', 'hosts/c/api.c', 'hosts/c/generator/wasm_to_c.py'):
-            path = os.path.join(self.top, name)
-            with open(path, encoding='utf-8') as file:
-                text = file.read()
-            with self.subTest(name=name):
-                with open(path, 'w', encoding='utf-8') as file:
-                    file.write(text.replace('trac_core:', 'trac_core: itoa') if name == 'crates.txt' else text + '\n')
-                self.assertFalse(is_current(self.top))
-                with open(path, 'w', encoding='utf-8') as file:
-                    file.write(text)
-                self.assertTrue(is_current(self.top))
+    def test_they_are_of_these_sources(self):
+        self.assertEqual(are_current(TOP), (True, True), 'make generate makes them anew')
 
-    def test_what_it_is_not_made_of(self):
-        for name in ('crates/trac_core/proofs/Lib.antt', 'hosts/c/trac.c', 'crates/trac_core/src/lib.rt~'):
+    def test_what_they_are_made_of(self):
+        for names, wanted in ((IN_BOTH, (False, False)), (IN_THE_ENGINE, (False, True))):
+            for name in names:
+                with self.subTest(name=name):
+                    self.assertEqual(self.after_an_edit(name), wanted)
+
+    def test_what_they_are_not_made_of(self):
+        for name in IN_NEITHER:
             with open(os.path.join(self.top, name), 'a', encoding='utf-8') as file:
                 file.write('\n')
-        self.assertTrue(is_current(self.top))
+        self.assertEqual(are_current(self.top), (True, True))
 
-    def test_its_head_says_so(self):
-        with open(os.path.join(TOP, 'hosts', 'c', 'trac_engine.c'), encoding='utf-8') as file:
-            head = file.read(3000)
-        self.assertTrue(head.startswith('/* Generated by hosts/c/generate'))
-        self.assertIn(' * Crates: ' + ' '.join(crates_of('trac_c')) + '\n', head)
+    def test_another_module_shows(self):
+        with open(os.path.join(self.top, MODULE), 'r+b') as file:
+            file.seek(1000)
+            byte, = file.read(1)
+            file.seek(1000)
+            file.write(bytes([byte ^ 1]))
+        self.assertEqual(are_current(self.top), (True, False))
+        status, said = generate(self.top, '--check')
+        self.assertEqual((status, MODULE in said), (1, True), said)
+
+    def test_they_say_so(self):
+        crates = 'Crates: ' + ' '.join(crates_of('trac_c')) + '\n'
+        for name, begin, line in ((ENGINE, '/* Generated by hosts/c/generate', ' * ' + crates),
+                                  (MODULE + '.txt', 'Generated by hosts/c/generate', '\n' + crates)):
+            with self.subTest(name=name), open(os.path.join(TOP, name), encoding='utf-8') as file:
+                head = file.read(3000)
+                self.assertTrue(head.startswith(begin))
+                self.assertIn(line, head)
+
+    def test_the_module_has_no_names_for_debuggers(self):
+        with open(os.path.join(TOP, MODULE), 'rb') as file:
+            module = file.read()
+        sections = dict(custom_sections(module))
+        self.assertIn('producers', sections)
+        self.assertNotIn('name', sections)
+
+    def test_divisions_by_what_is_not_known_are_tested(self):
+        """What stands in the engine divides by constants that aren't 0, or by the functions that test the divisor."""
+        with open(os.path.join(TOP, ENGINE), encoding='utf-8') as file:
+            code = re.sub(r'/\*.*?\*/|"[^"\n]*"', '', file.read(), flags=re.DOTALL)
+        divisors = re.findall(r'[/%]=?\s*(\(?[\w.]+)', code)
+        self.assertGreater(len(divisors), 20)
+        for divisor in set(divisors):
+            if not re.fullmatch(r'[1-9]\d*(u|ull)?', divisor):
+                self.assertIn(divisor, ('b', '(i64', 'bytes', 'sizeof', 'UNIT'), divisor)
+        tested = re.findall(r'^\w.*(div64_s|rem32_u)\(u\d\d a, u\d\d b\) \{\n    if \((.*)\)\n        trap\(\);', code,
+                            re.MULTILINE)
+        self.assertEqual(tested, [('div64_s', 'b == 0 || (b == ~(u64)0 && a == (u64)1 << 63)'), ('rem32_u', 'b == 0')])
+
+
+def number(data, at):
+    """The number at a place, seven bits a byte, and where it ends."""
+    value = shift = 0
+    while True:
+        value |= (data[at] & 127) << shift
+        shift += 7
+        at += 1
+        if data[at - 1] < 128:
+            return value, at
+
+
+def custom_sections(module):
+    """The names of a module's custom sections, and their sizes."""
+    at = 8
+    while at < len(module):
+        kind = module[at]
+        size, begin = number(module, at + 1)
+        if kind == 0:
+            length, name = number(module, begin)
+            yield module[name:name + length].decode(), size
+        at = begin + size
+
+
+if __name__ == '__main__':
+    unittest.main()

@@ -3,7 +3,7 @@ is full or has one cell left, take as many times the instructions as they are lo
 import unittest
 from concurrent.futures import ThreadPoolExecutor
 
-from trac import PROGRAM, instructions, report, run
+from trac import IN_C, PROGRAM, instructions, report, run
 
 
 def nearly(n):
@@ -48,3 +48,9 @@ class FullBlocks(unittest.TestCase):
         output, lines, status = run(LOOP, '--steps', '10000')
         self.assertEqual((output, status), (b'', 3))
         self.assertEqual(lines, 'trac: allowance of 10000 steps used up\n')
+
+
+class Start(unittest.TestCase):
+    def test_the_program_in_c_starts_at_once_whatever_the_cells(self):
+        few, many = (instructions([IN_C, '--cells', str(cells)], b"#(ps,hello)'") for cells in (65536, 16777216))
+        self.assertLess(abs(many - few), 5000)

@@ -14,6 +14,7 @@ HELLO = b"#(ps,hello)'"
 SOURCE = os.path.join('crates', 'trac_core', 'src', 'lib.rt')
 PROVED = os.path.join('crates', 'trac_cli', 'out', 'trac_cli')
 BUILT = os.path.join('build', 'trac')
+UNITS = 4
 ENGINE = os.path.join('hosts', 'c', 'trac_engine.c')
 # A compiler that notes its words, and writes a program that tells who it is.
 COMPILER = """#!/bin/sh
@@ -28,7 +29,8 @@ NOBODY = 65534
 AS_NOBODY = {'user': NOBODY, 'group': NOBODY} if os.getuid() == 0 else {}
 # What stands on the path of a machine with a C compiler alone, beside the compiler.
 PLAIN = ['sh', 'cat', 'cp', 'cut', 'dirname', 'ls', 'mkdir', 'mv', 'printf', 'readlink', 'rm', 'sha256sum', 'sort',
-         'touch', 'as', 'ld', 'gcc', 'cc']
+         'touch']
+COMPILERS = (['as', 'ld', 'gcc', 'cc'], ['tcc'])
 
 
 def tracked():
@@ -46,7 +48,8 @@ class Launcher(unittest.TestCase):
         self.top, self.tools, self.calls = (os.path.join(self.folder, name) for name in ('top', 'tools', 'calls'))
         os.mkdir(self.tools)
         for name in tracked():
-            if name.startswith(('hosts/c/', 'crates')) or name in ('trac', 'trac_trace', 'trac_terminal'):
+            if name.startswith(('hosts/c/', 'crates')) or name in (
+                    'trac', 'trac_trace', 'trac_terminal', 'Makefile', 'VERSION', 'CHANGELOG.md'):
                 os.makedirs(os.path.dirname(os.path.join(self.top, name)), exist_ok=True)
                 shutil.copy2(os.path.join(TOP, name), os.path.join(self.top, name), follow_symlinks=False)
         self.tool('cc', COMPILER.format(calls=self.calls))
@@ -102,18 +105,60 @@ class Launcher(unittest.TestCase):
         output, lines = started.communicate(timeout=60)
         return output, lines, started.returncode
 
+    def test_a_stack_that_is_too_small_for_the_proved_program(self):
+        self.put(PROVED, 'echo proved')
+        launcher = os.path.join(self.top, 'trac')
+        for kilobytes, wanted in ((24, f'trac: the proved program needs 64 KiB of stack, and has 24; '
+                                       f'ulimit -s 64 gives it them\n'), (64, 'proved\n'), ('unlimited', 'proved\n')):
+            done = subprocess.run(['sh', '-c', f'ulimit -s {kilobytes} && exec "$0" --cells 18', launcher], text=True,
+                                  stdin=subprocess.DEVNULL, stdout=subprocess.PIPE, stderr=subprocess.STDOUT,
+                                  env=self.environment(), check=False, timeout=60)
+            self.assertEqual((done.stdout, done.returncode), (wanted, 0 if wanted == 'proved\n' else 70))
+
     def compiled(self):
-        """How often the compiler was called."""
+        """How often the program was built, each time with all its units."""
         if not os.path.exists(self.calls):
             return 0
         with open(self.calls, encoding='utf-8') as file:
-            return len(file.readlines())
+            lines = file.readlines()
+        count = sum('hosts/c/trac.c ' in line for line in lines)
+        self.assertEqual(len(lines), count * (UNITS + 1))
+        return count
+
+    def put_old_proved(self):
+        """A proved program that is older than the sources."""
+        self.put(PROVED, 'echo old')
+        self.date(PROVED, -10 ** 9)
 
     def test_it_builds_the_program_in_c_once(self):
         for _ in range(3):
             self.assertEqual(self.ran(), ('C: --cells 18\n', '', 3))
         self.assertEqual(self.compiled(), 1)
-        self.assertEqual(sorted(os.listdir(os.path.join(self.top, 'build'))), ['same', 'trac'])
+        self.assertEqual(sorted(os.listdir(os.path.join(self.top, 'build'))), ['trac', 'units'])
+        self.assertEqual(sorted(os.listdir(os.path.join(self.top, 'build', 'units'))),
+                         [f'{unit}.o' for unit in range(1, UNITS + 1)])
+
+    def test_an_empty_program_is_none(self):
+        """Lost power could leave one, which the shell would run as a script of no lines."""
+        self.ran()
+        os.truncate(os.path.join(self.top, BUILT), 0)
+        self.assertEqual(self.ran(), ('C: --cells 18\n', '', 3))
+        self.assertEqual(self.compiled(), 2)
+
+    def test_make_builds_nothing_again(self):
+        self.ran()
+        done = subprocess.run(['make', '-q', BUILT], cwd=self.top, capture_output=True, text=True, check=False)
+        self.assertEqual(done.returncode, 0, done.stdout + done.stderr)
+
+    def test_what_it_costs(self):
+        """It starts no other program than the one that it runs."""
+        self.ran()
+        log = os.path.join(self.folder, 'log')
+        subprocess.run(['strace', '-f', '-qq', '-e', 'trace=execve', '-o', log, os.path.join(self.top, 'trac')],
+                       stdin=subprocess.DEVNULL, capture_output=True, env=self.environment(), check=False)
+        with open(log, encoding='utf-8') as file:
+            started = re.findall(r'execve\("(.*?)"', file.read())
+        self.assertEqual(started, [os.path.join(self.top, 'trac'), os.path.join(self.top, BUILT)])
 
     def test_what_the_program_in_c_is_made_of(self):
         self.ran()
@@ -141,6 +186,7 @@ class Launcher(unittest.TestCase):
     def test_a_compiler_that_fails(self):
         self.tool('cc', '#!/bin/sh\necho why\nexit 1\n')
         self.assertEqual(self.ran(), ('', 'trac: the program in C could not be built: why\n', 70))
+        self.assertEqual(os.listdir(os.path.join(self.top, 'build', 'units')), [])
         self.assertFalse(os.path.exists(os.path.join(self.top, BUILT)))
 
     def test_a_line_at_a_terminal(self):
@@ -151,7 +197,7 @@ class Launcher(unittest.TestCase):
         self.assertEqual(started.wait(timeout=60), 3)
         os.close(writing)
         self.assertEqual(os.read(reading, 1000).decode(),
-                         'trac: building the program in C, once, in some ten seconds ..\r\n')
+                         'trac: building the program in C, once, in some four seconds ..\r\n')
         os.close(reading)
 
     def test_a_proved_program_that_is_newest(self):
@@ -166,6 +212,7 @@ class Launcher(unittest.TestCase):
         self.assertEqual(self.ran()[0], 'proved: --cells 18\n')
 
     def test_sources_that_changed(self):
+        self.put_old_proved()
         self.assertEqual(self.ran(), ('C: --cells 18\n', '', 3))
         self.date(SOURCE, 5)
         self.assertEqual(self.ran(), ('C: --cells 18\n', '', 3))
@@ -175,6 +222,7 @@ class Launcher(unittest.TestCase):
         self.assertEqual(self.compiled(), 1)
 
     def test_what_an_editor_leaves_is_no_source(self):
+        self.put_old_proved()
         self.ran()
         for name in ('lib.rt~', '.lib.rt.swp', '#lib.rt#', 'notes.orig'):
             self.put(os.path.join(os.path.dirname(SOURCE), name))
@@ -191,15 +239,29 @@ class Launcher(unittest.TestCase):
         self.tool('cc', COMPILER.format(calls=self.calls).replace('while', 'sleep 0.3\nwhile', 1))
         for process in [self.start(), self.start()]:
             self.assertEqual(process.communicate(timeout=60), ('C: --cells 18\n', ''))
-        self.assertEqual(sorted(os.listdir(os.path.join(self.top, 'build'))), ['same', 'trac'])
+        self.assertEqual(sorted(os.listdir(os.path.join(self.top, 'build'))), ['trac', 'units'])
 
     def test_a_user_who_may_not_write(self):
+        self.put_old_proved()
         self.ran()
         os.remove(os.path.join(self.top, 'build', 'same'))
+        self.keep_from_writing()
+        self.assertEqual(self.ran(**AS_NOBODY), ('C: --cells 18\n', '', 3))
+
+    def keep_from_writing(self):
         for folder, _, _ in os.walk(self.top):
             os.chmod(folder, 0o555)
         self.addCleanup(subprocess.run, ['chmod', '-R', 'u+w', self.top], check=True)
-        self.assertEqual(self.ran(**AS_NOBODY), ('C: --cells 18\n', '', 3))
+
+    def test_nothing_is_built_where_nobody_may_write(self):
+        os.makedirs(os.path.join(self.top, 'build', 'units'))
+        self.keep_from_writing()
+        for name in ('trac', 'trac_terminal'):
+            output, lines, status = self.ran(name, **AS_NOBODY)
+            self.assertEqual((output, status), ('', 70))
+            self.assertEqual(lines, f'{name}: it is built once, in {self.top}/build, where you may not write; let one '
+                                    'who may run it first, or copy the folder\n')
+        self.assertEqual(self.compiled(), 0)
 
     def test_the_program_that_shows_steps(self):
         program = os.path.join('crates', 'trac_trace', 'out', 'trac_trace')
@@ -234,12 +296,17 @@ chmod +x '{self.top}/{program}'
 
 class Clone(unittest.TestCase):
     def test_hello_with_a_c_compiler_alone(self):
-        """What a clone says first, with the compiler, the shell and the plainest tools on the path: no kit, no make,
+        """What a clone says first, with a compiler, the shell and the plainest tools on the path: no kit, no make,
         no Python."""
+        for compilers in COMPILERS:
+            with self.subTest(compilers=compilers):
+                self.say_hello(PLAIN + compilers)
+
+    def say_hello(self, plain):
         with tempfile.TemporaryDirectory() as folder:
             tools, top = os.path.join(folder, 'tools'), os.path.join(folder, 'top')
             os.mkdir(tools)
-            for name in PLAIN:
+            for name in plain:
                 os.symlink(shutil.which(name), os.path.join(tools, name))
             for name in tracked():
                 os.makedirs(os.path.dirname(os.path.join(top, name)), exist_ok=True)

@@ -24,6 +24,8 @@ class Refused(unittest.TestCase):
     # Of the program in C: the line of a refused request before the last; whether that ends it at once; how many
     # requests there are at the least; and the bytes of the last for each cell, with room for a string beside the block.
     LINE, ENDS_AT_ONCE, FEWEST, BYTES = BLOCK_LINE, False, 2, CELL + 1
+    # Its ways to memory.
+    WAYS = frozenset({'calloc', 'malloc', 'realloc'})
 
     @classmethod
     def setUpClass(cls):
@@ -89,5 +91,5 @@ class Refused(unittest.TestCase):
         lines = subprocess.run(['nm', '-D', '--undefined-only', PROGRAM], check=True,
                                capture_output=True, text=True).stdout
         names = {line.split()[1].split('@')[0] for line in lines.splitlines()}
-        self.assertEqual(names & ALLOCATORS, {'malloc', 'realloc'})
+        self.assertEqual(names & ALLOCATORS, self.WAYS)
         self.assertEqual(names & OTHER_WAYS, set())

@@ -1,14 +1,19 @@
 """The Debian packages: lintian is content with each, its programs run from where it is unpacked, and a program is built
 with the library for development."""
 import os
+import pathlib
 import subprocess
 import tempfile
+import time
 import unittest
 
 from test_terminal import has_libedit
 from trac import TERMINAL, TOP, make
 
-NAMES = ('trac-t64', 'libtrac0', 'libtrac-dev')
+with open(os.path.join(TOP, 'VERSION'), encoding='utf-8') as whole:
+    VERSION = whole.read().strip()
+LIBRARY = 'libtrac' + VERSION.rpartition('.')[0]
+NAMES = ('trac-t64', LIBRARY, 'libtrac-dev')
 
 
 def first_line(*words):
@@ -20,10 +25,8 @@ class Package(unittest.TestCase):
     @classmethod
     def setUpClass(cls):
         make('package')
-        with open(os.path.join(TOP, 'VERSION'), encoding='utf-8') as file:
-            cls.version = file.read().strip()
         kind = first_line('dpkg', '--print-architecture')
-        cls.files = {name: os.path.join(TOP, 'dist', f'{name}_{cls.version}-1_{kind}.deb') for name in NAMES}
+        cls.files = {name: os.path.join(TOP, 'dist', f'{name}_{VERSION}-1_{kind}.deb') for name in NAMES}
 
     def test_lintian_is_content(self):
         for file in self.files.values():
@@ -40,8 +43,9 @@ class Package(unittest.TestCase):
             done = subprocess.run([os.path.join(room, 'usr/bin/trac_terminal')], cwd='/', input=b"#(ps,hello)'",
                                   capture_output=True, check=True)
             self.assertEqual(done.stdout, b'hello\n')
-            self.assertEqual(first_line('dpkg-deb', '-f', self.files['trac-t64'], 'Depends'),
-                             'libc6, libedit2' if has_libedit(TERMINAL) else 'libc6')
+            named = r'libc6 \(>= [0-9.]+\)' + (r', libedit2 \(>= [0-9.-]+\)' if has_libedit(TERMINAL) else '')
+            self.assertRegex(first_line('dpkg-deb', '-f', self.files['trac-t64'], 'Depends'), f'^{named}$')
+            self.assertRegex(first_line('dpkg-deb', '-f', self.files[LIBRARY], 'Depends'), r'^libc6 \(>= [0-9.]+\)$')
             place = first_line('gcc', '-print-multiarch')
             library = os.path.join(room, 'usr/lib', place)
             program = os.path.join(room, 'embedding')
@@ -50,11 +54,27 @@ class Package(unittest.TestCase):
             for env in ({'LD_LIBRARY_PATH': library},):
                 subprocess.run([program], env=env, capture_output=True, check=True)
 
+    def test_they_are_the_same_twice(self):
+        """At another time and in another zone of time; the archive for Python and the printed page too."""
+        made = [os.path.join('dist', name) for name in (f'trac_t64-{VERSION}.tar.gz', 'trac.pdf')]
+        files = [*self.files.values(), *(os.path.join(TOP, name) for name in made)]
+        for file in files[len(NAMES):]:
+            # one of an earlier commit has the time of that
+            pathlib.Path(file).unlink(missing_ok=True)
+        make(*made)
+        before = [first_line('sha256sum', file) for file in files]
+        for file in files:
+            os.remove(file)
+        time.sleep(1.1)
+        subprocess.run(['make', '-s', 'package', *made], cwd=TOP, check=True, capture_output=True,
+                       env={**os.environ, 'TZ': 'Asia/Tokyo'})
+        self.assertEqual([first_line('sha256sum', file) for file in files], before)
+
     def test_their_version_is_that_of_the_file(self):
         for name, file in self.files.items():
             told = subprocess.run(['dpkg-deb', '-f', file, 'Package', 'Version'], capture_output=True, text=True,
                                   check=True).stdout
-            self.assertEqual(told, f'Package: {name}\nVersion: {self.version}-1\n')
+            self.assertEqual(told, f'Package: {name}\nVersion: {VERSION}-1\n')
 
 
 if __name__ == '__main__':

@@ -157,6 +157,12 @@ def test_the_steps_of_the_manual(trac_t64):
     assert (session.step(), list(session)) == (None, [])
 
 
+def arguments_in(codes):
+    """The arguments in the codes of a call."""
+    ends = [place for place, code in enumerate(codes) if code == 258]
+    return tuple(bytes(codes[begin + 1:end]) for begin, end in zip([-1, *ends], [*ends, len(codes)]))
+
+
 def test_what_comes_next(trac_t64):
     session = trac_t64.Session()
     session.feed("#(ps,a##(eq,b,(c,(d)),#(ad,1", most=0)
@@ -172,6 +178,8 @@ def test_what_comes_next(trac_t64):
             assert session.active_part(start, 3) == text[start:start + 3]
         assert (session.neutral_part(1), session.active_part(2)) == (codes[1:], text[2:])
         takes, ahead, rule = session.takes, session.steps_to_call(), session.rule
+        performs = marks and rule == 'end of call' and not session.fate.is_end
+        assert session.arguments == (arguments_in(codes[marks[-1] + 1:]) if performs else ())
         dropped.append(session.drops)
         assert session.steps_to_call(2) == min(2, ahead) and (ahead == 0) == (rule in ends)
         if session.step() is None:
@@ -184,6 +192,24 @@ def test_what_comes_next(trac_t64):
             call(-1)
     with pytest.raises(ValueError, match='most must be from 0'):
         session.steps_to_call(-1)
+
+
+def test_the_arguments_of_a_call(trac_t64):
+    text = bytes(set(range(256)) - set(b"()'")) * 40
+    for allowance, wanted in ((14, (b'x', text)), (13, ())):
+        session = trac_t64.Session(steps=allowance)
+        session.feed(b'#(x,(' + text + b"))'", most=13)
+        assert session.arguments == wanted
+    session.again(13)
+    session.feed(b"#(x,,)'", most=13)
+    assert session.arguments == () and session.fate is trac_t64.Fate.GOING
+    session.again(99)
+    session.feed(b"#(x,,)'", most=13)
+    assert session.arguments == (b'x', b'', b'')
+    session.feed()
+    assert (session.arguments, session.fate) == ((b'rs',), trac_t64.Fate.WANTS_INPUT)
+    session.end()
+    assert session.arguments == ()
 
 
 def test_iterating_stops_where_input_is_wanted(trac_t64):
@@ -364,9 +390,9 @@ def test_one_session_in_two_threads(trac_t64):
     thread = threading.Thread(target=session.feed, args=(b'', 30000000))
     thread.start()
     refused = set()
-    while thread.is_alive() and len(refused) < 5:
+    while thread.is_alive() and len(refused) < 4:
         for name, call in (('steps', lambda: session.steps), ('feed', session.feed), ('close', session.close),
-                           ('copy', session.copy), ('twin', twin.feed)):
+                           ('copy', session.copy)):
             try:
                 call()
             except RuntimeError as error:
@@ -375,9 +401,9 @@ def test_one_session_in_two_threads(trac_t64):
             else:
                 # the turn hasn't begun yet
                 break
-    assert refused == {'steps', 'feed', 'close', 'copy', 'twin'} and thread.is_alive()
+    assert refused == {'steps', 'feed', 'close', 'copy'} and twin.feed(HELLO) == b'hello' and thread.is_alive()
     thread.join(60)
-    assert session.steps == 30000000 and twin.feed(HELLO) == b'hello'
+    assert session.steps == 30000000 and twin.steps == 28
 
 
 INTERRUPTED = """
@@ -421,7 +447,101 @@ print(told, session.steps)
 
 def test_a_handler_of_a_signal_can_not_use_the_session(python_site):
     assert python_package.python(python_site, IN_A_HANDLER).strip() == \
-        "['the session, or a copy of it, is in the middle of a turn'] 30000000"
+        "['the session is in the middle of a turn or another call'] 30000000"
+
+
+FINALISED = """
+import gc
+from trac_t64 import Session
+class Trap:
+    def __init__(self, use): self.me, self.use = self, use
+    def __del__(self):
+        try: self.use()
+        except RuntimeError as error: told.add(str(error))
+for use in ('close', 'feed', 'forms', 'again', 'copy', 'end'):
+    session, told = Session(200000), set()
+    for number in range(3000): session.feed(f"#(ds,f{number},x)'")
+    gc.collect()
+    for _ in range(100): Trap(getattr(session, use))
+    print(len(session.forms()), *told, sep=': ')
+"""
+
+
+def test_a_finaliser_that_the_collector_runs_can_not_use_the_session(python_site):
+    assert python_package.python(python_site, FINALISED).splitlines() == [
+        '3000: the session is in the middle of a turn or another call'] * 6
+
+
+FINALISED_AMONG_ARGUMENTS = """
+import gc
+from trac_t64 import Session
+class Trap:
+    def __init__(self): self.me = self
+    def __del__(self):
+        try: session.feed(b"x'")
+        except RuntimeError as error: told.add(str(error))
+session, told = Session(), set()
+session.feed(b"#(x,y,z)'", most=15)
+gc.collect()
+gc.disable()
+trap = Trap()
+del trap
+gc.set_threshold(1)
+gc.enable()
+held = session.arguments
+gc.disable()
+print(held, *told)
+"""
+
+
+def test_a_finaliser_can_not_change_the_arguments_that_are_asked_for(python_site):
+    assert python_package.python(python_site, FINALISED_AMONG_ARGUMENTS).strip() == \
+        "(b'x', b'y', b'z') the session is in the middle of a turn or another call"
+
+
+INTERRUPTED_AMONG_ARGUMENTS = """
+import signal
+from trac_t64 import Session
+session = Session(400000, 10**9)
+session.feed(b"#(x" + b',' * 60000 + b")'", most=60011)
+signal.signal(signal.SIGALRM, signal.default_int_handler)
+signal.setitimer(signal.ITIMER_REAL, 0.2)
+try: session.arguments
+except KeyboardInterrupt: print('interrupted', session.rule, session.steps)
+"""
+
+
+def test_an_interrupt_ends_the_asking_for_very_many_arguments(python_site):
+    assert python_package.python(python_site, INTERRUPTED_AMONG_ARGUMENTS).strip() == 'interrupted end of call 60011'
+
+
+WAITED = """
+import os, signal, threading, time
+from trac_t64 import Session, check
+signal.signal(signal.SIGINT, signal.default_int_handler)
+def waits(call, *arguments):
+    threading.Timer(0.5, lambda: (begun.append(time.monotonic()), os.kill(os.getpid(), signal.SIGINT))).start()
+    begun = []
+    try: call(*arguments)
+    except KeyboardInterrupt: return time.monotonic() - begun[0] < 0.8
+    return False
+print(waits(check, b"#(ds,L,(#(cl,L)))#(cl,L)'", 65536, 10**9))
+session = Session(4000000, 10**9)
+session.feed(b"#(ds,A,%s)#(ds,L,(#(dd,##(cl,A))#(cl,L)))'" % (b'x' * 1200000))
+print(waits(session.feed, b"#(cl,L)'"))
+"""
+
+
+def test_an_interrupt_comes_in_time_whatever_the_steps_cost(python_site):
+    assert python_package.python(python_site, WAITED).split() == ['True', 'True']
+
+
+def test_a_check_in_another_thread(trac_t64):
+    made = []
+    thread = threading.Thread(target=lambda: made.append(trac_t64.check("#(pss,a)'").suspicions))
+    thread.start()
+    thread.join(60)
+    assert made == [[(1, 1, 'no function has the name pss')]]
 
 
 LEAKING = """
@@ -436,15 +556,15 @@ def use(count):
         session.feed(b"#(ds,A,(x,y))#(ss,A,x)#(ps,##(cl,A,hello))'" + bytes(9000))
         twin = session.copy()
         twin.feed(b"'#(rs)"), session.forms(), session.neutral, session.active, twin.forms(), session.unread
+        twin.arguments
         if number % 3: session.close()
         if number % 2: session, twin = twin, session
         for call in (lambda: session.feed(7), lambda: Session(0)):
             try: call()
             except (TypeError, ValueError): pass
     run(b"#(ps,hello)'")
-# twice, since the C library keeps memory when it gave back a great block first
-use(1500)
-use(1500)
+# at first the C library keeps some memory that was given back to it
+for _ in range(5): use(1500)
 before, references = resident(), sys.getrefcount(Machine)
 use(10000)
 print(resident() - before, sys.getrefcount(Machine) - references)

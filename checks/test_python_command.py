@@ -162,7 +162,16 @@ def test_files_that_can_not_be_read(command, written):
     written(good="#(ps,good)'")
     for name, why in (('none', 'No such file or directory'), ('.', 'Is a directory')):
         assert command('good', name, 'good') == (b'good', f"trac_t64: can't read {name}: {why}\n", 4)
-    assert command(b'\xff')[1:] == ("trac_t64: can't read \udcff: No such file or directory\n", 4)
+    for name, told in ((b'\xff', r'\xff'), (b'\x1b]0;x\x07', r'\x1b]0;x\x07'),
+                       ('\u202ea\n\\\x9b'.encode(), r'\xe2\x80\xaea\n\\\xc2\x9b')):
+        assert command(name)[1:] == (f"trac_t64: can't read {told}: No such file or directory\n", 4)
+
+
+def test_names_with_control_characters(command, written):
+    written(**{'a\x1b[2J\nb': LOOP})
+    assert command('a\x1b[2J\nb', '--steps', '99')[1:] == (
+        r'a\x1b[2J\nb:1:26: allowance of 99 steps used up' + '\n', 3)
+    assert r'unrecognized arguments: --\x1b[2J' in command('--\x1b[2J')[1]
 
 
 def test_devices_that_fail(python_site):

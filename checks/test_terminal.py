@@ -16,16 +16,16 @@ from fcntl import ioctl
 import pyte
 
 from c_api import HEADERS, STRICT
-from kept_forms import kept_by, library, script_of
+from kept_forms import kept_by, library, script_of, sum_of
 from test_interruptions import interrupt, shown_though_interrupted, traced
 from test_program import are_not_written
-from trac import TERMINAL, TOP
+from trac import TERMINAL, TOP, instructions
 
 LOOP = '#(ds,L,(#(cl,L)))#(cl,L)\''
 USED_UP = 'trac: allowance of 1000 steps used up\n'
 FOREVER = '1000000000000'
 SOURCES = [os.path.join(HEADERS, f'{name}.c')
-           for name in ('terminal', 'calls', 'saving', 'suspicions', 'texts', 'typing')]
+           for name in ('terminal', 'calls', 'loading', 'replacing', 'saving', 'suspicions', 'texts', 'typing')]
 ENGINE = os.path.join(TOP, 'build', 'libtrac.a')
 EDITING = ['-DWITH_LIBEDIT', '-ledit']
 CHECKING = ['-O0', '-g', '-fsanitize=address,undefined', '-fno-sanitize-recover=all']
@@ -80,16 +80,20 @@ class Room(unittest.TestCase):
             return file.read()
 
 
+def set_window(terminal, lines, columns):
+    ioctl(terminal, termios.TIOCSWINSZ, struct.pack('HHHH', lines, columns, 0, 0))
+
+
 class Typist:
     """A session at a pseudo-terminal, whose output and standard error go there too."""
 
-    def __init__(self, *words, program=TERMINAL, **env):
+    def __init__(self, *words, program=TERMINAL, window=None, **env):
         self.shown = b''
         self.child, self.place = pty.fork()
         if self.child == 0:
             # the shell that runs the checks may ignore interrupts
             signal.signal(signal.SIGINT, signal.SIG_DFL)
-            ioctl(0, termios.TIOCSWINSZ, struct.pack('HHHH', Screen.ROWS, Screen.COLUMNS, 0, 0))
+            set_window(0, *(window or (Screen.ROWS, Screen.COLUMNS)))
             env = {**os.environ, 'TERM': 'dumb', 'LC_ALL': 'C.UTF-8', 'TRAC_HISTORY': '', **env}
             os.execve(program, [program, *words], {name: value for name, value in env.items() if value is not None})
 
@@ -138,6 +142,17 @@ class Screen(Typist):
 
     def lines(self):
         return '\n'.join(line.rstrip() for line in self.screen.display).rstrip('\n').split('\n')
+
+    def waits_for(self, *lines):
+        """Waits until the last lines of the screen are these."""
+        while self.lines()[-len(lines):] != [line.rstrip() for line in lines]:
+            self.stream.feed(self.read(lambda: '\n'.join([f'not shown: {lines}', *self.lines()])))
+
+    def waits_at(self, row, column):
+        """Waits until the cursor stands there, counted from 0, or in the last row instead."""
+        wanted = min(row, self.ROWS - 1), column
+        while (self.screen.cursor.y, self.screen.cursor.x) != wanted:
+            self.stream.feed(self.read(lambda: '\n'.join([f'no cursor at {wanted}', *self.lines()])))
 
     def shows(self, *lines):
         """Waits until the last lines of the screen are these, the cursor behind them."""
@@ -360,6 +375,9 @@ class Edited(Room):
         screen.shows('> #(c', 'cm  cl  cs  cc  cn  cr', '> #(c')
         screen.type("\x15#(dd,greater,gre\t)#(cl,gre\t)'\r")
         screen.shows("> #(dd,greater,gre)#(cl,gre)'", 'trac: no form gre', '> ')
+        screen.type('#(DD,gre,o\t')
+        screen.shows('> #(DD,gre,other')
+        screen.type('\x15')
         self.end(screen)
 
     def test_what_a_script_asks_stands_before_what_is_typed(self):
@@ -373,6 +391,61 @@ class Edited(Room):
         screen.type("'##(cl,N)'\r")
         screen.shows("'> '##(cl,N)'", 'AXda', '> ')
         self.end(screen)
+
+    def test_a_question_of_any_length_stands_before_what_is_typed(self):
+        full, wide = 'x' * Screen.COLUMNS, '\u4e00' * (Screen.COLUMNS // 2)
+        for question, rows, shown in ((full[:-1], 1, full[:-1]), (full, 2, ''), (full + 'Name? ', 2, 'Name? '),
+                                      (full * 2 + 'Name? ', 3, 'Name? '), (wide + 'Name? ', 2, 'Name? '),
+                                      # one that isn't shown again stands in a line of its own
+                                      ('x' * 4000 + '?', 99, ''), ('Name\t? ', 2, ''),
+                                      ('\x1b[1mName\x1b[m? ', 2, '')):
+            with self.subTest(question=question):
+                file = self.put('file', f"#(ds,ask,(#(ps,({question}))#(ds,N,##(rs))))'")
+                screen = self.begin('--quiet', file)
+                screen.type("#(cl,ask)'\r")
+                screen.waits_at(rows, len(shown))
+                screen.type("Ada\x1b[D\x1b[DX'\r")
+                typed = shown + "AX'da"
+                screen.shows(*[typed[at:at + Screen.COLUMNS] for at in range(0, len(typed), Screen.COLUMNS)], "'> ")
+                self.assertIn(question.strip()[-1], '\n'.join(screen.lines()))
+                screen.type("##(cl,N)'\r")
+                screen.shows("'> ##(cl,N)'", 'daAX', '> ')
+                self.end(screen)
+
+    def test_names_that_are_shown_are_escaped(self):
+        file = self.put('file', "#(ds,a\u202eb,x)#(ds,a\u2066\u061c,x)#(ds,a\u009bm,x)#(ds,aé‰,x)'")
+        screen = self.begin('--quiet', file)
+        screen.type('#(cl,\t\t')
+        screen.shows('> #(cl,a', r'a\xe2\x80\xaeb  a\xe2\x81\xa6\xd8\x9c  a\xc2\x9bm  aé‰', '> #(cl,a')
+        screen.type("\x15'\r")
+        self.end(screen)
+
+    def test_windows_that_can_not_be(self):
+        for lines, columns in ((65535, 65535), (0, 0), (65535, 80)):
+            screen = self.begin('--quiet', window=(lines, columns))
+            screen.type("#(ps,hello)'\r")
+            screen.shows("> #(ps,hello)'", 'hello', '> ')
+            found = struct.unpack('HHHH', ioctl(screen.place, termios.TIOCGWINSZ, bytes(8)))[:2]
+            self.assertEqual(found, (24, 80) if lines else (0, 0))
+            set_window(screen.place, 65535, 65535)
+            screen.type("#(ps,again)'\r")
+            screen.shows('again', '> ')
+            self.end(screen)
+
+    def test_the_history_is_searched(self):
+        for keys in ('', 'bind -v'):
+            with self.subTest(keys=keys):
+                self.put('history', "#(ps,(one apple))'\n#(ps,(two pears))'\n#(ps,(no apple))'\n")
+                screen = self.begin('--quiet', EDITRC=self.put('editrc', keys + '\n'))
+                screen.type('\x12app')
+                screen.waits_for("> #(ps,(no apple))'", 'bck:app')
+                screen.type('\x12')
+                screen.waits_for("> #(ps,(one apple))'", 'bck:app')
+                screen.type('\r')
+                screen.shows("> #(ps,(one apple))'", 'one apple', '> ')
+                screen.type("#(p\t,x)'\r")
+                screen.shows('ps  pf', "> #(p,x)'", '> ')
+                self.end(screen)
 
     def test_what_is_pasted_is_not_run_before_its_line_is_sent(self):
         screen = self.begin('--quiet')
@@ -427,6 +500,16 @@ class Edited(Room):
         self.end(screen)
         lines = self.got('history').decode().split('\n')
         self.assertEqual((lines[0], len(lines)), ("#(ps,1500)'", 1002))
+
+    def test_a_history_that_can_not_be_cut_stays(self):
+        lines = ''.join(f'#(ps,{i})\'\n' for i in range(2500))
+        self.put('history', lines)
+        limited = self.put('limited', f'#!/bin/sh\ntrap "" XFSZ\nulimit -f 0\nexec {self.program} "$@"\n')
+        os.chmod(limited, 0o755)
+        screen = Screen('--quiet', program=limited, TRAC_HISTORY=self.path('history'))
+        screen.shows('> ')
+        self.end(screen)
+        self.assertEqual(self.got('history').decode(), lines)
 
     def test_the_history_in_the_home_folder_and_none(self):
         for history, wanted in (('', []), (None, ['.trac_history'])):
@@ -577,7 +660,8 @@ class Devices(Room):
                         os.path.join(TOP, 'checks', 'refusing.c')], check=True)
         file = self.put('file', "#(ds,P,(()))#(ds,A,##(cc,P)a)#(ps,(from a file ))'")
         script = "#(ps," + 'x' * 9000 + ")#(foo)#(cl,A)'#(ps,end)'"
-        words = ['--save', self.path('saved'), file]
+        piped("#(ds,loaded,x)'", '--save', self.path('loaded'))
+        words = ['--save', self.path('saved'), self.path('loaded'), file]
         def run_refusing(number):
             with tempfile.TemporaryFile() as requests:
                 ended = piped(script, *words, pass_fds=[requests.fileno()], env={
@@ -661,7 +745,9 @@ class Files(Room):
                          (f"trac_terminal: can't read {self.folder}: Is a directory\n", 4))
 
     def test_names_of_files_are_shown_with_escapes(self):
-        for name, shown in (('a\nb\x1b[m', r'a\nb\x1b[m'), ('\x7f\\\t\r', r'\x7f\\\t\r'), ('é\u0085', r'é\xc2\x85')):
+        for name, shown in (('a\nb\x1b[m', r'a\nb\x1b[m'), ('\x7f\\\t\r', r'\x7f\\\t\r'), ('é\u0085', r'é\xc2\x85'),
+                            ('\u202ea\u2066\u061c', r'\xe2\x80\xaea\xe2\x81\xa6\xd8\x9c'),
+                            ('‰\u2065', '‰\u2065')):
             self.assertEqual(piped('', name)[1], f"trac_terminal: can't read {shown}: No such file or directory\n")
 
 
@@ -728,10 +814,15 @@ class Unheard(unittest.TestCase):
 
     def test_what_is_no_mistake(self):
         self.assertEqual(self.said("#(,(a comment))#()#(PS,a)#(Ps,b)###(ps,c))'#(hl)'"), [])
+        self.assertEqual(self.said("#(dd,F)#(dd)#(dd,)#(DD,(F),G)#(ds,F,x)#(dd,G,F,F)'"), [])
         self.assertEqual(self.said("#(foo,x)#(cl,F)'", '--quiet'), [])
         self.assertEqual(self.said("#(foo,x)#(cl,F)'", '-q'), [])
         with open(os.path.join(TOP, 'examples', 'hanoi.trac'), encoding='utf-8') as script:
             self.assertEqual(self.said(script.read()), [])
+
+    def test_a_call_that_is_not_performed(self):
+        self.assertEqual(piped("#(foo)'", '--steps', '13'), ('', 'trac: allowance of 13 steps used up\n', 0))
+        self.assertEqual(piped("#(foo)'", '--steps', '14')[1].splitlines()[0], 'trac: no function foo')
 
     def test_many_of_them(self):
         calls = [f'no function f{i}' for i in range(8)]
@@ -741,6 +832,14 @@ class Unheard(unittest.TestCase):
     def test_in_calls_that_stand_deep(self):
         script = "#(ds,D,(#(gr,N,0,(#(ps,#(cl,D,#(su,N,1)))),(#(foo)))))#(ss,D,N)#(cl,D,900)'"
         self.assertEqual(self.said(script), ['trac: no function foo'])
+
+    def test_a_look_at_a_call_passes_over_no_text_in_front_of_it(self):
+        def took(text, calls):
+            script = f"#(ps,({'x' * text}){'#(cl,a)' * calls})'"
+            return instructions([TERMINAL, '--cells', '100000'], script.encode())
+
+        short, long = (took(text, 200) - took(text, 0) for text in (100, 20000))
+        self.assertLess(long, 2 * short)
 
     def test_the_functions_are_those_of_the_manual(self):
         with open(os.path.join(TOP, 'docs', 'LANGUAGE.md'), encoding='utf-8') as file:
@@ -753,7 +852,7 @@ class Unheard(unittest.TestCase):
         lines = self.said(''.join(f"#({name})'" for name in names))
         self.assertEqual([line for line in lines if 'function' in line],
                          [f'trac: no function {name}' for name in names if name not in functions])
-        self.assertEqual(sum('no form' in line for line in lines), len('ss dd pf cl cs cc cn in cr'.split()))
+        self.assertEqual(sum('no form' in line for line in lines), len('ss pf cl cs cc cn in cr'.split()))
         for name in ('ds', 'hl', 'rs', 'rc'):
             self.assertEqual(self.said(f"#({name})'x'"), [])
 
@@ -784,13 +883,15 @@ class Saved(Room):
                   b"#(ds,P,(()))#(ds,open,##(cc,P)a)#(dd,P)'")
         with open(os.path.join(TOP, 'VERSION'), encoding='utf-8') as file:
             version = file.read().strip()
-        self.assertEqual(self.is_kept(script), f"""#(,(Forms of a session, saved by trac_terminal {version}))'
+        saved = self.is_kept(script)
+        self.assertEqual(saved, f"""#(,(Session saved by trac_terminal {version}))'
 #(ds,<,(()))#(ds,<,##(cc,<))'
 #(ds,greet,(#(ps,(Hello, ~1!))))'
 #(ss,greet,~1)'
 #(,##(cn,greet,13)##(cs,greet))'
 #(ds,open,##(cl,<)(a))'
-#(dd,<)'
+#(dd,<)
+#(,(End of the session saved by trac_terminal, 2 forms, checksum {sum_of(saved.encode())}))'
 """)
 
     def test_the_meta_character(self):
@@ -800,7 +901,7 @@ class Saved(Room):
             self.is_kept(b"#(ds,A,##(rc))'" + bytes([meta]) + b"#(cm,##(cl,A))'")
 
     def test_no_forms(self):
-        self.assertEqual(self.is_kept(b"#(ds,A,b)#(da)'").count('\n'), 1)
+        self.assertEqual(self.is_kept(b"#(ds,A,b)#(da)'").count('\n'), 2)
 
     def test_all_bytes_gaps_and_pointers(self):
         every = bytes(range(256))
@@ -905,6 +1006,17 @@ class Page(unittest.TestCase):
 
     def test_it_formats_without_a_warning(self):
         self.assertEqual(self.warnings, '')
+
+    def test_it_sends_nobody_to_a_page_that_needs_the_kit(self):
+        self.assertNotIn('trac_trace', self.text)
+
+    def test_its_lines_are_those_of_the_program(self):
+        """Why a saved session isn't loaded, and what is said of cells."""
+        with open(os.path.join(HEADERS, 'saving.c'), encoding='utf-8') as file:
+            said = re.findall(r'"trac_terminal: %s: ([^%"\\]+)', file.read())
+        self.assertEqual(len(said), 2)
+        for line in said:
+            self.assertIn(f'FILE: {line}', self.section('DIAGNOSTICS'))
 
     def test_its_options_are_those_of_the_help(self):
         shown = re.findall(r'^ +((?:-\w, )?--\w+(?: <\w+>)?)  +.*?(?:1 to (\d+) \[default: (\d+)\])?$', self.help,

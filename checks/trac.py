@@ -3,6 +3,7 @@
 The checks of this folder need no kit. They run the program in C, or the one that TRAC names in the
 environment. Those of proved/ need the proved programs or the proved library."""
 import os
+import re
 import subprocess
 import sys
 
@@ -64,3 +65,10 @@ def trace(script, *words):
 def whole_trace(script, *words):
     """The same, with strings of any length as they are."""
     return trace(script, '--width', '0', *words)
+
+
+def traced(lines):
+    """The steps of a trace: number, rule, size, need, neutral and active string."""
+    return [(int(line[:6]), line[8:21].rstrip(), int(line[21:27]), int(line[27:33]),
+             *line[35:].split('|', 1))
+            for line in lines if re.match(r' *\d+  [a-z]', line)]

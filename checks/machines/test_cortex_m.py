@@ -1,5 +1,5 @@
-"""The example for a Cortex-M3, in QEMU: a script and a session over the serial line in 16 KB of RAM, and once more in 8
-KB with 64 cells; and the table of sizes in the page on embedding."""
+"""The examples for a Cortex-M3 in C and in Rust, in QEMU: a script and a session over the serial line in 16 KB of RAM,
+and once more in 8 KB with 64 cells; and the tables of sizes in the page on embedding."""
 import os
 import re
 import shutil
@@ -7,6 +7,7 @@ import subprocess
 import tempfile
 import unittest
 
+from rust_library import BUILT
 from trac import TOP
 
 EXAMPLE = os.path.join(TOP, 'examples', 'cortex_m')
@@ -17,18 +18,25 @@ SESSION = ("#(ds,F,(#(eq,N,1,1,(#(ml,N,#(cl,F,#(su,N,1)))))))#(ss,F,N)'#(ps,(5! 
 SHORT = "#(ds,F,a-b)#(ss,F,-)'##(cl,F,+)'#(hl)'"
 
 
-class CortexM(unittest.TestCase):
-    def setUp(self):
-        room = tempfile.TemporaryDirectory()
-        self.addCleanup(room.cleanup)
-        self.place = os.path.join(room.name, 'cortex_m')
-        shutil.copytree(EXAMPLE, self.place)
+class Board:
+    """What holds of a session on the board. `make` builds it with these words, and the page has its sizes in rows that
+    begin so."""
+
+    @classmethod
+    def setUpClass(cls):
+        cls.top = tempfile.mkdtemp()
+        cls.addClassCleanup(shutil.rmtree, cls.top)
+
+    def build(self, ram, cells):
+        """What `make` says of the program's sizes."""
+        done = subprocess.run(['make', '-s', 'session.elf', f'RAM={ram}', *self.words(cells)], cwd=self.place,
+                              capture_output=True, text=True, check=False)
+        self.assertEqual(done.returncode, 0, done.stderr)
+        return map(int, re.search(r'^ +text.*\n(.*)', done.stdout, re.MULTILINE)[1].split()[:3])
 
     def run_there(self, ram, cells, typed):
         """The sizes of the program, and what it says where this is typed."""
-        made = subprocess.run(['make', '-s', 'session.elf', f'RAM={ram}', f'CELLS={cells}',
-                               f'ENGINE={TOP}/hosts/c'], cwd=self.place, capture_output=True, text=True, check=True)
-        text, data, bss = map(int, re.search(r'^ +text.*\n(.*)', made.stdout, re.MULTILINE)[1].split()[:3])
+        text, data, bss = self.build(ram, cells)
         with subprocess.Popen([*QEMU, 'session.elf'], cwd=self.place, stdin=subprocess.PIPE, stdout=subprocess.PIPE,
                               text=True) as running:
             try:
@@ -55,10 +63,38 @@ class CortexM(unittest.TestCase):
     def is_told(self, ram, cells, sizes):
         """The sizes are those of the table, as far as a compiler of another version goes."""
         with open(os.path.join(TOP, 'docs', 'EMBEDDING.md'), encoding='utf-8') as page:
-            row = re.search(rf'^\| {ram} KB \| {cells} \| ([\d,]+) \| ([\d,]+) \| ([\d,]+) \|$',
+            row = re.search(rf'^\| {self.row}{ram} KB \| {cells} \| ([\d,]+) \| ([\d,]+) \| ([\d,]+) \|$',
                             page.read(), re.MULTILINE)
         for told, size in zip(row.groups(), sizes):
             self.assertLess(abs(int(told.replace(',', '')) - size), 0.15 * size + 64, (row[0], sizes))
+
+
+class InC(Board, unittest.TestCase):
+    row = ''
+
+    @classmethod
+    def setUpClass(cls):
+        super().setUpClass()
+        cls.place = os.path.join(cls.top, 'cortex_m')
+        shutil.copytree(EXAMPLE, cls.place)
+
+    def words(self, cells):
+        return [f'CELLS={cells}', f'ENGINE={TOP}/hosts/c', '-B']
+
+
+class InRust(Board, unittest.TestCase):
+    row = 'Rust, '
+
+    @classmethod
+    def setUpClass(cls):
+        super().setUpClass()
+        cls.place = os.path.join(cls.top, 'rust', 'examples', 'cortex_m')
+        shutil.copytree(os.path.join(TOP, 'hosts', 'rust'), os.path.join(cls.top, 'rust'),
+                        ignore=shutil.ignore_patterns('target'))
+
+    def words(self, cells):
+        # The core library is built once.
+        return [f'BOARD={EXAMPLE}', f'TARGET={BUILT}/board', 'FEATURES=' + ('' if cells == 256 else 'small')]
 
 
 if __name__ == '__main__':

@@ -13,10 +13,10 @@ KINDS = {'aarch64': 'aarch64-linux-gnu-gcc', 'arm': 'arm-linux-gnueabihf-gcc', '
 
 
 class Cross(unittest.TestCase):
-    def meets_the_cases(self, kind):
+    def meets_the_cases(self, kind, *flags):
         with tempfile.TemporaryDirectory() as place:
             program = os.path.join(place, 'trac')
-            subprocess.run([KINDS[kind], '-std=c11', '-O1', '-static', '-o', program,
+            subprocess.run([KINDS[kind], '-std=c11', '-O1', '-static', *flags, '-o', program,
                             os.path.join(HERE, 'trac.c'), os.path.join(HERE, 'trac_engine.c')], check=True)
             done = subprocess.run([sys.executable, os.path.join(TOP, 'conformance', 'run.py'), f'qemu-{kind}', program],
                                   capture_output=True, text=True, timeout=600)
@@ -30,6 +30,10 @@ class Cross(unittest.TestCase):
 
     def test_s390x(self):
         self.meets_the_cases('s390x')
+
+    def test_compilers_that_do_not_tell_the_order_of_bytes(self):
+        self.meets_the_cases('s390x', '-U__BYTE_ORDER__')
+        self.meets_the_cases('aarch64', '-U__BYTE_ORDER__')
 
 
 if __name__ == '__main__':

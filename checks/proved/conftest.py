@@ -3,7 +3,3 @@ import os
 
 TOP = os.path.dirname(os.path.dirname(os.path.dirname(os.path.abspath(__file__))))
 os.environ['TRAC'] = os.path.join(TOP, 'crates', 'trac_cli', 'out', 'trac_cli')
-
-
-def pytest_configure(config):
-    config.addinivalue_line('markers', 'timed: measures time, and so runs by itself')

@@ -1,6 +1,7 @@
-"""The program in C beside the proved one: on every row, case, example and exercise, every device that is closed, full
-or none, and command lines that are refused, both write and say the same, and end with the same status. The tips of
-the proved program's command line aside, which the other hasn't."""
+"""The program in C, and that over the crate for Rust, beside the proved one: on every row, case, example and exercise,
+every device that is closed, full or none, and command lines that are refused, each writes and says the same as that
+one, and ends with the same status. The tips of the proved program's command line aside, which the others haven't; and
+what the one in Rust says of a command line that is refused, and does with a standard device that can't be used."""
 import glob
 import os
 import pathlib
@@ -12,6 +13,7 @@ import tempfile
 import unittest
 
 from rows import rows
+from rust_library import run_program
 from test_pipes import calls
 from test_program import REFUSED, into_closed_pipe, into_full, into_nothing
 from trac import IN_C, PROVED, TOP, make
@@ -92,13 +94,20 @@ DEVICES = {
 }
 
 
+# Rust's std takes a standard device that can't be used for one that is empty, and takes all.
+OTHERWISE_IN_RUST = {'no output', 'no output for a help', 'no input', 'an input that only takes',
+                     'an output that only gives', 'no device at all'}
+
+
 class Beside(unittest.TestCase):
+    program, devices = IN_C, DEVICES
+
     @classmethod
     def setUpClass(cls):
         make('build/trac')
 
     def same(self, do):
-        self.assertEqual(do(IN_C), do(PROVED))
+        self.assertEqual(do(self.program), do(PROVED))
 
     def test_each_row(self):
         for row in rows():
@@ -125,7 +134,7 @@ class Beside(unittest.TestCase):
                 self.same(lambda program: run(program, script, '--report'))
 
     def test_each_device(self):
-        for name, do in DEVICES.items():
+        for name, do in self.devices.items():
             with self.subTest(device=name):
                 self.same(do)
 
@@ -146,6 +155,16 @@ class Beside(unittest.TestCase):
                        b'x' * 8000, b"#(hl)'" + b'x' * 20000):
             with self.subTest(script=script[:20]):
                 self.same(lambda program: calls(script, program=program))
+
+
+class InRust(Beside):
+    devices = {name: do for name, do in DEVICES.items() if name not in OTHERWISE_IN_RUST}
+    test_each_command_line = test_reads_and_writes = None
+
+    @classmethod
+    def setUpClass(cls):
+        super().setUpClass()
+        cls.program = run_program()
 
 
 if __name__ == '__main__':

@@ -5,15 +5,17 @@ from test_examples import Examples, Exercises
 from test_growth import FullBlocks
 from test_interruptions import Interruptions
 from test_manual import Manual
+from test_module import Module
 from test_pipes import Closed, Streams
 from test_program import Devices, Memory, Program, Stack
 from test_rooms import Rooms
 
 __all__ = ['Closed', 'Conformance', 'Devices', 'Examples', 'Exercises', 'FullBlocks', 'Interruptions', 'Manual',
-           'Memory', 'Program', 'Refused', 'Rooms', 'Stack', 'Streams']
+           'Memory', 'Module', 'Program', 'Refused', 'Rooms', 'Stack', 'Streams']
 
 
 class Refused(test_memory.Refused):
     """The same, with a library of its own in front of the allocator: each refused request for the words ends the
-    program at once, and the last is for the block alone."""
+    program at once, and the last is for the block alone. It asks for no zeroed memory."""
     LINE, ENDS_AT_ONCE, FEWEST, BYTES = test_memory.WORDS_LINE, True, 21, test_memory.CELL
+    WAYS = frozenset({'malloc', 'realloc'})

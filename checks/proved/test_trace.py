@@ -9,7 +9,7 @@ import unittest
 from concurrent.futures import ThreadPoolExecutor
 
 from rows import rows as known
-from trac import PROGRAM, TRACER, instructions, trace
+from trac import PROGRAM, TRACER, instructions, trace, traced
 
 # A run over no input: the step, its rule, the size before it, its need, the active string after it.
 NOTHING = [
@@ -47,20 +47,13 @@ HELLO = [
 DEFINED = [(9, 9, 17), (10, 14, 14), (17, 13, 17), (18, 10, 9), (19, 5, 16), (27, 14, 13)]
 
 
-def rows(lines):
-    """The steps of a trace: number, rule, size, need, neutral and active string."""
-    return [(int(line[:6]), line[8:21].rstrip(), int(line[21:27]), int(line[27:33]),
-             *line[35:].split('|', 1))
-            for line in lines if re.match(r' *\d+  [a-z]', line)]
-
-
 def later(steps, more):
     return [(number + more, *rest) for number, *rest in steps]
 
 
 class Tables(unittest.TestCase):
     def compare(self, lines, wanted):
-        got = rows(lines)
+        got = traced(lines)
         self.assertEqual(len(got), len(wanted))
         for (number, rule, size, need, _, active), row in zip(got, wanted):
             with self.subTest(step=number):
@@ -81,10 +74,10 @@ class Tables(unittest.TestCase):
 
     def test_a_form(self):
         found = {number: (size, need)
-                 for number, _, size, need, _, _ in rows(trace(b"#(ds,A,b)'")[0])}
+                 for number, _, size, need, _, _ in traced(trace(b"#(ds,A,b)'")[0])}
         for number, size, need in DEFINED:
             self.assertEqual(found[number], (size, need))
-        found = {number: need for number, _, _, need, _, _ in rows(trace(b"#(ds,A,b)'" * 3)[0])}
+        found = {number: need for number, _, _, need, _, _ in traced(trace(b"#(ds,A,b)'" * 3)[0])}
         self.assertEqual([found[number] for number in (17, 27, 35, 45, 53)], [17, 22, 22, 22, 22])
 
 
@@ -208,15 +201,15 @@ class Views(unittest.TestCase):
                 lines, status = trace(b"#(ps,hello)'", *words)
                 self.assertEqual(status, 0)
                 self.assertEqual((lines[0], lines[-1]), (whole[0], whole[-1]))
-                self.assertEqual([row[0] for row in rows(lines)], list(range(first, last + 1)))
-                self.assertEqual(rows(lines), rows(whole)[first - 1:last])
+                self.assertEqual([row[0] for row in traced(lines)], list(range(first, last + 1)))
+                self.assertEqual(traced(lines), traced(whole)[first - 1:last])
 
     def test_calls(self):
         lines, status = trace(SCRIPT, '--calls')
         self.assertEqual((lines[0], status), ('  step  call', 0))
         self.assertEqual(outside_idling(line[8:] for line in lines[1:-1]), CALLED)
         numbers = [int(line[:6]) for line in lines[1:-1]]
-        ended = [row[0] for row in rows(trace(SCRIPT)[0]) if row[1] == 'end of call']
+        ended = [row[0] for row in traced(trace(SCRIPT)[0]) if row[1] == 'end of call']
         self.assertEqual(numbers, ended)
 
     def test_forms(self):
@@ -237,10 +230,10 @@ class Views(unittest.TestCase):
 
     def test_strings_of_steps_that_are_cut(self):
         lines, _ = trace(b"#(ps,0123456789)'", '--width', '8')
-        self.assertEqual(rows(lines)[0][4:], ('', '#(ps .. rs))'))
-        self.assertIn(('<#>ps<,> .. 6789', '))'), [row[4:] for row in rows(lines)])
+        self.assertEqual(traced(lines)[0][4:], ('', '#(ps .. rs))'))
+        self.assertIn(('<#>ps<,> .. 6789', '))'), [row[4:] for row in traced(lines)])
         whole, _ = trace(b"#(ps,0123456789)'", '--width', '0')
-        self.assertIn(('<#>ps<,><#>ps<,>0123456789', '))'), [row[4:] for row in rows(whole)])
+        self.assertIn(('<#>ps<,><#>ps<,>0123456789', '))'), [row[4:] for row in traced(whole)])
         # so much of a string is shown, however long it grows
         grows = b"#(ds,L,(x#(cl,L)x))#(cl,L)'"
         lines, status = trace(grows, '--steps', '20000', '--cells', '1000000')

@@ -39,13 +39,14 @@ trac_report trac_check(trac_cell *block, size_t cells, uint64_t steps, const voi
 #endif
 
 #ifndef TRAC_CHECK_ALONE
-/* The words of a machine: the engine's, a mark of one that was opened, and how often it was changed. */
-enum { ENGINE_WORDS = 11, MARK = 11, CHANGES = 12 };
+/* The words of a machine: the engine's, a mark of one that was opened, a stamp that each change makes anew, and the
+ * address of its block. */
+enum { ENGINE_WORDS = 11, MARK = 11, STAMP = 12, BLOCK = 13 };
 static const uint64_t OPENED = UINT64_C(0x74726163743634A7);
 
-/* The words of a place in the list of forms: a copy of the engine's, which keeps in mind where the form begins; the
- * machine's address; how often that was changed then; and the number of the form, from 1, 0 before the first. */
-enum { OF_MACHINE = 11, OF_CHANGES = 12, NUMBER = 13 };
+/* The words of a place in the list of forms: the machine's address; its stamp then; and the number of the form, from 1,
+ * 0 before the first. */
+enum { OF_MACHINE, OF_STAMP, NUMBER };
 
 struct aligned_machine {
     char before;
@@ -67,13 +68,28 @@ static int is_opened(const trac_machine *machine) { return is_place(machine) && 
 /* The machine, for an export that leaves it as it is. */
 static void *seen(const trac_machine *machine) { return (void *)(uintptr_t)machine; }
 
-/* A form's place that is still one: the machine's copy in it. Null where it is none. */
+/* Makes a machine's stamp anew, of what it was and a number: no two states of machines have the same one, but by a
+ * chance of 1 to 2^64. So no place of before is taken for one of now, by a machine that was opened or copied over these
+ * words neither. The steps are those of the generator SplitMix64. */
+static void stamp(trac_machine *machine, uint64_t number) {
+    uint64_t x = (machine->words[STAMP] ^ number) + UINT64_C(0x9E3779B97F4A7C15);
+    x = (x ^ x >> 30) * UINT64_C(0xBF58476D1CE4E5B9);
+    x = (x ^ x >> 27) * UINT64_C(0x94D049BB133111EB);
+    machine->words[STAMP] = x ^ x >> 31;
+}
+
+/* Whether a place in the list of forms is one of this machine as it is now. */
+static int is_current(const trac_form *form, const trac_machine *machine) {
+    return form->words[OF_MACHINE] == number_of(machine) && form->words[OF_STAMP] == machine->words[STAMP];
+}
+
+/* The machine that has a form at this place. Null where the place is none any more. */
 static void *found(const trac_form *form) {
     const trac_machine *machine;
     if (!is_place(form) || !form->words[NUMBER])
         return NULL;
     machine = (const trac_machine *)(uintptr_t)form->words[OF_MACHINE];
-    return is_opened(machine) && machine->words[CHANGES] == form->words[OF_CHANGES] ? (void *)(uintptr_t)form : NULL;
+    return is_opened(machine) && is_current(form, machine) ? seen(machine) : NULL;
 }
 
 static uint32_t *laid_to(uint32_t *codes) { return codes ? codes : (uint32_t *)(uintptr_t)&NOTHING; }
@@ -100,24 +116,68 @@ const char *trac_rule_name(uint32_t rule) {
     return rule < sizeof names / sizeof *names ? names[rule] : "?";
 }
 
+static int can_run(const trac_cell *block, size_t cells, const void *script, size_t script_length, const void *output,
+                   size_t output_length) {
+    return is_block(block, cells) && are_bytes(script, script_length) && are_bytes(output, output_length);
+}
+
 trac_report trac_run(trac_cell *block, size_t cells, uint64_t steps, const void *script, size_t script_length,
                      void *output, size_t output_length) {
     trac_cell no_cell;
-    if (!is_block(block, cells) || !are_bytes(script, script_length) || !are_bytes(output, output_length))
+    if (!can_run(block, cells, script, script_length, output, output_length))
         return refused;
     return trac_engine_run(block ? block : &no_cell, cells, steps, read_from(script), script_length,
                            written_to(output), output_length);
 }
 
-uint32_t trac_open(trac_machine *machine, trac_cell *block, size_t cells, uint64_t steps) {
-    if (!is_place(machine))
+trac_report trac_run_zeroed(trac_cell *block, size_t cells, uint64_t steps, const void *script, size_t script_length,
+                            void *output, size_t output_length) {
+    trac_cell no_cell;
+    if (!can_run(block, cells, script, script_length, output, output_length))
+        return refused;
+    return trac_engine_run_zeroed(block ? block : &no_cell, cells, steps, read_from(script), script_length,
+                                  written_to(output), output_length);
+}
+
+/* Opens a machine by an export, where its words and its block can be used. */
+static uint32_t open_by(uint32_t (*opens)(void *, void *, size_t, uint64_t), trac_machine *machine, trac_cell *block,
+                        size_t cells, uint64_t steps) {
+    if (!is_place(machine) || !is_block(block, cells) || cells > TRAC_MOST_CELLS ||
+        trac_engine_machine_size() > ENGINE_WORDS * sizeof(uint64_t) || trac_engine_cell_size() != sizeof(trac_cell))
         return TRAC_REFUSED;
-    machine->words[MARK] = 0;
-    if (!is_block(block, cells) || trac_engine_machine_size() > ENGINE_WORDS * sizeof(uint64_t) ||
-        trac_engine_open(machine, block ? (void *)block : (void *)machine, cells, steps))
-        return TRAC_REFUSED;
+    if (!is_opened(machine))
+        machine->words[STAMP] = number_of(machine) ^ steps;
+    stamp(machine, number_of(block) ^ cells);
+    machine->words[BLOCK] = number_of(block);
     machine->words[MARK] = OPENED;
-    machine->words[CHANGES] = 0;
+    return opens(machine, block ? (void *)block : (void *)machine, cells, steps);
+}
+
+uint32_t trac_open(trac_machine *machine, trac_cell *block, size_t cells, uint64_t steps) {
+    return open_by(trac_engine_open, machine, block, cells, steps);
+}
+
+uint32_t trac_open_zeroed(trac_machine *machine, trac_cell *block, size_t cells, uint64_t steps) {
+    return open_by(trac_engine_open_zeroed, machine, block, cells, steps);
+}
+
+/* Puts the address of a machine's block to where the engine keeps it: that is where two machines of no cells differ, of
+ * which one was opened at the old address and one at the new one. */
+static void put_address(trac_machine *machine, void *old_block, void *block) {
+    trac_machine before = TRAC_NO_MACHINE, after = TRAC_NO_MACHINE;
+    (void)trac_engine_open(&before, old_block, 0, 0);
+    (void)trac_engine_open(&after, block, 0, 0);
+    for (int i = 0; i < ENGINE_WORDS; i++)
+        if (machine->words[i] == before.words[i])
+            machine->words[i] = after.words[i];
+}
+
+uint32_t trac_moved(trac_machine *machine, trac_cell *block) {
+    if (!is_opened(machine) || !block || !machine->words[BLOCK] || !is_aligned(block, sizeof(uint32_t)))
+        return TRAC_REFUSED;
+    put_address(machine, (void *)(uintptr_t)machine->words[BLOCK], block);
+    machine->words[BLOCK] = number_of(block);
+    stamp(machine, number_of(block));
     return 0;
 }
 
@@ -125,7 +185,7 @@ trac_report trac_turn(trac_machine *machine, const void *input, size_t input_len
                       size_t output_length, uint64_t most) {
     if (!is_opened(machine) || !are_bytes(input, input_length) || !are_bytes(output, output_length))
         return refused;
-    machine->words[CHANGES]++;
+    stamp(machine, most);
     return trac_engine_turn(machine, read_from(input), input_length, written_to(output), output_length, ended != 0,
                             most);
 }
@@ -133,7 +193,7 @@ trac_report trac_turn(trac_machine *machine, const void *input, size_t input_len
 uint32_t trac_again(trac_machine *machine, uint64_t steps) {
     if (!is_opened(machine))
         return TRAC_REFUSED;
-    machine->words[CHANGES]++;
+    stamp(machine, steps);
     trac_engine_again(machine, steps);
     return 0;
 }
@@ -147,19 +207,20 @@ size_t trac_form_count(const trac_machine *machine) {
 }
 
 int trac_next_form(const trac_machine *machine, trac_form *form) {
+    size_t count;
     if (!is_opened(machine) || !is_place(form))
         return 0;
     if (!form->words[NUMBER]) {
-        memcpy(form, machine, ENGINE_WORDS * sizeof(uint64_t));
         form->words[OF_MACHINE] = number_of(machine);
-        form->words[OF_CHANGES] = machine->words[CHANGES];
-    } else if (form->words[OF_MACHINE] != number_of(machine) || form->words[OF_CHANGES] != machine->words[CHANGES]) {
+        form->words[OF_STAMP] = machine->words[STAMP];
+    } else if (!is_current(form, machine)) {
         return 0;
     }
-    if (form->words[NUMBER] > trac_engine_form_count(form))
+    count = trac_engine_form_count(seen(machine));
+    if (form->words[NUMBER] > count)
         return 0;
-    form->words[NUMBER]++;
-    return form->words[NUMBER] <= trac_engine_form_count(form);
+    trac_engine_turn_to_form(seen(machine), (size_t)form->words[NUMBER]++);
+    return form->words[NUMBER] <= count;
 }
 
 /* Which form it is, from 0. Behind the last one there is none. */
@@ -215,6 +276,16 @@ size_t trac_calls(const trac_machine *machine, uint32_t *to, size_t room) {
     if (!is_opened(machine) || !are_codes(to, room))
         return 0;
     return trac_engine_calls(seen(machine), laid_to(to), room);
+}
+
+size_t trac_argument_count(const trac_machine *machine) {
+    return is_opened(machine) ? trac_engine_argument_count(seen(machine)) : 0;
+}
+
+size_t trac_argument(const trac_machine *machine, size_t which, void *to, size_t room) {
+    if (!is_opened(machine) || !are_bytes(to, room))
+        return 0;
+    return trac_engine_argument(seen(machine), which, written_to(to), room);
 }
 
 size_t trac_takes(const trac_machine *machine) { return is_opened(machine) ? trac_engine_takes(seen(machine)) : 0; }

@@ -5,8 +5,8 @@ const char *const FUNCTIONS[] = {"rs", "rc", "cm", "ps", "hl", "ds", "ss", "dd",
                                  "pf", "cl", "cs", "cc", "cn", "in", "cr", "eq", "gr", "ad",
                                  "su", "ml", "dv", "bu", "bi", "bc", "bs", "br", NULL};
 
-/* Those of them that do nothing where the form that they name isn't there. */
-static const char *const OF_FORMS[] = {"ss", "dd", "pf", "cl", "cs", "cc", "cn", "in", "cr", NULL};
+/* Those of them that are a mistake where the form that they name isn't there; to delete such a form is none. */
+static const char *const OF_FORMS[] = {"ss", "pf", "cl", "cs", "cc", "cn", "in", "cr", NULL};
 
 /* The steps that are made at once, between two looks at ^C, and the lines that are said of a string. */
 enum { AT_ONCE = 4096, MOST_LINES = 8 };
@@ -51,38 +51,26 @@ static void note(watch *of, const char *what, const text *name) {
         of->count++;
 }
 
-/* Takes the codes of the innermost call behind its mark, and gives how many they are; 0 where no call is open. */
-static size_t take_arguments(watch *of, const trac_machine *machine) {
-    uint32_t mark;
-    if (!trac_calls(machine, &mark, 1))
-        return 0;
-    const size_t length = trac_neutral_part(machine, (size_t)mark + 1, NULL, 0);
-    of->codes.length = 0;
-    if (!reserve(&of->codes, (length + 1) * sizeof(uint32_t)))
-        return 0;
-    return trac_neutral_part(machine, (size_t)mark + 1, (uint32_t *)(void *)of->codes.bytes, length);
-}
-
-/* The argument that begins there, as bytes; and where the next one begins. */
-static size_t argument(const watch *of, size_t at, size_t end, text *to) {
-    const uint32_t *const codes = (const uint32_t *)(const void *)of->codes.bytes;
+/* Takes an argument of the call that the next step performs. Gives 0 where there is no memory for it. */
+static int take_argument(text *to, const trac_machine *machine, size_t which) {
+    const size_t length = trac_argument(machine, which, NULL, 0);
     to->length = 0;
-    for (; at < end && codes[at] != TRAC_COMMA_MARK; at++) {
-        const uint8_t byte = (uint8_t)codes[at];
-        add_bytes(to, &byte, 1);
-    }
-    return at + 1;
+    if (!reserve(to, length + 1))
+        return 0;
+    to->length = trac_argument(machine, which, to->bytes, length);
+    return 1;
 }
 
 /* Looks at the call that the next step performs. */
 static void look_at_call(watch *of, const trac_machine *machine) {
     int needs_form;
-    const size_t end = take_arguments(of, machine), next = argument(of, 0, end, &of->function);
-    (void)argument(of, next, end, &of->form);
+    if (!take_argument(&of->function, machine, 0))
+        return;
     if (!is_function(of->function.bytes, of->function.length, &needs_form)) {
         if (of->function.length)
             note(of, "no function ", &of->function);
-    } else if (needs_form && !has_form(machine, of->form.bytes, of->form.length, &of->found) && !of->found.is_short) {
+    } else if (needs_form && take_argument(&of->form, machine, 1) &&
+               !has_form(machine, of->form.bytes, of->form.length, &of->found) && !of->found.is_short) {
         note(of, of->form.length ? "no form " : "no form of the null name", &of->form);
     }
 }

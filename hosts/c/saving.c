@@ -4,21 +4,18 @@
  * that makes gaps of these; and calls of `cn` and `cs` that move the pointer. A text is protected by parentheses. What
  * can't stand in them is the value of a neutral call of a form that is there for that alone, and is deleted in the end:
  * a parenthesis without a match, and the meta character, if each that could be chosen stands in a form. All of it is
- * tried in a machine of as many cells, and what doesn't fit there is said. */
+ * loaded into a machine of as many cells first, and what doesn't fit there is said. */
 #include "terminal.h"
-
-#include <fcntl.h>
-#include <sys/stat.h>
 
 /* The characters that stand in forms of their own. */
 typedef enum { LEFT, RIGHT, META, SPECIAL_COUNT } special;
 
 /* What the names of these forms are made of; what may be the meta character of the script, and what may begin a
  * placeholder, the best first. The first is no character of the other two. */
-static const char NAMES[] = "<>\"", METAS[] = "';!|`@&$%?:", BEGINNINGS[] = "~^_*+=-/";
+static const char NAMES[] = LOADING_NAMES, METAS[] = "';!|`@&$%?:", BEGINNINGS[] = "~^_*+=-/";
 
-/* How many those are; and the steps that a string's run takes behind its end, up to the end of the input. */
-enum { BEGINNING_COUNT = sizeof BEGINNINGS - 1, STEPS_BEHIND = 20 };
+/* How many those are. */
+enum { BEGINNING_COUNT = sizeof BEGINNINGS - 1 };
 
 /* A script in the making. `marks` has a byte for each of a text: 0, or 1 more than the special character that it is. */
 typedef struct {
@@ -31,6 +28,8 @@ typedef struct {
     int is_used[SPECIAL_COUNT];
     trac_machine trial; /* in which it is tried, where `is_tried` */
     int is_tried;
+    size_t tried; /* the length of what was tried */
+    int is_told;  /* whether it was said that something didn't fit */
     size_t cells;
     uint64_t steps;
 } saving;
@@ -127,16 +126,21 @@ static void begin_call(saving *of, const char *beginning) {
 
 /* ---- Strings. */
 
-/* Ends a string of the script that begins there. Gives whether it does all in the trial that it is to do. */
-static int end_string(saving *of, size_t from) {
+/* Runs in the trial what was added since the last time, as loading runs it: with the line feeds between strings. Gives
+ * whether it is run to its end. */
+static int try_added(saving *of) {
+    const size_t from = of->tried;
+    of->tried = of->script.length;
+    return !of->is_tried || of->script.is_short ||
+           run_saved(&of->trial, of->steps, of->script.bytes + from, of->tried - from, 0) == TRAC_GOING;
+}
+
+/* Ends a string of the script. Gives whether it is run to its end in the trial. */
+static int end_string(saving *of) {
     add_bytes(&of->script, &of->meta, 1);
+    const int is_run = try_added(of);
     add_text(&of->script, "\n");
-    if (!of->is_tried || of->script.is_short)
-        return 1;
-    (void)trac_again(&of->trial, of->steps + STEPS_BEHIND);
-    const trac_report report =
-        trac_turn(&of->trial, of->script.bytes + from, of->script.length - from, 1, NULL, 0, UINT64_MAX);
-    return report.fate == TRAC_INPUT_ENDED;
+    return is_run;
 }
 
 /* ---- Gaps. */
@@ -281,22 +285,19 @@ static void add_pointer(saving *of, size_t pointer) {
 static int define(saving *of, size_t pointer) {
     const uint32_t most = greatest_ordinal(of);
     const placeholder written = choose_placeholder(of, most);
-    size_t from = of->script.length;
     write_body(of, &written);
     begin_call(of, "#(ds,");
     add_text(&of->script, ",");
     add_argument(of, of->body.bytes, of->body.length);
     add_text(&of->script, ")");
-    int is_defined = end_string(of, from);
-    from = of->script.length;
+    int is_defined = end_string(of);
     if (most) {
         add_segmenting(of, &written, most);
-        is_defined &= end_string(of, from);
+        is_defined &= end_string(of);
     }
-    from = of->script.length;
     if (pointer) {
         add_pointer(of, pointer);
-        is_defined &= end_string(of, from);
+        is_defined &= end_string(of);
     }
     return is_defined;
 }
@@ -310,7 +311,23 @@ static void say_undefined(saving *of) {
     free(name.bytes);
     begin_call(of, "#(,(More cells or steps than there were are needed to define the form )");
     add_text(&of->script, ")");
-    (void)end_string(of, of->script.length);
+    (void)end_string(of);
+    of->is_told = 1;
+}
+
+/* Says that a part of the script that is no form's takes more cells to be loaded than there are. */
+static void say_not_loadable(saving *of) {
+    text file = {NULL, 0, 0, 0};
+    if (!of->is_told)
+        (void)say_line(DONE, "trac_terminal: %s: more cells or steps are needed to load it\n",
+                       shown_in(&file, of->file, strlen(of->file)));
+    free(file.bytes);
+    of->is_told = 1;
+}
+
+static void end_other_string(saving *of) {
+    if (!end_string(of))
+        say_not_loadable(of);
 }
 
 static void add_forms(saving *of) {
@@ -362,28 +379,27 @@ static void choose_name(saving *of, special which) {
 
 /* Adds a string in which $ stands for the name of a special character's form. */
 static void add_definition(saving *of, special which, const char *written) {
-    const size_t from = of->script.length;
     for (; *written; written++)
         if (*written == '$')
             add_repeated(&of->script, NAMES[which], of->repeats[which]);
         else
             add_bytes(&of->script, written, 1);
-    (void)end_string(of, from);
+    end_other_string(of);
 }
 
-/* Begins the script: what it is, its meta character, and the special characters that are used. */
+/* Begins the script: its first line, its meta character, and the special characters that are used. */
 static void begin_script(saving *of) {
     static const char *const written[] = {"#(ds,$,(()))#(ds,$,##(cc,$))", "#(ds,$,(()))#(,##(cc,$))#(ds,$,##(cc,$))",
                                           "#(cm,~)'#(ds,$,('))#(cm,('))~"};
     const uint8_t meta = of->meta;
+    add_first_line(&of->script);
+    of->tried = of->script.length;
     of->meta = '\'';
-    add_definition(of, META, "#(,(Forms of a session, saved by trac_terminal " TRAC_VERSION "))");
     if (meta != '\'') {
-        const size_t from = of->script.length;
         add_text(&of->script, "#(cm,");
         add_bytes(&of->script, &meta, 1);
         add_text(&of->script, ")");
-        (void)end_string(of, from);
+        end_other_string(of);
     }
     of->meta = meta;
     for (special which = LEFT; which < SPECIAL_COUNT; which++)
@@ -391,7 +407,8 @@ static void begin_script(saving *of) {
             add_definition(of, which, written[which]);
 }
 
-/* Ends the script: the session's meta character, and the forms of the special characters away. */
+/* Ends the script: the session's meta character, the forms of the special characters away, and, in the same string,
+ * which the script's own meta character still ends, the last line. */
 static void finish_script(saving *of) {
     const uint8_t meta = (uint8_t)trac_meta(of->from);
     const size_t from = of->script.length;
@@ -407,20 +424,24 @@ static void finish_script(saving *of) {
             add_text(&of->script, ")");
         }
     }
-    if (of->script.length > from)
-        (void)end_string(of, from);
+    if (of->script.length > from) {
+        if (!try_added(of))
+            say_not_loadable(of);
+        add_text(&of->script, "\n");
+    }
+    add_last_line(&of->script, trac_form_count(of->from), of->meta);
 }
 
 /* Writes the script: once to see which special characters are used, and then with their forms. */
 static void write_script(saving *of) {
-    trac_cell *const block = (trac_cell *)malloc(of->cells * sizeof(trac_cell));
+    trac_cell *const block = (trac_cell *)calloc(of->cells, sizeof(trac_cell));
     choose_meta(of);
     for (special which = LEFT; which < SPECIAL_COUNT; which++)
         choose_name(of, which);
     add_forms(of);
     finish_script(of);
     of->script.length = 0;
-    of->is_tried = block && trac_open(&of->trial, block, of->cells, of->steps) == 0;
+    of->is_tried = block && trac_open_zeroed(&of->trial, block, of->cells, of->steps) == 0;
     if (!of->is_tried)
         (void)say_line(DONE, "trac_terminal: no memory to try the script that is saved\n");
     begin_script(of);
@@ -437,54 +458,14 @@ static void say_not_saved(const char *name, const char *why) {
     free(shown.bytes);
 }
 
-/* Whether a script was put into a file: not, since that can't be opened; not, since the write failed; it was. */
-typedef enum { NOT_OPENED, NOT_WRITTEN, PUT } putting;
-
-/* Puts a script into a file, opened so, with the permissions of another one where that is there. */
-static putting put(const char *path, const text *script, int how, const struct stat *like) {
-    const int file = open(path, O_WRONLY | O_CREAT | O_CLOEXEC | how, 0666);
-    if (file < 0)
-        return NOT_OPENED;
-    if (like)
-        (void)fchmod(file, like->st_mode & 0777);
-    const int is_written = write_all(file, script->bytes, script->length), why = errno;
-    const int is_closed = close(file) == 0;
-    errno = is_written ? errno : why;
-    return is_written && is_closed ? PUT : NOT_WRITTEN;
-}
-
-/* Puts a script into a new file beside that of this name, which then takes its place: so what was there is lost only
- * when the new one is there. What is no plain file is written to, and so is one beside which none can be. */
-static int put_in_place(const char *name, const text *script) {
-    struct stat there;
-    char number[40];
-    text beside = {NULL, 0, 0, 0};
-    const int is_there = lstat(name, &there) == 0, is_plain_file = !is_there || S_ISREG(there.st_mode);
-    (void)snprintf(number, sizeof number, ".%ld", (long)getpid());
-    add_text(&beside, name);
-    add_text(&beside, number);
-    add_bytes(&beside, "", 1);
-    const char *const path = (const char *)beside.bytes;
-    putting became = NOT_OPENED;
-    if (is_plain_file && !beside.is_short)
-        became = put(path, script, O_EXCL, is_there ? &there : NULL);
-    if (became == PUT && rename(path, name) != 0)
-        became = NOT_WRITTEN;
-    const int why = errno;
-    if (became == NOT_WRITTEN)
-        (void)unlink(path);
-    errno = why;
-    free(beside.bytes);
-    return became == NOT_OPENED ? put(name, script, O_TRUNC, NULL) == PUT : became == PUT;
-}
-
 int save_forms(const trac_machine *machine, size_t cells, uint64_t steps, const char *name) {
     static const text none = {NULL, 0, 0, 0};
-    saving of = {machine, name, none, none, none, none, none, 0, {0, 0, 0}, {0, 0, 0}, {{0}}, 0, cells, steps};
+    saving of = {machine, name, none, none, none, none, none, 0, {0, 0, 0}, {0, 0, 0}, {{0}}, 0, 0, 0,
+                 cells, steps};
     write_script(&of);
     const int is_short =
         of.script.is_short || of.name.is_short || of.codes.is_short || of.body.is_short || of.marks.is_short;
-    const int is_saved = !is_short && put_in_place(name, &of.script);
+    const int is_saved = !is_short && replace_file(name, &of.script);
     if (!is_saved)
         say_not_saved(name, is_short ? strerror(ENOMEM) : strerror(errno));
     free(of.script.bytes);

@@ -7,10 +7,12 @@
 #include <locale.h>
 
 /* The bytes of a read; the room beside a print, to measure it once; the longest end of a line that is kept in mind. */
-enum { CHUNK = 8192, MORE = 16, LONGEST_END = 80 };
+enum { CHUNK = 8192, MORE = 16, LONGEST_END = 4000 };
 
-/* A fate beside those of the engine: ^C stopped the run. There is no memory: TRAC_REFUSED. */
+/* Fates beside those of the engine: ^C stopped the run; a saved session can't be loaded. There is no memory:
+ * TRAC_REFUSED. */
 #define STOPPED 100u
+#define NOT_LOADED 101u
 
 static const char HELP[] =
     "Runs files, and then the TRAC T-64 strings that are typed, each with its own steps\n\n"
@@ -61,9 +63,10 @@ typedef struct {
     size_t string_line, string_column;
 } source;
 
-/* A session: the machine, and what it prints to. */
+/* A session: the machine, its block, and what it prints to. */
 typedef struct {
     trac_machine machine;
+    trac_cell *block;
     text print;
     char end[LONGEST_END + 1]; /* what was printed since the last line end, where it isn't longer */
     size_t end_length;         /* its whole length */
@@ -168,8 +171,9 @@ static reading type_more(session *of, source *from) {
         return type_line(&from->bytes, missing, 0, &from->has_ended);
     if (!from->has_read)
         return type_first_line(of, from);
-    of->end[of->end_length <= LONGEST_END ? of->end_length : 0] = 0;
-    const reading became = type_line(&from->bytes, of->end, 1, &from->has_ended);
+    const int is_kept = of->end_length <= LONGEST_END;
+    of->end[is_kept ? of->end_length : 0] = 0;
+    const reading became = type_line(&from->bytes, is_kept ? of->end : NULL, 1, &from->has_ended);
     of->end_length = 0;
     return became;
 }
@@ -367,6 +371,8 @@ static int ends_source(const source *from, uint32_t fate) {
 static int status_of(uint32_t fate) {
     static const int statuses[] = {DONE,         DONE,          DONE, WORKSPACE, STEPS,
                                    INPUT_FAILED, OUTPUT_FAILED, DONE, DONE,      NO_MEMORY};
+    if (fate == NOT_LOADED)
+        return OUTPUT_FAILED;
     return fate < sizeof statuses / sizeof *statuses ? statuses[fate] : DONE;
 }
 
@@ -393,38 +399,56 @@ static uint32_t run_strings(session *of, source *from, int *worst) {
     }
 }
 
-/* Runs a file, behind a first line that begins with `#!`. A line end is put after what it printed. Gives the fate of
- * its last string, or TRAC_INPUT_FAILED where it can't be read. */
-static uint32_t run_file(session *of, const char *name, int *worst) {
-    source from = {name, 0, {NULL, 0, 0, 0}, 0, 1, 0, 0, 1, 1, 1, 1};
-    uint32_t fate = TRAC_INPUT_FAILED;
-    if (read_file(&from.bytes, name)) {
-        pass(&from, head_length(&from.bytes));
-        fate = run_strings(of, &from, worst);
-        fate = fate != TRAC_OUTPUT_FAILED && !end_line(of) ? TRAC_OUTPUT_FAILED : fate;
-    } else {
-        say_not_read(name);
-    }
-    free(from.bytes.bytes);
-    *worst = status_of(fate) > *worst ? status_of(fate) : *worst;
-    return fate;
-}
-
-/* What became of the files: the worst status, whether one couldn't be read, and whether more may be run. */
+/* What became of the files: the worst status, whether one wasn't read or loaded, and whether more may be run. */
 typedef struct {
     int worst, is_unread, goes_on;
 } outcome;
 
+/* Loads a saved session. Gives TRAC_GOING, or the fate that kept all of it from being defined. */
+static uint32_t load(session *of, source *from) {
+    static const uint32_t fates[] = {TRAC_GOING, NOT_LOADED, NOT_LOADED, TRAC_WORKSPACE, TRAC_STEPS,
+                                     TRAC_REFUSED, STOPPED, NOT_LOADED};
+    const loading became = load_session(&of->machine, of->block, (size_t)options[CELLS].number,
+                                        options[ALLOWANCE].number, unread(from), unread_length(from));
+    if (became == LOADING_STOPPED) {
+        (void)stop(of);
+        drop_typed(from);
+    }
+    if (became != LOADED)
+        say_not_loaded(from->name, became);
+    return fates[became];
+}
+
+/* Runs the strings of a file, or loads it where it is a saved session, behind a first line that begins with `#!`. A
+ * line end is put after what it printed. Gives the fate of its last string, or TRAC_INPUT_FAILED where it can't be
+ * read. */
+static uint32_t run_file(session *of, const char *name, outcome *became) {
+    source from = {name, 0, {NULL, 0, 0, 0}, 0, 1, 0, 0, 1, 1, 1, 1};
+    uint32_t fate = TRAC_INPUT_FAILED;
+    if (!read_file(&from.bytes, name)) {
+        say_not_read(name);
+    } else {
+        pass(&from, head_length(&from.bytes));
+        const int is_saved = is_saved_session(unread(&from), unread_length(&from));
+        fate = is_saved ? load(of, &from) : run_strings(of, &from, &became->worst);
+        became->is_unread |= is_saved && fate != TRAC_GOING;
+        fate = fate != TRAC_OUTPUT_FAILED && !end_line(of) ? TRAC_OUTPUT_FAILED : fate;
+    }
+    free(from.bytes.bytes);
+    became->is_unread |= fate == TRAC_INPUT_FAILED;
+    became->worst = status_of(fate) > became->worst ? status_of(fate) : became->worst;
+    return fate;
+}
+
 /* Runs the files. Nothing more is run where the output failed, there is no memory, or, unless the files are run by
- * themselves, a file can't be read. */
+ * themselves, a file can't be read or loaded. */
 static outcome run_files(session *of, const command *given) {
     outcome became = {DONE, 0, 1};
     uint32_t fate = TRAC_GOING;
     for (size_t i = 0; fate != STOPPED && became.goes_on && i < given->file_count; i++) {
-        fate = run_file(of, given->files[i], &became.worst);
-        became.is_unread |= fate == TRAC_INPUT_FAILED;
-        became.goes_on =
-            fate != TRAC_OUTPUT_FAILED && fate != TRAC_REFUSED && (fate != TRAC_INPUT_FAILED || options[BATCH].number);
+        fate = run_file(of, given->files[i], &became);
+        became.goes_on = fate != TRAC_OUTPUT_FAILED && fate != TRAC_REFUSED &&
+                         (!became.is_unread || fate == STOPPED || options[BATCH].number);
     }
     return became;
 }
@@ -477,10 +501,11 @@ int main(int count, char **words) {
     options[CELLS].number = options[CELLS].number ? options[CELLS].number : 65536;
     options[ALLOWANCE].number = options[ALLOWANCE].number ? options[ALLOWANCE].number : 1000000;
     const size_t cells = (size_t)options[CELLS].number;
-    trac_cell *const block = (trac_cell *)malloc(cells * sizeof(trac_cell));
+    trac_cell *const block = (trac_cell *)calloc(cells, sizeof(trac_cell));
     if (block && options[CHECK].number)
         return check_files(given.files, given.file_count, block, cells, options[ALLOWANCE].number);
-    if (!block || trac_open(&all.machine, block, cells, options[ALLOWANCE].number))
+    if (!block || trac_open_zeroed(&all.machine, block, cells, options[ALLOWANCE].number))
         return say_line(NO_MEMORY, "trac: no memory for %zu cells\n", cells);
+    all.block = block;
     return run_all(&all, &given);
 }

@@ -2,7 +2,7 @@
 #ifndef TERMINAL_H
 #define TERMINAL_H
 
-#define _POSIX_C_SOURCE 200809L
+#define _XOPEN_SOURCE 700
 #include "trac.h"
 #include "words.h"
 
@@ -25,8 +25,8 @@ void add_bytes(text *to, const void *from, size_t length);
 /* The same, of a text that ends with a null byte. */
 void add_text(text *to, const char *from);
 
-/* Adds bytes for a reader: a control byte, a reverse solidus and what is no character of UTF-8 as in the lines of
- * trac_trace, `\n` or `\x1b`. */
+/* Adds bytes for a reader: control characters, those of the writing direction, a reverse solidus and what is no
+ * character of UTF-8 as in the lines of trac_trace, `\n` or `\x1b`. */
 void add_shown(text *to, const void *from, size_t length);
 
 /* The same as a text that ends with a null byte, which stays good as long as `to`; `..` where there is no memory. */
@@ -62,7 +62,7 @@ int is_function(const uint8_t *name, size_t length, int *needs_form);
 typedef struct {
     text lines;
     unsigned count;
-    text codes, function, form, found;
+    text function, form, found;
 } watch;
 
 void begin_watch(watch *of);
@@ -84,8 +84,53 @@ extern volatile sig_atomic_t is_interrupted;
 void begin_typing(const trac_machine *machine);
 
 /* Adds a line with its line feed. At the end of the input nothing is added and `*has_ended` becomes 1. The prompt is
- * shown, unless it stands on the screen already. */
+ * shown, unless it stands on the screen already; one that does and is too long to be given is a null pointer. */
 reading type_line(text *to, const char *prompt, int is_shown, int *has_ended);
+
+/* ---- Files that take the place of others: replacing.c. */
+
+/* Puts a content into a file in the place of what it holds, which is there until all of the new one is on the disk: a
+ * new file is made beside it, and beside the one that it is a link to. What is no plain file is written to, and so is
+ * one that the output goes to, behind its end. Gives 0, and why in errno, where that can't be; what was there stays. A
+ * file that may not be written to isn't replaced. */
+int replace_file(const char *name, const text *content);
+
+/* ---- Sessions that were saved: loading.c. */
+
+/* Adds the first line of a saved session, and the last one, whose checksum is that of all that stands in the text. */
+void add_first_line(text *to);
+void add_last_line(text *to, size_t forms, uint8_t meta);
+
+/* Whether these bytes are a saved session, be it whole or not: one of its two lines stands in them, or they are the
+ * beginning of the first. */
+int is_saved_session(const uint8_t *bytes, size_t length);
+
+/* Runs the strings between these two lines, each with so many steps, up to the first that isn't run to its end. Gives
+ * its fate, and TRAC_GOING where there is none. ^C stops it where it `can_stop`. */
+uint32_t run_saved(trac_machine *on, uint64_t steps, const uint8_t *bytes, size_t length, int can_stop);
+
+/* What the names of the forms are made of that a saved session defines to load it, and deletes in the end. */
+#define LOADING_NAMES "<>\""
+
+/* What became of loading: all was defined, or nothing. */
+typedef enum {
+    LOADED,
+    NOT_WHOLE,
+    OTHER_META,
+    LACKS_CELLS,
+    LACKS_STEPS,
+    LACKS_MEMORY,
+    LOADING_STOPPED,
+    NAME_IS_USED
+} loading;
+
+/* Loads a saved session into a machine over this block, each string with so many steps. Where that can't be, the
+ * machine is as it was before. */
+loading load_session(trac_machine *to, trac_cell *block, size_t cells, uint64_t steps, const uint8_t *bytes,
+                     size_t length);
+
+/* Says why the saved session in a file isn't loaded. */
+void say_not_loaded(const char *name, loading became);
 
 /* ---- Forms as a script: saving.c. */
 

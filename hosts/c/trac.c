@@ -141,8 +141,8 @@ int main(int count, char **words) {
     options[ALLOWANCE].number = options[ALLOWANCE].number ? options[ALLOWANCE].number : 1000000;
     const size_t cells = (size_t)options[CELLS].number, longest = cells + 1;
     sink to = {(uint8_t *)malloc(CHUNK), CHUNK};
-    trac_cell *const block = (trac_cell *)malloc(cells * sizeof(trac_cell) + longest + CHUNK);
-    if (block && to.bytes && trac_open(&machine, block, cells, options[ALLOWANCE].number) == 0) {
+    trac_cell *const block = (trac_cell *)calloc(cells * sizeof(trac_cell) + longest + CHUNK, 1);
+    if (block && to.bytes && trac_open_zeroed(&machine, block, cells, options[ALLOWANCE].number) == 0) {
         source from = {(uint8_t *)(block + cells), 0, 0, 0};
         report = run(&machine, cells, &from, &to);
     }

@@ -7,8 +7,8 @@
  *
  * Conditions that no function can test:
  * - a pointer is good for as many items as are said, and what is lent for writing overlaps nothing else that is lent;
- * - while a machine is used, its trac_machine and its block are touched by its calls alone. Both may be copied, or
- *   moved together, between two calls: a machine keeps the address of its block and no other;
+ * - while a machine is used, its trac_machine and its block are touched by its calls alone. Both may be copied or moved
+ *   between two calls: see trac_moved;
  * - one thread at a time uses a machine. Different machines may be used by different threads at once: the library
  *   has no data of its own that changes, and every function can be called from within a signal handler that
  *   interrupted none of the same machine.
@@ -39,16 +39,26 @@ typedef struct {
     uint32_t words[2];
 } trac_cell;
 
-/* A machine: what is kept between two turns, beside its block. Its words are the library's own. */
+/* A machine: what is kept between two turns, beside its block. Its words are the library's own. Before it is opened
+ * for the first time give it TRAC_NO_MACHINE, words that are 0: what no trac_open has filled is refused everywhere. */
 typedef struct {
     uint64_t words[14];
 } trac_machine;
 
-/* A place in the list of a machine's forms. trac_next_form sets it; TRAC_NO_FORM is the place before the first. */
+/* A place in the list of a machine's forms. trac_next_form sets it; TRAC_NO_FORM is the place before the first. It
+ * holds the address of the machine and two numbers, and nothing of the form. */
 typedef struct {
-    uint64_t words[14];
+    uint64_t words[4];
 } trac_form;
-#define TRAC_NO_FORM {{0}}
+
+/* Values: both begin a variable, and both can be assigned. */
+#ifdef __cplusplus
+#define TRAC_NO_MACHINE trac_machine()
+#define TRAC_NO_FORM trac_form()
+#else
+#define TRAC_NO_MACHINE ((trac_machine){{0}})
+#define TRAC_NO_FORM ((trac_form){{0}})
+#endif
 
 /* How a run or a turn ended: trac_report.fate. */
 #define TRAC_GOING 0u         /* of a turn: all its steps were done, and the run goes on */
@@ -92,6 +102,20 @@ typedef struct {
 #define TRAC_AWAITS_TEXT 1u /* a string, up to the meta character */
 #define TRAC_AWAITS_BYTE 2u
 
+/* How the functions are declared: static with TRAC_STATIC, for a program that includes trac_engine.c and is to have
+ * none of its names; exported with TRAC_EXPORT, where a shared library is built, whatever the compiler hides. */
+#if defined(TRAC_STATIC) && (defined(__GNUC__) || defined(__TINYC__))
+#define TRAC_API static __attribute__((unused))
+#elif defined(TRAC_STATIC)
+#define TRAC_API static
+#elif defined(TRAC_EXPORT) && defined(_WIN32)
+#define TRAC_API __declspec(dllexport)
+#elif defined(TRAC_EXPORT) && defined(__GNUC__)
+#define TRAC_API __attribute__((visibility("default")))
+#else
+#define TRAC_API
+#endif
+
 typedef struct {
     uint32_t fate;   /* how the run or the turn ended */
     uint32_t peak;   /* the greatest need of a step, in cells: the smallest block for the same run */
@@ -105,30 +129,35 @@ typedef struct {
 /* ---- The library. */
 
 /* Its version, as TRAC_VERSION is written. */
-const char *trac_version(void);
+TRAC_API const char *trac_version(void);
 
 /* Whether its header says the same: 1 where these are its TRAC_VERSION_NUMBER but for the patch, and the sizes of
  * trac_machine and of trac_report:
  *
  *     trac_abi(TRAC_VERSION_NUMBER, sizeof(trac_machine), sizeof(trac_report)) */
-int trac_abi(uint32_t version, size_t machine_size, size_t report_size);
+TRAC_API int trac_abi(uint32_t version, size_t machine_size, size_t report_size);
 
 /* "proved" or "generated": which of the two libraries it is. */
-const char *trac_kind(void);
+TRAC_API const char *trac_kind(void);
 
 /* A fate in words, as "input ended"; "refused" for TRAC_REFUSED, and "?" for what is no fate. */
-const char *trac_fate_name(uint32_t fate);
+TRAC_API const char *trac_fate_name(uint32_t fate);
 
 /* A rule in words, as "end of call"; "?" for what is no rule. */
-const char *trac_rule_name(uint32_t rule);
+TRAC_API const char *trac_rule_name(uint32_t rule);
 
 /* ---- Scripts. Where a length is 0 its pointer may be null, also that of a block of no cells. */
 
 /* Runs a script in a block of so many cells, at most TRAC_MOST_CELLS, with an allowance of so many steps. What it
  * prints goes to the front of `output`. The block may hold anything; afterwards it is the caller's again, and its
  * contents are unspecified. */
-trac_report trac_run(trac_cell *block, size_t cells, uint64_t steps, const void *script, size_t script_length,
-                     void *output, size_t output_length);
+TRAC_API trac_report trac_run(trac_cell *block, size_t cells, uint64_t steps, const void *script, size_t script_length,
+                              void *output, size_t output_length);
+
+/* Runs a script as trac_run does, in a block each byte of which is 0, as calloc gives it. Nothing is written to cells
+ * that the run doesn't use, so a great block costs no time. Another block is a mistake that is not found. */
+TRAC_API trac_report trac_run_zeroed(trac_cell *block, size_t cells, uint64_t steps, const void *script,
+                                     size_t script_length, void *output, size_t output_length);
 
 /* Runs a script as trac_run does, and puts what is suspicious in it to the front of `lines`, as much as fits: a line
  * for each place, as "line 2, column 5: no function has the name pss", in the order of their places, and behind them
@@ -136,12 +165,27 @@ trac_report trac_run(trac_cell *block, size_t cells, uint64_t steps, const void 
  * dropped, and `consumed` is 0. The lists that this needs stand in `memory`, of which nothing is used afterwards; a
  * megabyte is enough for most scripts. The engine in C leaves this function out with -DTRAC_WITHOUT_CHECK, and all the
  * others with -DTRAC_CHECK_ALONE. */
-trac_report trac_check(trac_cell *block, size_t cells, uint64_t steps, const void *script, size_t script_length,
-                       void *memory, size_t memory_length, void *lines, size_t lines_length);
+#if !defined(TRAC_STATIC) || !defined(TRAC_WITHOUT_CHECK)
+TRAC_API trac_report trac_check(trac_cell *block, size_t cells, uint64_t steps, const void *script,
+                                size_t script_length, void *memory, size_t memory_length, void *lines,
+                                size_t lines_length);
+#endif
 
 /* Makes a machine without forms over a block of so many cells, with an allowance of so many steps. Gives 0, and the
- * block is then the machine's until it is used no more; or TRAC_REFUSED, and the block wasn't touched. */
-uint32_t trac_open(trac_machine *machine, trac_cell *block, size_t cells, uint64_t steps);
+ * block is then the machine's until it is used no more; or TRAC_REFUSED, and neither the block nor the machine was
+ * touched: one that was open is open as before. */
+TRAC_API uint32_t trac_open(trac_machine *machine, trac_cell *block, size_t cells, uint64_t steps);
+
+/* Makes a machine as trac_open does, over a block each byte of which is 0, as calloc gives it; writes nothing to it.
+ * Another block is a mistake that is not found. */
+TRAC_API uint32_t trac_open_zeroed(trac_machine *machine, trac_cell *block, size_t cells, uint64_t steps);
+
+/* Tells a machine where its block is now. Call it where the block, or a copy of the machine with a copy of the block,
+ * stands at another address than the machine was last told, before anything else is asked of it: without it the machine
+ * reads and writes the cells at the old address. The block has as many cells as before, and holds what it held. The
+ * machine's own words may be moved or copied without it. Places in the list of its forms are none any more. Gives 0; or
+ * TRAC_REFUSED, and nothing has changed. */
+TRAC_API uint32_t trac_moved(trac_machine *machine, trac_cell *block);
 
 /* A turn: makes steps, at most `most`, over these bytes of input, behind which the input ends where `ended` is not 0.
  * What it prints goes to the front of `output`. Bytes that were not consumed are given again at the next turn, with
@@ -153,17 +197,17 @@ uint32_t trac_open(trac_machine *machine, trac_cell *block, size_t cells, uint64
  * TRAC_WANTS_OUTPUT: the next step prints `wanted` bytes, more than there is room for behind those written; nothing was
  * done of it. Else the run is over: each later turn that may make a step gives the same fate, until trac_again. The
  * steps and the peak are those of the whole run so far. */
-trac_report trac_turn(trac_machine *machine, const void *input, size_t input_length, int ended, void *output,
-                      size_t output_length, uint64_t most);
+TRAC_API trac_report trac_turn(trac_machine *machine, const void *input, size_t input_length, int ended, void *output,
+                               size_t output_length, uint64_t most);
 
 /* Clears both strings of a machine, with the calls that are open, and begins a new run with an allowance of so many
  * steps: the steps and the peak count from 0. The forms with their pointers and the meta character stay. Gives 0, or
  * TRAC_REFUSED. */
-uint32_t trac_again(trac_machine *machine, uint64_t steps);
+TRAC_API uint32_t trac_again(trac_machine *machine, uint64_t steps);
 
 /* The peak of a machine, in cells, which then counts from 0 again: called after each step it tells what that step
  * needed. 0 where the machine can't be used. */
-uint32_t trac_take_peak(trac_machine *machine);
+TRAC_API uint32_t trac_take_peak(trac_machine *machine);
 
 /* ---- What a machine shows of itself. None of these functions changes it.
  *
@@ -172,70 +216,78 @@ uint32_t trac_take_peak(trac_machine *machine);
  * where there is no form, the answer is 0. */
 
 /* How many forms there are. */
-size_t trac_form_count(const trac_machine *machine);
+TRAC_API size_t trac_form_count(const trac_machine *machine);
 
 /* Goes to the next form, in the order of definition, and gives 1; gives 0 behind the last. To list all forms:
  *
  *     trac_form form = TRAC_NO_FORM;
  *     while (trac_next_form(machine, &form)) ...
  *
- * A place is good until the machine's next trac_turn or trac_again: then it is no form's any more, and this gives 0.
- * Begin anew after trac_open. */
-int trac_next_form(const trac_machine *machine, trac_form *form);
+ * A place is good until the machine's next trac_turn, trac_again, trac_moved or trac_open: then it is no form's any
+ * more, and this gives 0. It is good while the machine's words stay where they are. */
+TRAC_API int trac_next_form(const trac_machine *machine, trac_form *form);
 
 /* The name of a form. */
-size_t trac_form_name(const trac_form *form, void *to, size_t room);
+TRAC_API size_t trac_form_name(const trac_form *form, void *to, size_t room);
 
 /* A form as `pf` displays it: characters as they are, a gap as its ordinal in angle brackets, <^> at the pointer. */
-size_t trac_form_text(const trac_form *form, void *to, size_t room);
+TRAC_API size_t trac_form_text(const trac_form *form, void *to, size_t room);
 
 /* The body of a form, item by item: a byte as it is, the gap with ordinal N as 255 + N. */
-size_t trac_form_codes(const trac_form *form, uint32_t *to, size_t room);
+TRAC_API size_t trac_form_codes(const trac_form *form, uint32_t *to, size_t room);
 
 /* How many items of a form stand in front of its pointer. */
-size_t trac_form_pointer(const trac_form *form);
+TRAC_API size_t trac_form_pointer(const trac_form *form);
 
 /* The neutral string: the base text, and then for each open call, the outermost first, its mark and its arguments with
  * comma marks between. A byte as it is, a mark as one of the codes above. */
-size_t trac_neutral(const trac_machine *machine, uint32_t *to, size_t room);
+TRAC_API size_t trac_neutral(const trac_machine *machine, uint32_t *to, size_t room);
 
 /* The active string, the next character first. It has no marks. */
-size_t trac_active(const trac_machine *machine, uint32_t *to, size_t room);
+TRAC_API size_t trac_active(const trac_machine *machine, uint32_t *to, size_t room);
 
 /* The same strings from a place on, counted in codes from 0: the answer is how many codes there are from there on, 0
  * behind the end. */
-size_t trac_neutral_part(const trac_machine *machine, size_t from, uint32_t *to, size_t room);
-size_t trac_active_part(const trac_machine *machine, size_t from, uint32_t *to, size_t room);
+TRAC_API size_t trac_neutral_part(const trac_machine *machine, size_t from, uint32_t *to, size_t room);
+TRAC_API size_t trac_active_part(const trac_machine *machine, size_t from, uint32_t *to, size_t room);
 
 /* The open calls, the innermost first: the place at which the mark of each stands in the neutral string, counted in
  * codes from 0. The arguments of a call stand behind its mark, up to that of the next call or to the end. */
-size_t trac_calls(const trac_machine *machine, uint32_t *to, size_t room);
+TRAC_API size_t trac_calls(const trac_machine *machine, uint32_t *to, size_t room);
+
+/* How many arguments the call has that the next step performs, its name counted, and null ones: one more than it has
+ * comma marks. 0 where that step performs no call, where the run is over, and where the allowance is used up. */
+TRAC_API size_t trac_argument_count(const trac_machine *machine);
+
+/* An argument of the call that the next step performs: 0 is the name. Its bytes are those that the call gets, after all
+ * calls in it. 0 where there is no such argument. */
+TRAC_API size_t trac_argument(const trac_machine *machine, size_t which, void *to, size_t room);
 
 /* How many characters the next step takes from the front of the active string: the 2 or 3 that open a call; a text in
  * parentheses with both of them; all, where a left parenthesis has no match; none of an empty string; and else 1. */
-size_t trac_takes(const trac_machine *machine);
+TRAC_API size_t trac_takes(const trac_machine *machine);
 
 /* How many characters the next step drops: all of an active string that begins with a left parenthesis that has no
  * match, and else none. */
-size_t trac_drops(const trac_machine *machine);
+TRAC_API size_t trac_drops(const trac_machine *machine);
 
 /* How many steps come before the next one at a right parenthesis, which performs a call where one is open, or at an
  * empty active string; at most `most`. None of them performs a call, reads or prints. They are counted as if the
  * allowance had no end. */
-uint64_t trac_steps_to_call(const trac_machine *machine, uint64_t most);
+TRAC_API uint64_t trac_steps_to_call(const trac_machine *machine, uint64_t most);
 
 /* The rule that the next step follows, unless the run is over or ends before it: TRAC_RULE_..; or TRAC_REFUSED. */
-uint32_t trac_rule(const trac_machine *machine);
+TRAC_API uint32_t trac_rule(const trac_machine *machine);
 
 /* The cells of a part of the block, TRAC_PART_..; 0 of any other number. Together they are the cells of the block. */
-size_t trac_part(const trac_machine *machine, uint32_t which);
+TRAC_API size_t trac_part(const trac_machine *machine, uint32_t which);
 
 /* The meta character, which ends a string: a byte; 256 where the machine can't be used. */
-uint32_t trac_meta(const trac_machine *machine);
+TRAC_API uint32_t trac_meta(const trac_machine *machine);
 
 /* What the next step reads: TRAC_AWAITS_.., nothing, too, where the run is over or the allowance is used up; or
  * TRAC_REFUSED. */
-uint32_t trac_awaits(const trac_machine *machine);
+TRAC_API uint32_t trac_awaits(const trac_machine *machine);
 
 #ifdef __cplusplus
 }

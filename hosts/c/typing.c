@@ -2,11 +2,13 @@
  * completed; else as the terminal edits them. */
 #include "terminal.h"
 
+#include <strings.h>
 #include <sys/select.h>
 
 #ifdef WITH_LIBEDIT
 #include <fcntl.h>
 #include <histedit.h>
+#include <sys/ioctl.h>
 #include <sys/stat.h>
 #include <wchar.h>
 #include <wctype.h>
@@ -66,8 +68,8 @@ static reading type_plainly(text *to, const char *prompt, int is_shown, int *has
 #ifdef WITH_LIBEDIT
 
 /* The lines that are kept in the file; where it has twice as many, it is cut. The names that are shown to choose from,
- * and the bytes of a line of them. */
-enum { KEPT_LINES = 1000, MOST_NAMES = 100, LINE_OF_NAMES = 70 };
+ * and the bytes of a line of them. The most characters that a window can show. */
+enum { KEPT_LINES = 1000, MOST_NAMES = 100, LINE_OF_NAMES = 70, MOST_PLACES = 2000000 };
 
 /* A byte that is no character is typed as the wide character with this number more, which is none either. */
 enum { RAW = 0xDC00 };
@@ -82,6 +84,17 @@ static const char *history_file;
 
 static void ignore(int number) { (void)number; }
 
+/* Has a window of more places than there can be taken for one of 24 lines of 80. Called before libedit asks for the
+ * size, since that takes memory for all places: where it begins, where it types a line, and where the size changes. */
+static void settle_window(void) {
+    struct winsize size;
+    if (ioctl(STDIN_FILENO, TIOCGWINSZ, &size) != 0 || (unsigned long)size.ws_row * size.ws_col <= MOST_PLACES)
+        return;
+    size.ws_row = 24;
+    size.ws_col = 80;
+    (void)ioctl(STDIN_FILENO, TIOCSWINSZ, &size);
+}
+
 /* Reads a byte: 1, 0 at the end, -1 where that failed or ^C was typed before. Other signals tell that the program goes
  * on, or that the screen has another size: all is shown anew. */
 static ssize_t read_byte(char *to) {
@@ -89,6 +102,7 @@ static ssize_t read_byte(char *to) {
     while ((count = read_typed(to, 1)) < 0 && errno == EINTR && !is_interrupted) {
         (void)el_wset(editor, EL_PREP_TERM, 0);
         (void)el_wset(editor, EL_PREP_TERM, 1);
+        settle_window();
         el_resize(editor);
         (void)el_wset(editor, EL_REFRESH);
     }
@@ -243,30 +257,32 @@ static void offer_functions(completion *of) {
         offer(of, *name, strlen(*name));
 }
 
-/* Whether argument 1 of the function is the name of a form; each of `dd` is one. */
+/* Whether the last argument is the name of a form, as argument 1 of many functions is, and each of `dd`. */
 static int names_form(const completion *of) {
-    const uint8_t *const name = of->function.bytes;
+    const char *const name = (const char *)of->function.bytes;
     int needs_form = 0;
-    const int is_known = is_function(name, of->function.length, &needs_form);
-    const int is_definition = is_known && !memcmp(name, "ds", 2), deletes = is_known && !memcmp(name, "dd", 2);
-    return (needs_form || is_definition) && (of->place == 1 || deletes);
+    const int is_known = is_function(of->function.bytes, of->function.length, &needs_form);
+    const int deletes = is_known && !strncasecmp(name, "dd", 2), defines = is_known && !strncasecmp(name, "ds", 2);
+    return deletes || ((needs_form || defines) && of->place == 1);
 }
 
 /* Shows the names, as many of them as fit a screen, in lines below that of the cursor. */
 static void show_names(const completion *of) {
-    text shown = {NULL, 0, 0, 0};
+    text shown = {NULL, 0, 0, 0}, escaped = {NULL, 0, 0, 0};
     size_t line = 0, count = 0;
     add_text(&shown, "\n");
     for (const char *name = (const char *)of->names.bytes; count < of->count && count < MOST_NAMES; count++) {
-        const size_t length = strlen(name);
+        const char *const word = shown_in(&escaped, name, strlen(name));
+        const size_t length = strlen(word);
         add_text(&shown, line && line + length > LINE_OF_NAMES ? "\n" : line ? "  " : "");
         line = line && line + length > LINE_OF_NAMES ? length : line + length + 2;
-        add_bytes(&shown, name, length);
-        name += length + 1;
+        add_text(&shown, word);
+        name += strlen(name) + 1;
     }
     add_text(&shown, of->count > MOST_NAMES ? "  ..\n" : "\n");
     (void)write_all(STDERR_FILENO, shown.bytes, shown.length);
     free(shown.bytes);
+    free(escaped.bytes);
 }
 
 /* Completes the name in front of the cursor as far as those that begin so have the same characters, and shows them
@@ -334,9 +350,9 @@ static size_t take_kept(char *line, size_t length) {
     return count;
 }
 
-/* Writes to the file of the history, behind what it holds or in its place. */
-static void write_history(const char *bytes, size_t length, int how) {
-    const int file = history_file ? open(history_file, O_WRONLY | O_CREAT | O_CLOEXEC | how, 0600) : -1;
+/* Writes to the file of the history, behind what it holds. */
+static void write_history(const char *bytes, size_t length) {
+    const int file = history_file ? open(history_file, O_WRONLY | O_CREAT | O_CLOEXEC | O_APPEND, 0600) : -1;
     if (file < 0)
         return;
     (void)write_all(file, bytes, length);
@@ -350,7 +366,7 @@ static void keep_line(const text *line) {
     if (length) {
         remember((const char *)line->bytes, length);
         add_kept(&kept, (const char *)line->bytes, length);
-        write_history((const char *)kept.bytes, kept.length, O_APPEND);
+        write_history((const char *)kept.bytes, kept.length);
     }
     free(kept.bytes);
 }
@@ -367,6 +383,12 @@ static size_t last_lines(const text *of, size_t most, size_t *count) {
     return from;
 }
 
+/* Puts the last lines of the history's file in its place. */
+static void cut_history(const text *all, size_t from) {
+    const text last = {all->bytes + from, all->length - from, 0, 0};
+    (void)replace_file(history_file, &last);
+}
+
 /* Reads the history's file, and cuts it where it has become long. */
 static void load_history(void) {
     text all = {NULL, 0, 0, 0};
@@ -377,7 +399,7 @@ static void load_history(void) {
     }
     size_t at = last_lines(&all, KEPT_LINES, &count);
     if (count > 2 * KEPT_LINES)
-        write_history((const char *)all.bytes + at, all.length - at, O_TRUNC);
+        cut_history(&all, at);
     while (at < all.length) {
         char *const line = (char *)all.bytes + at;
         const char *const end = (const char *)memchr(line, '\n', all.length - at);
@@ -410,16 +432,25 @@ static wchar_t *prompt_of(EditLine *of) {
     return prompt_shown ? prompt_shown : none;
 }
 
-/* Binds the keys: those of Emacs at first, then what the user's .editrc says. */
-static void bind_keys(void) {
-    (void)el_wset(editor, EL_EDITOR, L"emacs");
-    (void)el_wset(editor, EL_ADDFN, L"trac-complete", L"Complete a name", complete);
-    (void)el_wset(editor, EL_ADDFN, L"trac-paste", L"Insert what is pasted", paste);
+/* Binds the keys that this program has beside those of the editor. */
+static void bind_own_keys(void) {
     (void)el_wset(editor, EL_BIND, L"\t", L"trac-complete", NULL);
     (void)el_wset(editor, EL_BIND, L"\033[200~", L"trac-paste", NULL);
     (void)el_wset(editor, EL_BIND, L"\033[3~", L"ed-delete-next-char", NULL);
     (void)el_wset(editor, EL_BIND, L"^R", L"em-inc-search-prev", NULL);
+}
+
+/* Binds the keys: those of Emacs at first, then what the user's .editrc says. Where that chooses the keys of vi, all
+ * others are gone, and the own keys are bound again. */
+static void bind_keys(void) {
+    const wchar_t *chosen = NULL;
+    (void)el_wset(editor, EL_EDITOR, L"emacs");
+    (void)el_wset(editor, EL_ADDFN, L"trac-complete", L"Complete a name", complete);
+    (void)el_wset(editor, EL_ADDFN, L"trac-paste", L"Insert what is pasted", paste);
+    bind_own_keys();
     (void)el_source(editor, NULL);
+    if (el_wget(editor, EL_EDITOR, &chosen) == 0 && chosen && !wcscmp(chosen, L"vi"))
+        bind_own_keys();
 }
 
 /* Begins to edit where the terminal can. */
@@ -429,6 +460,7 @@ static void begin_editing(const trac_machine *machine) {
     if (!kind || !*kind || !strcmp(kind, "dumb") || !isatty(STDERR_FILENO))
         return;
     completed = machine;
+    settle_window();
     editor = el_init("trac_terminal", stdin, stderr, stderr);
     history_of_lines = history_winit();
     if (!editor || !history_of_lines)
@@ -445,16 +477,42 @@ static void begin_editing(const trac_machine *machine) {
     handle(SIGWINCH, ignore);
 }
 
-/* Types a line with the editor. Where the prompt stands on the screen already it is shown once more in its place; one
- * that has control characters isn't, and the line is typed below it. */
+/* Leaves of a prompt what stands in the last row of the screen. Gives 0 where that can't be told, since there are
+ * control characters in it. */
+static int keep_last_row(wchar_t *prompt) {
+    int columns = 80, column = 0;
+    const wchar_t *row = prompt, *at = prompt;
+    (void)el_wget(editor, EL_GETTC, "co", &columns);
+    for (; *at && wcwidth(*at) >= 0; at++) {
+        const int width = wcwidth(*at), is_full = column + width > columns;
+        row = is_full ? at : row;
+        column = is_full ? width : column + width;
+    }
+    const int is_told = !*at;
+    wmemmove(prompt, row, wcslen(row) + 1);
+    return is_told;
+}
+
+/* Makes a prompt ready that stands on the screen already: its last row is shown once more in its place. Where that
+ * can't be, the line is typed below it. */
+static void stand_behind(const char *prompt) {
+    const int is_told = prompt_shown && keep_last_row(prompt_shown);
+    if (!is_told && prompt_shown)
+        *prompt_shown = 0;
+    (void)write_all(STDERR_FILENO, is_told || (prompt && !*prompt) ? "\r" : "\n", 1);
+}
+
+/* Types a line with the editor. */
 static reading edit_line(text *to, const char *prompt, int is_shown, int *has_ended) {
     static const char on[] = "\033[?2004h", off[] = "\033[?2004l";
     text line = {NULL, 0, 0, 0};
     int count = 0;
-    prompt_shown = wide_of(prompt, strlen(prompt));
+    prompt_shown = prompt ? wide_of(prompt, strlen(prompt)) : NULL;
     (void)el_wset(editor, EL_PREP_TERM, 1);
+    settle_window();
+    el_resize(editor);
     if (is_shown)
-        (void)write_all(STDERR_FILENO, "\r", 1);
+        stand_behind(prompt);
     (void)write_all(STDERR_FILENO, on, sizeof on - 1);
     const wchar_t *const typed = el_wgets(editor, &count);
     (void)write_all(STDERR_FILENO, off, sizeof off - 1);

@@ -197,6 +197,22 @@ export class Session {
      */
     calls(most?: number): Uint32Array;
     /**
+     * How many arguments the call has that the next step performs, its name counted, and null ones: one
+     * more than it has comma marks. 0 where that step performs no call, where the run is over, and where
+     * the allowance is used up.
+     */
+    argumentCount(): number;
+    /**
+     * An argument of the call that the next step performs: the bytes that the call gets, after all calls
+     * in it.
+     * @param {number} which 0 is the name
+     * @param {number} [most] at most so many bytes, the first ones; all if left out
+     * @returns {Uint8Array} no bytes where there is no such argument
+     * @throws {TypeError} where `which` is no whole number
+     * @throws {RangeError} where it is out of its range
+     */
+    argument(which: number, most?: number): Uint8Array;
+    /**
      * How many characters the next step takes from the front of the active string: those that open a
      * call; a text in parentheses with both of them; all, where a left parenthesis has no match; none
      * of an empty string; and else one.

@@ -632,6 +632,7 @@ export class Session {
         const { trac_engine_form_codes: codes, trac_engine_form_pointer: pointer } = this.#engine;
         return Array.from({ length: Math.min(this.formCount(), most) }, (_, i) => {
             const k = BigInt(i);
+            this.#engine.trac_engine_turn_to_form(this.#machine, k);
             return {
                 name: this.#text((to, room) => name(this.#machine, k, to, room)),
                 text: this.#text((to, room) => text(this.#machine, k, to, room)),
@@ -697,6 +698,30 @@ export class Session {
     calls(most = Infinity) {
         return this.#codes(
             (to, room) => this.#engine.trac_engine_calls(this.#machine, to, room), most);
+    }
+
+    /**
+     * How many arguments the call has that the next step performs, its name counted, and null ones: one
+     * more than it has comma marks. 0 where that step performs no call, where the run is over, and where
+     * the allowance is used up.
+     */
+    argumentCount() {
+        return Number(this.#engine.trac_engine_argument_count(this.#machine));
+    }
+
+    /**
+     * An argument of the call that the next step performs: the bytes that the call gets, after all calls
+     * in it.
+     * @param {number} which 0 is the name
+     * @param {number} [most] at most so many bytes, the first ones; all if left out
+     * @returns {Uint8Array} no bytes where there is no such argument
+     * @throws {TypeError} where `which` is no whole number
+     * @throws {RangeError} where it is out of its range
+     */
+    argument(which, most = Infinity) {
+        const number = whole('which', which, 0n, LARGEST);
+        return this.#text(
+            (to, room) => this.#engine.trac_engine_argument(this.#machine, number, to, room), most);
     }
 
     /**
@@ -867,9 +892,10 @@ export class Session {
     /**
      * What a call writes as bytes, which answers how many there are.
      * @param {(to: bigint, room: bigint) => bigint} call
+     * @param {number} [most]
      */
-    #text(call) {
-        const length = Number(call(this.#output.of(1), 0n));
+    #text(call, most = Infinity) {
+        const length = Math.min(Number(call(this.#output.of(1), 0n)), most);
         const place = this.#output.of(length);
         call(place, BigInt(length));
         return this.#bytes(place, length).slice();

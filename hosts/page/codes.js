@@ -6,7 +6,6 @@
 /** The marks in the neutral string. */
 export const ACTIVE_CALL = 256;
 export const NEUTRAL_CALL = 257;
-const COMMA = 258;
 
 /**
  * What each rule of scanning does.
@@ -31,6 +30,8 @@ const LONGEST_RUN = 4096;
 export const MOST_IN_LINE = 400;
 /** The front of a row of codes that a line shows, and one code more where there are more. */
 export const FRONT_OF_LINE = MOST_IN_LINE + 1;
+/** Of how many arguments of a call the words are read at most: each is looked for from the first one on. */
+const MOST_ARGUMENTS = 100;
 const NAMED = new Map([[9, '\\t'], [10, '\\n'], [13, '\\r']]);
 const HIDDEN = /[\p{Cc}\p{Cf}\p{Co}\p{Cn}\p{Cs}\p{Zl}\p{Zp}]/u;
 const NUMBERS = new Intl.NumberFormat('en-US');
@@ -148,23 +149,27 @@ export function plainText(bytes) {
 }
 
 /**
- * The innermost open call of a machine: its mark, the place of that, and its arguments as plain text,
- * the function's name first. Null where no call is open.
+ * The name of the call that a machine's next step performs, as a line. Null where that step performs none.
  * @param {import('../js/trac.mjs').Session} machine
  */
-export function innermostCall(machine) {
+export function nameAhead(machine) {
+    return machine.argumentCount() ? lineOf(machine.argument(0, FRONT_OF_LINE)) : null;
+}
+
+/**
+ * The call that a machine's next step performs: its mark, the place of that, how many arguments it has
+ * behind the name, and the first of these as lines, the name in front. Null where that step performs none.
+ * @param {import('../js/trac.mjs').Session} machine
+ */
+export function callAhead(machine) {
+    const count = machine.argumentCount();
+    if (!count) return null;
     const [place] = machine.calls(1);
-    if (place === undefined) return null;
-    const codes = machine.neutralPart(place);
-    /** @type {string[]} */
-    const words = [];
-    for (let from = 1; from <= codes.length;) {
-        const comma = codes.indexOf(COMMA, from);
-        const to = comma < 0 ? codes.length : comma;
-        words.push(lineOf(codes.subarray(from, to)));
-        from = to + 1;
-    }
-    return { mark: codes[0], place, words };
+    const [mark] = machine.neutralPart(place, 1);
+    const words = Array.from({ length: Math.min(count, MOST_ARGUMENTS) },
+        (_, which) => lineOf(machine.argument(which, FRONT_OF_LINE)));
+    if (count > MOST_ARGUMENTS) words.push('…');
+    return { mark, place, given: count - 1, words };
 }
 
 /**

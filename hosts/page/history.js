@@ -6,7 +6,7 @@
  */
 
 import { Session } from '../js/trac.mjs';
-import { ACTIVE_CALL, FRONT_OF_LINE, innermostCall } from './codes.js';
+import { ACTIVE_CALL, FRONT_OF_LINE, callAhead } from './codes.js';
 import { changesForms } from './functions.js';
 import {
     Kept, Pace, SLICE, Walker, pause,
@@ -131,7 +131,8 @@ class Printings {
  * @typedef {object} Call
  * @property {number} mark its mark in the neutral string
  * @property {number} place where that stands
- * @property {string[]} words its arguments, the name of the function first
+ * @property {number} given how many arguments it has behind the name
+ * @property {string[]} words the first of its arguments, the name of the function in front
  * @property {number} active how many characters the active string has
  */
 
@@ -146,7 +147,7 @@ class Printings {
  * @property {boolean} isActive whether it stands in front of the active string, to be scanned again
  * @property {number} length
  * @property {Uint32Array} front its codes, as many as a line shows
- * @property {string[]} words the arguments of the call, the name of the function first
+ * @property {string[]} words the first arguments of the call, the name of the function in front
  */
 
 /** A run of a script, and the step that is looked at. */
@@ -333,8 +334,7 @@ export class History {
     /** The call that the next step performs, or null. */
     coming() {
         const { machine } = this;
-        if (machine.rule() !== 'end of call') return null;
-        const call = innermostCall(machine);
+        const call = callAhead(machine);
         return call && { ...call, active: machine.parts().active };
     }
 

@@ -4,7 +4,7 @@
  * @module
  */
 
-import { innermostCall } from './codes.js';
+import { nameAhead } from './codes.js';
 import { changedForms } from './forms.js';
 import { changesForms } from './functions.js';
 import { SLICE, pause } from './machines.js';
@@ -93,8 +93,7 @@ export async function callBefore(history, step, signal) {
  */
 export function nextNamed(history, name, signal) {
     const wanted = name.toLowerCase();
-    return nextCall(history, ({ machine }) => (
-        innermostCall(machine)?.words[0].toLowerCase() === wanted), signal);
+    return nextCall(history, ({ machine }) => nameAhead(machine)?.toLowerCase() === wanted, signal);
 }
 
 /**
@@ -117,8 +116,7 @@ export async function endOfCall(history, signal) {
  */
 export function nextChange(history, signal) {
     return alongCalls(history, history.end.step, ({ machine, shown }) => {
-        const call = innermostCall(machine);
-        if (!call || !changesForms(call.words[0])) return false;
+        if (!changesForms(nameAhead(machine) ?? '')) return false;
         const before = machine.forms();
         shown.advance(1);
         const after = machine.forms();

@@ -4,7 +4,7 @@
  */
 
 import { Session } from '../js/trac.mjs';
-import { FRONT_OF_LINE, NEUTRAL_CALL, innermostCall, lineOf, shortName } from './codes.js';
+import { FRONT_OF_LINE, NEUTRAL_CALL, callAhead, lineOf, shortName } from './codes.js';
 import { element, find, reveal } from './dom.js';
 import { SLICE, Walker, pause } from './machines.js';
 
@@ -129,7 +129,7 @@ export class CallTree {
         if (walker.state.step > step || near.state.step > walker.state.step) walker.restore(near);
         walker.advance(step - walker.state.step);
         const { session } = walker;
-        const call = innermostCall(session);
+        const call = callAhead(session);
         if (!call) return;
         const depth = session.callCount();
         const { active } = session.parts();

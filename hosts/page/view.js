@@ -5,7 +5,7 @@
  */
 
 import {
-    RULES, counted, innermostCall, lineOf, several, shortName,
+    RULES, callAhead, counted, lineOf, several, shortName,
 } from './codes.js';
 import { showBlock } from './block.js';
 import { find } from './dom.js';
@@ -44,9 +44,12 @@ function ruleWords(history, rule) {
  * @param {History} history
  */
 function performedWords(history) {
-    const call = innermostCall(history.machine);
+    const { machine } = history;
+    const call = callAhead(machine);
+    // the allowance is used up, so there is no next step
+    if (!call && machine.callCount()) return RULES['end of call'];
     if (!call) return 'No call is open: the right parenthesis is deleted.';
-    const given = call.words.length - 1;
+    const { given } = call;
     const name = call.words[0] === '' ? 'a call without a name' : shortName(call.words[0]);
     const value = history.comingValue();
     return `The innermost open call is performed: ${name}${

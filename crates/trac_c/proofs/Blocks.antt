@@ -1,5 +1,5 @@
 -- The block: the greatest number of its cells, room that is filled with cells and lent, and cells that are room again. Assumes `Logic`.
-use Rattle.trac_c.proofs.Walking.{ℕ, ◌+◌, ◌≤◌, ◌<◌, ◌^◌, arith, ◌≡◌, refl, ap, List, [], ◌∷◌, lit<, length, Ura, Lft, fat, ftrue, flent, froom, fex, full_share, ent, id⊢, via, guard_i, emp, fact, fact_i, Running, MachineTables, tables, Array, usize, unit, row, whole_in, Is, Held, lends_slice, mem, part_at, uint_vals, uint_Makes, block_ptr, room_at, MutBor, MutSlice, slice_val, nothing, owned, only, calls_at, lasts, triple_of, Contract, Triple, framed, Callee, Place, Operand, Code, int_big, w64, named, ty_array, call, seq, Val, Fits, vptr, vint, vunit, Model, Env, Item, Seq, Post, ‵, raw, ◌⊛◌, some, later, runs, lands, ◌$◌, ◌∵◌, !, qed, move, drop, use0, use1, join, split, pick, given, learn, await, rewrite, fjoin, fpick, feq_i, feq_l, by, Logic, sem, Opd, Opds, cells, Cell}
+use Rattle.trac_c.proofs.Walking.{ℕ, ◌+◌, ◌≤◌, ◌<◌, ◌^◌, arith, ◌≡◌, refl, ap, List, [], ◌∷◌, lit<, length, Ura, Lft, fat, ftrue, flent, froom, fex, full_share, ent, id⊢, via, guard_i, emp, fact, fact_i, Running, MachineTables, tables, Array, usize, unit, row, whole_in, Is, Held, lends_slice, mem, part_at, uint_vals, uint_Makes, block_ptr, room_at, MutBor, MutSlice, slice_val, nothing, owned, only, calls_at, lasts, triple_of, Contract, Triple, framed, Callee, Place, Operand, Code, int_big, w64, named, ty_array, call, seq, Val, Fits, vptr, vint, vunit, Model, Env, Item, Seq, Post, ‵, raw, ◌⊛◌, some, later, runs, lands, ◌$◌, ◌∵◌, !, qed, move, drop, use0, use1, join, split, pick, given, learn, await, rewrite, fjoin, fpick, feq_i, feq_l, by, done, Logic, sem, Opd, Opds, cells, Cell, Calls, Loops}
 use Rattle.std.proofs.ptr.Rows as Rows
 use Rattle.trac_space.specs.contracts.cell.Cell as C
 use Rattle.trac_space.proofs.cell.Cell.TheLaws as C'
@@ -55,3 +55,23 @@ module _ {M : Type 1} {𝓤 : Ura M} (𝓛 : Logic 𝓤) (𝓜 : Model 𝓤 𝓛
       use1 𝓛 (later (some (λ (γ : ℕ). ‵ ((MutSlice (named 0) κ C.the_row).own_val (block_as b o γ xs) (slice_val (b, o) (length xs) ∷ [])) ⊛ ‵ (flent κ (Held C.the_row (length xs) b o γ)))))
       (lends_slice 𝓛 C.the_row (named 0) κ xs b o (omega arith, omega arith)) $ await t tt $ pick t (λ γ. split t $
       rewrite t 0 (λ (j : ℕ). ‵ ((MutSlice (named 0) κ C.the_row).own_val (block_as b o γ xs) (slice_val (b, o) j ∷ []))) ln refl $ k v xs γ (ap only is_unit) ln)))))))
+
+module _ {M : Type 1} (𝓤' : Ura M) (𝓛 : Logic 𝓤') where
+  -- cells that lie at a block are lent for a lifetime, and the right to have them back is had
+  pub lends_cells : {K : Type 0} {Γ : List (Item 𝓤')} → K → (κ : Lft) {Cs : Calls 𝓤' 𝓛.H} {Λ : Loops 𝓤' 𝓛.H} {E₁ : Env 𝓤' 𝓛.H} {q : Post 𝓤' 𝓛.H} {rest : Code} (n b o : ℕ) (xs : List Cell) → n ≤ 16777216
+      → ((γ : ℕ) → length xs ≡ n → Seq K 𝓛 (‵ ((MutSlice (named 0) κ C.the_row).own_val (block_as b o γ xs) (slice_val (b, o) n ∷ [])) ∷ ‵ (flent κ (Held C.the_row (length xs) b o γ)) ∷ Γ) (runs Cs Λ E₁ rest q))
+      → Seq K 𝓛 (‵ (part_at (Array C.the_row n) full_share xs b o) ∷ Γ) (runs Cs Λ E₁ rest q)
+  lends_cells t κ n b o xs le k =
+      use1 𝓛 (given (length xs ≡ n) (‵ (row (Rows.R E) full_share xs b o))) (Rows.apart E 𝓛 full_share n xs b o) $ learn t (λ ln.
+      use1 𝓛 (‵ (cells (mem C.the_row) xs b o)) (whole_in 𝓛 C.the_row xs b o) $
+      use1 𝓛 (later (some (λ (γ : ℕ). ‵ ((MutSlice (named 0) κ C.the_row).own_val (block_as b o γ xs) (slice_val (b, o) (length xs) ∷ [])) ⊛ ‵ (flent κ (Held C.the_row (length xs) b o γ)))))
+      (lends_slice 𝓛 C.the_row (named 0) κ xs b o (omega arith, omega arith)) $ await t tt $ pick t (λ γ. split t $
+      rewrite t 0 (λ (j : ℕ). ‵ ((MutSlice (named 0) κ C.the_row).own_val (block_as b o γ xs) (slice_val (b, o) j ∷ []))) ln refl $ k γ ln))
+
+-- cells that lie at a block are room for as many
+pub room_again : {M : Type 1} {𝓤 : Ura M} (𝓛 : Logic 𝓤) (n b o : ℕ) (xs : List Cell) → ent 𝓤 (sem 𝓛 (part_at (Array C.the_row n) full_share xs b o)) (sem 𝓛 (room_at (Array C.the_row n) (block_ptr b o)))
+room_again 𝓛 n b o xs =
+    qed 𝓛 (‵ (part_at (Array C.the_row n) full_share xs b o) ∷ []) ∵
+    use1 𝓛 (given (length xs ≡ n) (‵ (row (Rows.R E) full_share xs b o))) (Rows.apart E 𝓛 full_share n xs b o) $ learn ! (λ ln.
+    use1 𝓛 (‵ (froom (ty_array (Rows.elτ E) (length xs)) b o)) (rooms 𝓛 b xs o) $
+    rewrite ! 0 (λ (j : ℕ). ‵ (froom (ty_array (Rows.elτ E) j) b o)) ln refl $ done !)

@@ -2,27 +2,27 @@
 pub use Prim.Native.Nat.{ℕ, suc, ◌+◌, ◌-◌, ◌*◌, ◌≤◌, ◌<◌, ◌^◌}
 pub use native.Mathlib.Omega.{arith}
 pub use mathlib.Core.Path.{◌≡◌, refl, ap, subst, ◌∙◌}
-pub use mathlib.Core.List.{List, [], ◌∷◌, ◌++◌}
+pub use mathlib.Core.List.{List, [], ◌∷◌, ◌++◌, not-mem-nil}
 pub use mathlib.Core.Logic.{inl, inr}
 pub use lib.Dec.{eqb_refl, lit<, ltb→lt, nltb→le}
 pub use lib.ListN.{length}
 pub use seplogic.Ra.Ura.{Ura}
-pub use base.Fml.{Fml, Lft, fat, ftrue, fsep, flft, flent, froom, fex, fres, fbor}
+pub use base.Fml.{Fml, Lft, fat, ftrue, fsep, flft, flent, froom, fex, fres, fbor, Incl-refl}
 pub use base.Fraction.{full_share}
 pub use base.Logic.{SProp, ent, id⊢, via, guard_i, mono_l, comm∗, wand, wand_i, apply∗, sep, ex, ex_i, emp}
 pub use contract.Monad.{fact, fact_i}
 pub use contract.Running.{Running, MachineTables, tables}
 pub use denote.Array.{Array}
-pub use denote.Builtin.{RefMutOf, SliceRefMutOf, SliceRefOf, usize, u8, u32, u64, unit}
+pub use denote.Builtin.{RefOf, RefMutOf, SliceRefMutOf, SliceRefOf, usize, u8, u32, u64, unit}
 pub use denote.Exit.{yes}
 pub use denote.Index.{row, whole_in, whole_out}
 pub use denote.Laws.{Is, shows, Lawful, Typed, Spells, Tellss, Ises, Are, valss}
-pub use denote.Lend.{Held, lends_ref, ref_back, lends_slice, slice_back}
+pub use denote.Lend.{Held, lends_ref, ref_back, lends_shr, lends_slice, slice_back}
 pub use denote.Memory.{mem, part_at}
 pub use denote.Plain.{UInt, uint_vals, uint_Tells, uint_Makes, uint_Lawful, Nothing-Lawful}
 pub use denote.RattleType.{RattleType}
 pub use denote.RawPtr.{Ptr, RawPtr, block_ptr, rawptr_vals, rawptr_Tells, in_a_block, lies_at, room_at}
-pub use denote.Ref.{Bor, MutBor, MutRef}
+pub use denote.Ref.{Bor, MutBor, MutRef, ShrRef}
 pub use denote.Signature.{Slot, AllWithin, plain, static_lft, types_at, type_at}
 pub use denote.Slice.{MutSlice, mut_slice_vals, mut_slice_Tells, finally, res-finally, heres, coded_holeys, ShrSlice, slice_val, shr_slice_vals, shr_slice_Tells}
 pub use denote.Steps.{nothing, owned, peeks, heard, only, said}
@@ -34,7 +34,7 @@ pub use denote.Triple.Spec.{Meets, triple_of}
 pub use denote.Triple.Statement.{Contract, Triple}
 pub use denote.Triple.Table.{entered, framed}
 pub use denote.Triple.Walked.{Stays, stay_dropped, gave_slice, walk_of, ends_at, says, Goes-dropped, Goes-gave_slice}
-pub use mir.Syntax.{Fn, Callee, Place, Opd as Operand, Body as Code, int_big, Ty, Width, w8, w32, w64, Lifetime, named, erased, mut, Local, local, value_local, ty_int, ty_ptr, ty_ref, ty_struct, ty_array, tcons, tnil, place, field, deref, copy, rv_opd, addr_of, aggregate, assign, call, seq, return}
+pub use mir.Syntax.{Fn, Callee, Place, Opd as Operand, Body as Code, int_big, Ty, Width, w8, w32, w64, Lifetime, named, erased, mut, imm, Local, local, value_local, ty_int, ty_ptr, ty_ref, ty_struct, ty_array, tcons, tnil, place, field, deref, copy, rv_opd, addr_of, aggregate, assign, call, seq, return}
 pub use mir.Val.{Val, Fits, vptr, vint, vunit, vstruct, vcons, vnil, bytes, has_ty, WT}
 pub use prog.Model.{Model}
 pub use prog.Wp.{Env, Calls, Loops, WpFn, Closed, Out, Wp, at_return, after_seq, after_block}
@@ -45,13 +45,14 @@ pub use types.Logic.{Logic, sem}
 pub use types.Part.{agg, whole, sub}
 pub use types.Run.{Opd, Opds, stop, fld, hop, from, addr, no_more, and_then, returns, returns_within, enter, of_opd, lit, bin, unit_lit, init, assigns, first, blocks, skips, jumps, branches, exec, loops, again, Below}
 pub use types.SemTy.{Body, Arr, cells}
-pub use types.Tokens.{lft_new, lft_end}
+pub use types.Tokens.{lft_new, lft_end, lent_back}
 pub use Rattle.std.proofs.raw_atomic.Walks.{proved}
 pub use Rattle.trac_core.specs.Machine.{MachineState, made}
 pub use Rattle.trac_space.specs.declared.cell.Cell.{Cell}
 pub use contract.Lifetimes.{Lfts, Shares}
 pub use denote.RattleType.{flat, owns, Denots}
 use Rattle.trac_core.specs.contracts.machine.Machine as M
+use Rattle.trac_core.proofs.machine.Machine.TheLaws.{the_row_laws}
 
 -- a machine, as its type denotes it
 abbrev pub machine : RattleType
@@ -65,6 +66,10 @@ behind (s ∷ ss) = ss
 -- the reference by which a machine is lent
 abbrev pub lent_as : (b o γ : ℕ) → MachineState → MutBor MachineState
 lent_as b o γ m = record { ref_ptr = (b, o); ghost_name = γ; now = m }
+
+-- the reference by which a machine is shown
+abbrev pub shown_as : (b o : ℕ) → MachineState → Bor MachineState
+shown_as b o m = record { ref_ptr = (b, o); now = m }
 
 module _ {M : Type 1} {𝓤 : Ura M} (𝓛 : Logic 𝓤) where
   open 𝓛 use {H}
@@ -145,3 +150,23 @@ module _ {M : Type 1} {𝓤 : Ura M} {𝓛 : Logic 𝓤} {K : Type 0} {Γ : List
       fsplit t $ fsplit t $ move t (1 ∷ []) $ drop t $ move t (2 ∷ 5 ∷ 0 ∷ []) $
       use3 𝓛 (later (‵ ((mem machine).own_at zs.0 b o))) (ref_back 𝓛 machine κ γ zs.0 b o) $ await t tt $
       move t (1 ∷ []) $ nothing t $ fjoin t $ move t (3 ∷ 1 ∷ []) $ peeks t T (Is T) (shows 𝓛 T) r (v ∷ []) (λ is. k v r zs.0 zs.1 told is (lawful.typed r (v ∷ []) is))))))))
+
+  -- a call to which that machine is shown, by a shared reference: it is had again as it was
+  pub shows_to : K → {C : Calls 𝓤 𝓛.H} {Λ : Loops 𝓤 𝓛.H} → FmC 𝓤 𝓛.H 𝓛.laws C → {E : Env 𝓤 𝓛.H} {q : Post 𝓤 𝓛.H} {g : Callee} {xs : List Operand} {d : Place} {rest : Code} (b o : ℕ) (m : MachineState) (Rest : Fml) (tokens : Item 𝓤) (T : RattleType) → Lawful 𝓛 T → (Z : Type 0) (Last : Z → Fml) (Says : T.Denot → Z → Type 0) (c : Contract 𝓤) → Triple 𝓤 (C g) c → (x : ℕ → c.Ghost)
+      → ((α : ℕ) → ent 𝓤 (mean 𝓛 (((‵ (flft (α ∷ []) full_share) ⊛ tokens) ⊛ ‵ (fsep ((ShrRef (named 0) (α ∷ []) machine).own_val (shown_as b o m) (vptr b o ∷ [])) Rest)) ⊛ ‵ ftrue)) (c.pre (x α)))
+      → ((α : ℕ) (v : Val) → ent 𝓤 (c.post (x α) v) (mean 𝓛 (later (some (λ (r : T.Denot). ((‵ (flft (α ∷ []) full_share) ⊛ tokens) ⊛ ‵ (T.own_val r (v ∷ []))) ⊛ some (λ (zs : Unit {0} × Z). ‵ (fsep ftrue (Last zs.1)) ⊛ raw (fact 𝓤 (Says r zs.1))))))))
+      → ((α : ℕ) → Opds K 𝓛 (raw (c.pre (x α)) ∷ ‵ (flent (α ∷ []) (part_at machine full_share m b o)) ∷ Γ) E xs (c.args (x α)))
+      → ((v : Val) → (r : T.Denot) (z : Z) → Says r z → Is T r (v ∷ []) → Typed T.mir (v ∷ []) → Seq K 𝓛 (‵ (T.own_val r (v ∷ [])) ∷ ‵ (lies_at machine full_share (block_ptr b o) m) ∷ ‵ (fsep ftrue (Last z)) ∷ tokens ∷ Γ) (lands C Λ E d v rest q))
+      → Seq K 𝓛 (‵ (lies_at machine full_share (block_ptr b o) m) ∷ ‵ Rest ∷ tokens ∷ Γ) (runs C Λ E (seq (call g xs d) rest) q)
+  shows_to t framed b o m Rest tokens T lawful Z Last Says c met x asks answers opds k =
+      lft_new t tt (λ α. let κ : Lft = α ∷ [] in move t (1 ∷ 0 ∷ []) $
+      use2 𝓛 (later ((‵ ((ShrRef (named 0) κ machine).own_val (shown_as b o m) (vptr b o ∷ [])) ⊛ ‵ (flent κ (part_at machine full_share m b o))) ⊛ ‵ (flft κ full_share)))
+      (lends_shr 𝓛 machine (named 0) κ full_share m b o [] ((the_row_laws static_lft).shares 𝓛 m) ((κ, full_share) ∷ []) (λ a none. absurd (not-mem-nil none)) (Incl-refl κ)) $
+      await t tt $ split t $ split t $
+      -- [the reference; the right to the machine; the token of κ; what else is passed; the other tokens]
+      move t (0 ∷ 3 ∷ []) $ fjoin t $ move t (2 ∷ 3 ∷ 0 ∷ []) $ join t $ join t $ nothing t $ move t (1 ∷ 0 ∷ []) $ join t $
+      use1 𝓛 (raw (c.pre (x α))) (asks α) $ calls_at t framed c met (x α) (opds α) (λ v.
+      use1 𝓛 (later (some (λ (r : T.Denot). ((‵ (flft κ full_share) ⊛ tokens) ⊛ ‵ (T.own_val r (v ∷ []))) ⊛ some (λ (zs : Unit {0} × Z). ‵ (fsep ftrue (Last zs.1)) ⊛ raw (fact 𝓤 (Says r zs.1)))))) (answers α v) $
+      await t tt $ pick t (λ r. split t $ split t $ split t $ lft_end t tt $ move t (3 ∷ []) $ pick t (λ zs. split t $ move t (1 ∷ []) $ heard t _ (λ told.
+      -- [what says the last values; κ is over; the other tokens; the result; the right to the machine]
+      move t (1 ∷ 4 ∷ []) $ lent_back t tt $ move t (3 ∷ 0 ∷ []) $ peeks t T (Is T) (shows 𝓛 T) r (v ∷ []) (λ is. k v r zs.1 told is (lawful.typed r (v ∷ []) is)))))))

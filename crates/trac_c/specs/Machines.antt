@@ -1,5 +1,5 @@
 -- What C holds of a machine between two calls.
-use Rattle.std.specs.Prelude.{◌≡◌, ℕ, ◌<◌, ◌≤◌, ◌⊎◌, [], None}
+use Rattle.std.specs.Prelude.{◌≡◌, ℕ, ◌<◌, ◌≤◌, ◌⊎◌, [], None, replicate}
 use mathlib.Core.Logic.{inl, inr}
 use base.Fml.{Fml, fex, fsep}
 use base.Fraction.{full_share}
@@ -8,6 +8,7 @@ use denote.RawPtr.{Ptr, lies_at, room_at}
 use denote.Signature.{static_lft}
 use Rattle.std.specs.Mem.{type_size}
 use Rattle.trac_space.specs.contracts.cell.Cell as Cell
+use Rattle.trac_space.specs.declared.cell.Cell.TheVariants.{Byte}
 use Rattle.trac_core.specs.contracts.machine.Machine as Machine
 use Rattle.trac_core.specs.Machine.{MachineState, made}
 
@@ -27,6 +28,11 @@ machine_room place = room_at (Machine.the_row static_lft) place
 abbrev pub cells_room : ℕ → Ptr → Fml
 cells_room cells block = room_at (Array Cell.the_row cells) block
 
+-- there are `cells` cells at `block` whose bytes are 0: each is the character 0
+abbrev pub zeroed : ℕ → Ptr → Fml
+zeroed cells block =
+    lies_at (Array Cell.the_row cells) full_share block (replicate cells (Byte 0))
+
 -- a number of cells that is taken, with the answer 0, or refused, with the answer 9
 abbrev pub Opening : (cells answer : ℕ) → Type 0
 Opening cells answer = ((cells ≤ 16777216) × (answer ≡ 0)) ⊎ ((16777216 < cells) × (answer ≡ 9))
@@ -41,6 +47,17 @@ opened_by cells steps place block answer (inr refused) =
 abbrev pub opened : (cells steps : ℕ) → (place block : Ptr) → (answer : ℕ) → Fml
 opened cells steps place block answer =
     fex (Opening cells answer) (opened_by cells steps place block answer)
+
+-- what there is after an opening over zero bytes: a new machine, which has the block, or what was there before
+abbrev pub opened_zeroed_by :
+    (cells steps : ℕ) → (place block : Ptr) → (answer : ℕ) → Opening cells answer → Fml
+opened_zeroed_by cells steps place block answer (inl taken) = machine_at place (made cells steps)
+opened_zeroed_by cells steps place block answer (inr refused) =
+    fsep (machine_room place) (zeroed cells block)
+
+abbrev pub opened_zeroed : (cells steps : ℕ) → (place block : Ptr) → (answer : ℕ) → Fml
+opened_zeroed cells steps place block answer =
+    fex (Opening cells answer) (opened_zeroed_by cells steps place block answer)
 
 -- a machine that stands in a relation to what it was lies at a place
 abbrev pub machine_after : Ptr → (MachineState → Type 0) → Fml

@@ -1,6 +1,8 @@
-//! The forms of a machine, one after the other: names, bodies and displays.
+//! The forms of a machine, one after the other: names, bodies and displays; and the arguments of a call.
 ghost use Rattle.std.specs.Prelude.{◌≡◌, ◌≤◌, length, map, slice_get, take};
 ghost use Rattle.trac_language.specs.Meaning.{show_form};
+ghost use Rattle.trac_language.specs.State.{argument};
+ghost use Rattle.trac_core.specs.OpenCalls.{next_texts};
 ghost use Rattle.trac_space.specs.Texts.{text_of_cells};
 ghost use Rattle.trac_c.specs.Buffers.{Lays, laid};
 ghost use Rattle.trac_c.specs.Forms.{item_code, code_of, name_of, display_of, codes_of};
@@ -20,22 +22,10 @@ fn form_at<'m>(machine: &'m Machine<'static>, k: usize) -> Option<StoredForm<'m>
     machine.form(k as u32)
 }
 
-/// Makes the machine find the form at place `k` without a walk over the forms before it: forms that are shown in
-/// turn cost one walk in all.
-fn turn_to(machine: &mut Machine<'static>, k: usize)
-    ensures { machine.new ≡ machine.old }
-{
-    if let Ok(k) = u32::try_from(k) {
-        machine.turn_to_form(k);
-    }
-}
-
 /// The length of a form's name, which goes to the front of a buffer.
-pub(crate) fn lay_name(machine: &mut Machine<'static>, k: usize, room: &mut [u8]) -> usize
-    ensures { Lays (name_of (slice_get machine.old.memory.forms k)) result room.old room.new ×
-        (machine.new ≡ machine.old) }
+pub(crate) fn lay_name(machine: &Machine<'static>, k: usize, room: &mut [u8]) -> usize
+    ensures { Lays (name_of (slice_get machine.now.memory.forms k)) result room.old room.new }
 {
-    turn_to(machine, k);
     match form_at(machine, k) {
         Some(form) => lay_characters(form.name(), room),
         None => 0,
@@ -43,11 +33,9 @@ pub(crate) fn lay_name(machine: &mut Machine<'static>, k: usize, room: &mut [u8]
 }
 
 /// The length of a form's display, which goes to the front of a buffer.
-pub(crate) fn lay_display(machine: &mut Machine<'static>, k: usize, room: &mut [u8]) -> usize
-    ensures { Lays (display_of (slice_get machine.old.memory.forms k)) result room.old room.new ×
-        (machine.new ≡ machine.old) }
+pub(crate) fn lay_display(machine: &Machine<'static>, k: usize, room: &mut [u8]) -> usize
+    ensures { Lays (display_of (slice_get machine.now.memory.forms k)) result room.old room.new }
 {
-    turn_to(machine, k);
     match form_at(machine, k) {
         Some(form) => lay_shown(&form, room),
         None => 0,
@@ -55,11 +43,9 @@ pub(crate) fn lay_display(machine: &mut Machine<'static>, k: usize, room: &mut [
 }
 
 /// The length of a form's body, whose codes go to the front of a buffer.
-pub(crate) fn lay_codes(machine: &mut Machine<'static>, k: usize, room: &mut [u32]) -> usize
-    ensures { Lays (codes_of (slice_get machine.old.memory.forms k)) result room.old room.new ×
-        (machine.new ≡ machine.old) }
+pub(crate) fn lay_codes(machine: &Machine<'static>, k: usize, room: &mut [u32]) -> usize
+    ensures { Lays (codes_of (slice_get machine.now.memory.forms k)) result room.old room.new }
 {
-    turn_to(machine, k);
     match form_at(machine, k) {
         Some(form) => lay_items(&form, room),
         None => 0,
@@ -67,20 +53,32 @@ pub(crate) fn lay_codes(machine: &mut Machine<'static>, k: usize, room: &mut [u3
 }
 
 /// The pointer of a form, 0 where there is no such form.
-pub(crate) fn pointer(machine: &mut Machine<'static>, k: usize) -> usize
-    ensures { (result ≡ pointer_of (slice_get machine.old.memory.forms k)) ×
-        (machine.new ≡ machine.old) }
+pub(crate) fn pointer(machine: &Machine<'static>, k: usize) -> usize
+    ensures { result ≡ pointer_of (slice_get machine.now.memory.forms k) }
 {
-    turn_to(machine, k);
     match form_at(machine, k) {
         Some(form) => form.pointer() as usize,
         None => 0,
     }
 }
 
+/// The length of an argument of the call that the next step performs, which goes to the front of a buffer. The name is
+/// argument 0.
+pub(crate) fn lay_argument(machine: &Machine<'static>, which: usize, room: &mut [u8]) -> usize
+    ensures { Lays (argument (next_texts machine.now) which) result room.old room.new }
+{
+    if which >= machine.argument_count() as usize {
+        return 0;
+    }
+    match machine.argument(which as u32) {
+        Some(text) => lay_characters(text, room),
+        None => 0,
+    }
+}
+
 /// How many forms there are.
-pub(crate) fn count(machine: &mut Machine<'static>) -> usize
-    ensures { (result ≡ length machine.old.memory.forms) × (machine.new ≡ machine.old) }
+pub(crate) fn count(machine: &Machine<'static>) -> usize
+    ensures { result ≡ length machine.now.memory.forms }
 {
     machine.forms().len() as usize
 }

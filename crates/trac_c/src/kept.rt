@@ -19,6 +19,14 @@ pub extern "C" fn trac_engine_machine_size() -> usize
     std::mem::size_of::<Machine<'static>>()
 }
 
+/// The bytes that a cell takes: as many as C gives it.
+#[unsafe(no_mangle)]
+pub extern "C" fn trac_engine_cell_size() -> usize
+    ensures { result ≡ 8 }
+{
+    std::mem::size_of::<Cell>()
+}
+
 /// Makes a machine at a place, over a block of `cells` cells that is its own from then on, which may
 /// make `steps` steps. Gives 0. More than 16,777,216 cells are refused: then it gives 9,
 /// and nothing is touched.
@@ -102,4 +110,25 @@ fn take_peak(machine: &mut Machine<'static>) -> u32
     ensures { (result ≡ machine.old.peak) × (machine.new ≡ record machine.old { peak = 0 }) }
 {
     machine.take_peak()
+}
+
+/// Has the machine at a place keep in mind where form `k` begins, from 0, in the order of definition: forms that are
+/// looked at in turn then cost one walk in all. Nothing that can be seen changes. Where there is no such form nothing
+/// is done.
+#[unsafe(no_mangle)]
+pub unsafe extern "C" fn trac_engine_turn_to_form(machine: *mut u64, k: usize)
+    ghost held: { MachineState }
+    requires* { sem 𝓛 (machine_at machine held) }
+    ensures* { sem 𝓛 (machine_at machine held) }
+{
+    turn_to(&mut *(machine as *mut Machine<'static>), k)
+}
+
+/// Has a machine keep in mind where form `k` begins.
+fn turn_to(machine: &mut Machine<'static>, k: usize)
+    ensures { machine.new ≡ machine.old }
+{
+    if let Ok(k) = u32::try_from(k) {
+        machine.turn_to_form(k);
+    }
 }

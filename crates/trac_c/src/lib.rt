@@ -13,17 +13,20 @@ mod run;
 mod strings;
 mod turn;
 mod view;
+mod zeroed;
 
 pub use check::trac_engine_check;
 pub use kept::{
-    trac_engine_again, trac_engine_machine_size, trac_engine_open, trac_engine_take_peak,
-    trac_engine_turn,
+    trac_engine_again, trac_engine_cell_size, trac_engine_machine_size, trac_engine_open,
+    trac_engine_take_peak, trac_engine_turn, trac_engine_turn_to_form,
 };
 pub use report::TracReport;
 pub use run::trac_engine_run;
 pub use view::{
-    trac_engine_active_part, trac_engine_awaits, trac_engine_calls, trac_engine_drops,
-    trac_engine_form_codes, trac_engine_form_count, trac_engine_form_name,
-    trac_engine_form_pointer, trac_engine_form_text, trac_engine_meta, trac_engine_neutral_part,
-    trac_engine_part, trac_engine_rule, trac_engine_steps_to_call, trac_engine_takes,
+    trac_engine_active_part, trac_engine_argument, trac_engine_argument_count, trac_engine_awaits,
+    trac_engine_calls, trac_engine_drops, trac_engine_form_codes, trac_engine_form_count,
+    trac_engine_form_name, trac_engine_form_pointer, trac_engine_form_text, trac_engine_meta,
+    trac_engine_neutral_part, trac_engine_part, trac_engine_rule, trac_engine_steps_to_call,
+    trac_engine_takes,
 };
+pub use zeroed::{trac_engine_open_zeroed, trac_engine_run_zeroed};

@@ -54,7 +54,12 @@ pub(crate) unsafe fn fill(block: *mut Cell, cells: usize)
 }
 
 /// Runs a script in a block.
-fn run_over(block: &mut [Cell], steps: u64, script: &[u8], output: &mut [u8]) -> TracReport
+pub(crate) fn run_over(
+    block: &mut [Cell],
+    steps: u64,
+    script: &[u8],
+    output: &mut [u8],
+) -> TracReport
     requires { length block.old ≤ 16777216 }
     ensures { Ran (length block.old) steps script.now output.new result }
 {

@@ -5,6 +5,7 @@ ghost use Rattle.trac_language.specs.State.{size};
 ghost use Rattle.trac_language.specs.Rule.{rule};
 ghost use Rattle.trac_space.specs.Texts.{text_of_cells};
 ghost use Rattle.trac_functions.specs.Flat.{neutral_of};
+ghost use Rattle.trac_core.specs.OpenCalls.{next_texts};
 ghost use Rattle.trac_core.specs.Session.{awaited, next_function};
 ghost use Rattle.trac_core.specs.View.{neutral_in, row_of};
 ghost use Rattle.trac_c.specs.Buffers.{Lays, laid};
@@ -19,9 +20,8 @@ use trac_space::{Mode, character_of};
 
 /// Puts the active string from a place on to the front of a buffer, as much as fits, and gives how
 /// long that part is.
-pub(crate) fn lay_active(machine: &mut Machine<'static>, from: usize, room: &mut [u32]) -> usize
-    ensures { Lays (drop from machine.old.memory.active) result room.old room.new ×
-        (machine.new ≡ machine.old) }
+pub(crate) fn lay_active(machine: &Machine<'static>, from: usize, room: &mut [u32]) -> usize
+    ensures { Lays (drop from machine.now.memory.active) result room.old room.new }
 {
     lay_characters(cells_from(machine.active(), from), room)
 }
@@ -46,9 +46,9 @@ fn lay_characters(cells: &[Cell], room: &mut [u32]) -> usize
 
 /// Puts the codes of the neutral string from a place on to the front of a buffer, as many as fit, and
 /// gives how many there are from there on.
-pub(crate) fn lay_neutral(machine: &mut Machine<'static>, from: usize, room: &mut [u32]) -> usize
-    ensures { Lays (drop from (codes_of_neutral (neutral_in machine.old.memory))) result room.old
-        room.new × (machine.new ≡ machine.old) }
+pub(crate) fn lay_neutral(machine: &Machine<'static>, from: usize, room: &mut [u32]) -> usize
+    ensures { Lays (drop from (codes_of_neutral (neutral_in machine.now.memory))) result room.old
+        room.new }
 {
     lay_marks(machine.neutral(), from, room)
 }
@@ -75,9 +75,8 @@ fn lay_marks(cells: &[Cell], from: usize, room: &mut [u32]) -> usize
 
 /// Puts the places at which the marks of the open calls stand in the neutral string to the front of a
 /// buffer, that of the innermost first, as many as fit, and gives how many calls are open.
-pub(crate) fn lay_calls(machine: &mut Machine<'static>, room: &mut [u32]) -> usize
-    ensures { Lays (call_places (neutral_in machine.old.memory)) result room.old room.new ×
-        (machine.new ≡ machine.old) }
+pub(crate) fn lay_calls(machine: &Machine<'static>, room: &mut [u32]) -> usize
+    ensures { Lays (call_places (neutral_in machine.now.memory)) result room.old room.new }
 {
     let _size: u32 = machine.size();
     lay_places(machine.neutral(), room)
@@ -155,10 +154,16 @@ fn comma_code(in_call: bool) -> u32
     if in_call { 258 } else { u32::from(b',') }
 }
 
+/// How many arguments the call has that the next step performs, its name counted.
+pub(crate) fn argument_count(machine: &Machine<'static>) -> usize
+    ensures { result ≡ length (next_texts machine.now) }
+{
+    machine.argument_count() as usize
+}
+
 /// The number of the rule that the next step follows, in the order of the table of rules.
-pub(crate) fn rule_number(machine: &mut Machine<'static>) -> u32
-    ensures { (result ≡ rule_number (row_of (rule machine.old.memory.active))) ×
-        (machine.new ≡ machine.old) }
+pub(crate) fn rule_number(machine: &Machine<'static>) -> u32
+    ensures { result ≡ rule_number (row_of (rule machine.now.memory.active)) }
 {
     match machine.next_rule() {
         ScanningRule::Idling => 0,
@@ -174,9 +179,8 @@ pub(crate) fn rule_number(machine: &mut Machine<'static>) -> u32
 }
 
 /// The number of what the next step reads.
-pub(crate) fn awaits_number(machine: &mut Machine<'static>) -> u32
-    ensures { (result ≡ awaits_number (awaited (next_function machine.old))) ×
-        (machine.new ≡ machine.old) }
+pub(crate) fn awaits_number(machine: &Machine<'static>) -> u32
+    ensures { result ≡ awaits_number (awaited (next_function machine.now)) }
 {
     match machine.awaits() {
         Awaits::Nothing => 0,
@@ -186,40 +190,37 @@ pub(crate) fn awaits_number(machine: &mut Machine<'static>) -> u32
 }
 
 /// The meta character.
-pub(crate) fn meta(machine: &mut Machine<'static>) -> u32
-    ensures { (result ≡ machine.old.memory.meta) × (machine.new ≡ machine.old) }
+pub(crate) fn meta(machine: &Machine<'static>) -> u32
+    ensures { result ≡ machine.now.memory.meta }
 {
     u32::from(machine.meta())
 }
 
 /// How many characters the next step takes from the active string.
-pub(crate) fn takes(machine: &mut Machine<'static>) -> usize
-    ensures { let active = machine.old.memory.active in
-        (result ≡ taken (rule active) (length active)) × (machine.new ≡ machine.old) }
+pub(crate) fn takes(machine: &Machine<'static>) -> usize
+    ensures { let active = machine.now.memory.active in result ≡ taken (rule active) (length active) }
 {
     machine.takes() as usize
 }
 
 /// How many characters the next step drops, since its left parenthesis has no match.
-pub(crate) fn drops(machine: &mut Machine<'static>) -> usize
-    ensures { let active = machine.old.memory.active in
-        (result ≡ dropped (rule active) (length active)) × (machine.new ≡ machine.old) }
+pub(crate) fn drops(machine: &Machine<'static>) -> usize
+    ensures { let active = machine.now.memory.active in result ≡ dropped (rule active) (length active) }
 {
     machine.drops() as usize
 }
 
 /// How many steps come before the next one that may perform a call or loads the idling procedure, at
 /// most `most`.
-pub(crate) fn steps_to_call(machine: &mut Machine<'static>, most: u64) -> u64
-    ensures { (result ≡ steps_before_call most machine.old.memory.active) ×
-        (machine.new ≡ machine.old) }
+pub(crate) fn steps_to_call(machine: &Machine<'static>, most: u64) -> u64
+    ensures { result ≡ steps_before_call most machine.now.memory.active }
 {
     machine.steps_to_call(most)
 }
 
 /// The cells of a part of the block.
-pub(crate) fn part(machine: &mut Machine<'static>, which: u32) -> usize
-    ensures { (result ≡ part_cells which machine.old) × (machine.new ≡ machine.old) }
+pub(crate) fn part(machine: &Machine<'static>, which: u32) -> usize
+    ensures { result ≡ part_cells which machine.now }
 {
     match which {
         0 => store_cells(machine),

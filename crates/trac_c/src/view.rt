@@ -1,7 +1,10 @@
-//! What C sees of a machine that it keeps. None of these changes the machine.
+//! What C sees of a machine that it keeps. Each of these has the machine by a shared reference, through which nothing can
+//! be written: no cell of the block moves, and no word of the machine changes.
 ghost use Rattle.std.specs.Prelude.{◌≡◌, drop, length, slice_get};
 ghost use Rattle.trac_language.specs.Rule.{rule};
+ghost use Rattle.trac_language.specs.State.{argument};
 ghost use Rattle.trac_core.specs.Machine.{MachineState};
+ghost use Rattle.trac_core.specs.OpenCalls.{next_texts};
 ghost use Rattle.trac_core.specs.Session.{awaited, next_function};
 ghost use Rattle.trac_core.specs.View.{dropped, neutral_in, row_of, steps_before_call, taken};
 ghost use Rattle.trac_c.specs.Machines.{machine_at};
@@ -11,7 +14,7 @@ ghost use Rattle.trac_c.specs.View.{codes_of_neutral, rule_number, awaits_number
 ghost use Rattle.trac_c.specs.View.{call_places};
 ghost use types.Logic.{sem};
 
-use crate::forms::{count, lay_codes, lay_display, lay_name, pointer};
+use crate::forms::{count, lay_argument, lay_codes, lay_display, lay_name, pointer};
 use crate::strings;
 use trac_core::Machine;
 
@@ -22,7 +25,7 @@ pub unsafe extern "C" fn trac_engine_form_count(machine: *mut u64) -> usize
     requires* { sem 𝓛 (machine_at machine held) }
     ensures* { sem 𝓛 (machine_at machine held) ∗ ⌜ result ≡ length held.memory.forms ⌝ }
 {
-    count(&mut *(machine as *mut Machine<'static>))
+    count(&*(machine as *const Machine<'static>))
 }
 
 /// The length of the name of form `k`, from 0, in the order of definition; the name goes to the
@@ -34,7 +37,7 @@ pub unsafe extern "C" fn trac_engine_form_name(machine: *mut u64, k: usize, to: 
     ensures* { sem 𝓛 (machine_at machine held) ∗
         ⌜ Lays (name_of (slice_get held.memory.forms k)) result to.old to.new ⌝ }
 {
-    lay_name(&mut *(machine as *mut Machine<'static>), k, to)
+    lay_name(&*(machine as *const Machine<'static>), k, to)
 }
 
 /// The length of the display of form `k`, as `pf` prints it: gaps as their ordinals in angle brackets,
@@ -47,7 +50,7 @@ pub unsafe extern "C" fn trac_engine_form_text(machine: *mut u64, k: usize, to: 
     ensures* { sem 𝓛 (machine_at machine held) ∗
         ⌜ Lays (display_of (slice_get held.memory.forms k)) result to.old to.new ⌝ }
 {
-    lay_display(&mut *(machine as *mut Machine<'static>), k, to)
+    lay_display(&*(machine as *const Machine<'static>), k, to)
 }
 
 /// How many items the body of form `k` has. A number for each goes to the front of `to`, as many as
@@ -64,7 +67,7 @@ pub unsafe extern "C" fn trac_engine_form_codes(
     ensures* { sem 𝓛 (machine_at machine held) ∗
         ⌜ Lays (codes_of (slice_get held.memory.forms k)) result to.old to.new ⌝ }
 {
-    lay_codes(&mut *(machine as *mut Machine<'static>), k, to)
+    lay_codes(&*(machine as *const Machine<'static>), k, to)
 }
 
 /// How many items of form `k` stand in front of its pointer, 0 where there is no such form.
@@ -75,7 +78,7 @@ pub unsafe extern "C" fn trac_engine_form_pointer(machine: *mut u64, k: usize) -
     ensures* { sem 𝓛 (machine_at machine held) ∗
         ⌜ result ≡ pointer_of (slice_get held.memory.forms k) ⌝ }
 {
-    pointer(&mut *(machine as *mut Machine<'static>), k)
+    pointer(&*(machine as *const Machine<'static>), k)
 }
 
 /// How many codes the neutral string has from place `from` on; they go to the front of `to`, as many as
@@ -92,7 +95,7 @@ pub unsafe extern "C" fn trac_engine_neutral_part(
     ensures* { sem 𝓛 (machine_at machine held) ∗
         ⌜ Lays (drop from (codes_of_neutral (neutral_in held.memory))) result to.old to.new ⌝ }
 {
-    strings::lay_neutral(&mut *(machine as *mut Machine<'static>), from, to)
+    strings::lay_neutral(&*(machine as *const Machine<'static>), from, to)
 }
 
 /// How many bytes the active string has from place `from` on; they go to the front of `to`, as many as
@@ -108,7 +111,7 @@ pub unsafe extern "C" fn trac_engine_active_part(
     ensures* { sem 𝓛 (machine_at machine held) ∗
         ⌜ Lays (drop from held.memory.active) result to.old to.new ⌝ }
 {
-    strings::lay_active(&mut *(machine as *mut Machine<'static>), from, to)
+    strings::lay_active(&*(machine as *const Machine<'static>), from, to)
 }
 
 /// How many calls are open; the places at which their marks stand in the neutral string go to the front
@@ -120,7 +123,34 @@ pub unsafe extern "C" fn trac_engine_calls(machine: *mut u64, to: &mut [u32]) ->
     ensures* { sem 𝓛 (machine_at machine held) ∗
         ⌜ Lays (call_places (neutral_in held.memory)) result to.old to.new ⌝ }
 {
-    strings::lay_calls(&mut *(machine as *mut Machine<'static>), to)
+    strings::lay_calls(&*(machine as *const Machine<'static>), to)
+}
+
+/// How many arguments the call has that the next step performs, its name counted; 0 where it performs no call, where the
+/// run is over, and where the allowance is used up.
+#[unsafe(no_mangle)]
+pub unsafe extern "C" fn trac_engine_argument_count(machine: *mut u64) -> usize
+    ghost held: { MachineState }
+    requires* { sem 𝓛 (machine_at machine held) }
+    ensures* { sem 𝓛 (machine_at machine held) ∗ ⌜ result ≡ length (next_texts held) ⌝ }
+{
+    strings::argument_count(&*(machine as *const Machine<'static>))
+}
+
+/// The length of argument `which` of the call that the next step performs, the name being argument 0; the argument goes to
+/// the front of `to`, as much of it as fits. Where there is no such argument, 0, and `to` stays as it is.
+#[unsafe(no_mangle)]
+pub unsafe extern "C" fn trac_engine_argument(
+    machine: *mut u64,
+    which: usize,
+    to: &mut [u8],
+) -> usize
+    ghost held: { MachineState }
+    requires* { sem 𝓛 (machine_at machine held) }
+    ensures* { sem 𝓛 (machine_at machine held) ∗
+        ⌜ Lays (argument (next_texts held) which) result to.old to.new ⌝ }
+{
+    lay_argument(&*(machine as *const Machine<'static>), which, to)
 }
 
 /// How many characters the next step takes from the front of the active string: those that open a call,
@@ -133,7 +163,7 @@ pub unsafe extern "C" fn trac_engine_takes(machine: *mut u64) -> usize
     ensures* { sem 𝓛 (machine_at machine held) ∗
         ⌜ result ≡ taken (rule held.memory.active) (length held.memory.active) ⌝ }
 {
-    strings::takes(&mut *(machine as *mut Machine<'static>))
+    strings::takes(&*(machine as *const Machine<'static>))
 }
 
 /// How many characters the next step drops: all of an active string that begins with a left parenthesis
@@ -145,7 +175,7 @@ pub unsafe extern "C" fn trac_engine_drops(machine: *mut u64) -> usize
     ensures* { sem 𝓛 (machine_at machine held) ∗
         ⌜ result ≡ dropped (rule held.memory.active) (length held.memory.active) ⌝ }
 {
-    strings::drops(&mut *(machine as *mut Machine<'static>))
+    strings::drops(&*(machine as *const Machine<'static>))
 }
 
 /// How many steps come before the next one at a right parenthesis or at an empty active string, at most
@@ -157,7 +187,7 @@ pub unsafe extern "C" fn trac_engine_steps_to_call(machine: *mut u64, most: u64)
     ensures* { sem 𝓛 (machine_at machine held) ∗
         ⌜ result ≡ steps_before_call most held.memory.active ⌝ }
 {
-    strings::steps_to_call(&mut *(machine as *mut Machine<'static>), most)
+    strings::steps_to_call(&*(machine as *const Machine<'static>), most)
 }
 
 /// The rule that the next step follows: 0 idling, 1 layout, 2 protection, 3 argument, 4 active call,
@@ -169,7 +199,7 @@ pub unsafe extern "C" fn trac_engine_rule(machine: *mut u64) -> u32
     ensures* { sem 𝓛 (machine_at machine held) ∗
         ⌜ result ≡ rule_number (row_of (rule held.memory.active)) ⌝ }
 {
-    strings::rule_number(&mut *(machine as *mut Machine<'static>))
+    strings::rule_number(&*(machine as *const Machine<'static>))
 }
 
 /// The cells of a part of the block: 0 the store of forms, 1 the neutral string, 2 what is free, 3
@@ -180,7 +210,7 @@ pub unsafe extern "C" fn trac_engine_part(machine: *mut u64, which: u32) -> usiz
     requires* { sem 𝓛 (machine_at machine held) }
     ensures* { sem 𝓛 (machine_at machine held) ∗ ⌜ result ≡ part_cells which held ⌝ }
 {
-    strings::part(&mut *(machine as *mut Machine<'static>), which)
+    strings::part(&*(machine as *const Machine<'static>), which)
 }
 
 /// The meta character.
@@ -190,7 +220,7 @@ pub unsafe extern "C" fn trac_engine_meta(machine: *mut u64) -> u32
     requires* { sem 𝓛 (machine_at machine held) }
     ensures* { sem 𝓛 (machine_at machine held) ∗ ⌜ result ≡ held.memory.meta ⌝ }
 {
-    strings::meta(&mut *(machine as *mut Machine<'static>))
+    strings::meta(&*(machine as *const Machine<'static>))
 }
 
 /// What the next step reads: 0 nothing, 1 a string, 2 a byte.
@@ -201,5 +231,5 @@ pub unsafe extern "C" fn trac_engine_awaits(machine: *mut u64) -> u32
     ensures* { sem 𝓛 (machine_at machine held) ∗
         ⌜ result ≡ awaits_number (awaited (next_function held)) ⌝ }
 {
-    strings::awaits_number(&mut *(machine as *mut Machine<'static>))
+    strings::awaits_number(&*(machine as *const Machine<'static>))
 }

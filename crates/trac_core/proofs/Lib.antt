@@ -21,4 +21,5 @@ pub mod OrdinaryBlocks
 pub mod ArgumentRuns
 pub mod OpenCalls
 pub mod IdlingSteps
+pub mod ListedTexts
 mod Imports

@@ -5,7 +5,7 @@ use Rattle.trac_language.specs.declared.mode.Mode.TheVariants.{Neutral}
 use Rattle.trac_laws.proofs.Rules.{rule_end}
 use Rattle.trac_functions.proofs.FlatLemmas.{calls-none, neutral_of-innermost, arguments-call_at}
 use Rattle.trac_core.proofs.Performing.{performs-closed, function-performs, needs-call}
-use Rattle.trac_core.specs.OpenCalls.{call_performed_by, performed_call}
+use Rattle.trac_core.specs.OpenCalls.{call_performed_by, performed_call, performed_texts, texts_performed_by}
 use Rattle.trac_core.proofs.Scanning.{first-rest}
 
 parenthesis-performs : (o : Option (Text × Text)) (calls : List OpenCall) → call_performed_by (parenthesis_rule o) calls ≡ None
@@ -76,3 +76,17 @@ call-innermost w place meta first last =
 pub called : (w : Contents) (place meta : ℕ) (function : Option Function) (count depth : ℕ) → slice_get (text_of_cells w.active) 0 ≡ Some 41 → IsLastCall w.neutral place → function ≡ function_at w.neutral place → count ≡ length (drop 1 (arguments_at w.neutral place)) → depth ≡ length (neutral_of (take place w.neutral)).calls → Some (record { function = function; arguments = count; depth = depth }) ≡ performed_call (memory_of meta w)
 called w place meta function count depth first last function_is count_is depth_is =
     rw (function_is, count_is, depth_is, call-innermost w place meta first last) refl
+
+-- a step that performs no call performs none with arguments
+no-texts : (r : Rule) (calls : List OpenCall) → call_performed_by r calls ≡ None → texts_performed_by r calls ≡ []
+no-texts (EndCall rest) [] e = refl
+no-texts (EndCall rest) (call ∷ outer) e = absurd cc
+no-texts _ calls e = refl
+
+pub uncalled-texts : (m : Memory) → performed_call m ≡ None → performed_texts m ≡ []
+uncalled-texts m e = no-texts (rule m.active) m.calls e
+
+-- the arguments of the call that is performed stand behind its mark
+pub texts-innermost : (w : Contents) (place meta : ℕ) → slice_get (text_of_cells w.active) 0 ≡ Some 41 → IsLastCall w.neutral place → performed_texts (memory_of meta w) ≡ arguments_at w.neutral place
+texts-innermost w place meta first last =
+    rw (first-rest (text_of_cells w.active) 41 first, rule_end (drop 1 (text_of_cells w.active)), neutral_of-innermost w.neutral place last, arguments-call_at w.neutral place last) refl

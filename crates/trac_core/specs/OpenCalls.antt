@@ -3,6 +3,7 @@
 use Rattle.std.specs.Prelude.{ℕ, zero, suc, ◌+◌, List, [], ◌∷◌, Option, None, Some, drop, length, sum_by}
 use Rattle.std.specs.Prelude.{◌&&◌, if◌then◌else◌, is_none, nat_lt}
 use Rattle.trac_language.specs.Rule.{Rule, EndCall, rule}
+use Rattle.trac_language.specs.Text.{Text}
 use Rattle.trac_language.specs.State.{Memory, OpenCall as Call, arguments, call_cells}
 use Rattle.trac_language.specs.Step.{function_of}
 use Rattle.trac_functions.specs.Flat.{Neutral}
@@ -55,6 +56,21 @@ call_performed_by _ calls = None
 -- the call that a step performs over this memory
 abbrev pub performed_call : Memory → Option NextCall
 performed_call memory = call_performed_by (rule memory.active) memory.calls
+
+-- the arguments, the name first, of the call among these, innermost first, that a step by the rule performs;
+-- none where it performs no call
+abbrev pub texts_performed_by : Rule → List Call → List Text
+texts_performed_by (EndCall rest) (call ∷ outer) = arguments call
+texts_performed_by _ calls = []
+
+-- the arguments, the name first, of the call that a step performs over this memory
+abbrev pub performed_texts : Memory → List Text
+performed_texts memory = texts_performed_by (rule memory.active) memory.calls
+
+-- the arguments, the name first, of the call that the next step performs, if there is a next step
+abbrev pub next_texts : MachineState → List Text
+next_texts m =
+    if is_none m.fate && nat_lt m.steps m.allowance then performed_texts m.memory else []
 
 -- the call that the next step performs, if there is a next step: the run is not over, and the
 -- allowance not used up

@@ -26,6 +26,7 @@ use trac_language::{Fate, Report};
 use trac_space::Cell;
 
 pub(crate) mod advancing;
+pub(crate) mod arguments;
 pub(crate) mod closing;
 pub(crate) mod open_calls;
 pub(crate) mod printing;

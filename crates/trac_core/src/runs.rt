@@ -166,14 +166,16 @@ fn kinds(cells: &[Cell], i: usize) -> u8
     ensures kinds { result ≡ sum_by kind_in (take 8 (drop i cells.now)) }
     ensures small { result ≤ 16 }
 {
-    kind(&cells[i])
-        + kind(&cells[i + 1])
-        + kind(&cells[i + 2])
-        + kind(&cells[i + 3])
-        + kind(&cells[i + 4])
-        + kind(&cells[i + 5])
-        + kind(&cells[i + 6])
-        + kind(&cells[i + 7])
+    // A slice of eight tells a compiler that doesn't know the contract that the places are there.
+    let cells = &cells[i..i + 8];
+    kind(&cells[0])
+        + kind(&cells[1])
+        + kind(&cells[2])
+        + kind(&cells[3])
+        + kind(&cells[4])
+        + kind(&cells[5])
+        + kind(&cells[6])
+        + kind(&cells[7])
 }
 
 /// What the table says of the character of a cell.
@@ -254,14 +256,15 @@ fn sides(cells: &[Cell], i: usize) -> u8
     requires bytes { All IsByte cells.now }
     ensures { result ≡ sum_by side_in (take 8 (drop i cells.now)) }
 {
-    side(&cells[i])
-        + side(&cells[i + 1])
-        + side(&cells[i + 2])
-        + side(&cells[i + 3])
-        + side(&cells[i + 4])
-        + side(&cells[i + 5])
-        + side(&cells[i + 6])
-        + side(&cells[i + 7])
+    let cells = &cells[i..i + 8];
+    side(&cells[0])
+        + side(&cells[1])
+        + side(&cells[2])
+        + side(&cells[3])
+        + side(&cells[4])
+        + side(&cells[5])
+        + side(&cells[6])
+        + side(&cells[7])
 }
 
 /// What that table says of the character of a cell.

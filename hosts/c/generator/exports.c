@@ -61,6 +61,20 @@ static trac_report trac_engine_run(void *block, size_t cells, uint64_t steps, co
     return told(&report);
 }
 
+static trac_report trac_engine_run_zeroed(void *block, size_t cells, uint64_t steps, const uint8_t *script,
+                                          size_t script_len, uint8_t *output, size_t output_len) {
+    struct lent lent;
+    struct engine_report report;
+    engine_run_zeroed(lend(&lent), address_of(&report), address_of(block), cells, steps, address_of(script), script_len,
+                      address_of(output), output_len);
+    return told(&report);
+}
+
+static size_t trac_engine_cell_size(void) {
+    struct lent lent;
+    return (size_t)engine_cell_size(lend(&lent));
+}
+
 static size_t trac_engine_machine_size(void) {
     struct lent lent;
     return (size_t)engine_machine_size(lend(&lent));
@@ -69,6 +83,11 @@ static size_t trac_engine_machine_size(void) {
 static uint32_t trac_engine_open(void *machine, void *block, size_t cells, uint64_t steps) {
     struct lent lent;
     return engine_open(lend(&lent), address_of(machine), address_of(block), cells, steps);
+}
+
+static uint32_t trac_engine_open_zeroed(void *machine, void *block, size_t cells, uint64_t steps) {
+    struct lent lent;
+    return engine_open_zeroed(lend(&lent), address_of(machine), address_of(block), cells, steps);
 }
 
 static trac_report trac_engine_turn(void *machine, const uint8_t *input, size_t input_len, uint8_t *output,
@@ -88,6 +107,11 @@ static void trac_engine_again(void *machine, uint64_t steps) {
 static uint32_t trac_engine_take_peak(void *machine) {
     struct lent lent;
     return engine_take_peak(lend(&lent), address_of(machine));
+}
+
+static void trac_engine_turn_to_form(void *machine, size_t k) {
+    struct lent lent;
+    engine_turn_to_form(lend(&lent), address_of(machine), k);
 }
 
 static size_t trac_engine_form_count(void *machine) {
@@ -128,6 +152,16 @@ static size_t trac_engine_active_part(void *machine, size_t from, uint32_t *to, 
 static size_t trac_engine_calls(void *machine, uint32_t *to, size_t room) {
     struct lent lent;
     return in_order(to, room, engine_calls(lend(&lent), address_of(machine), address_of(to), room));
+}
+
+static size_t trac_engine_argument_count(void *machine) {
+    struct lent lent;
+    return (size_t)engine_argument_count(lend(&lent), address_of(machine));
+}
+
+static size_t trac_engine_argument(void *machine, size_t which, uint8_t *to, size_t room) {
+    struct lent lent;
+    return (size_t)engine_argument(lend(&lent), address_of(machine), which, address_of(to), room);
 }
 
 static size_t trac_engine_takes(void *machine) {

@@ -13,7 +13,7 @@ from typing import Any, NamedTuple, NoReturn
 
 from ._engine import MOST_CELLS
 from .reading import Reading, fault_words, is_idle
-from .session import DEFAULT_CELLS, DEFAULT_STEPS, Fate, Session
+from .session import DEFAULT_CELLS, DEFAULT_STEPS, Fate, Session, shown_name
 
 PROGRAM = 'trac_t64'
 MOST_STEPS = 1000000000000
@@ -48,7 +48,8 @@ class Parser(argparse.ArgumentParser):
     """A parser whose line about a word goes out as the other lines do."""
 
     def error(self, message: str) -> NoReturn:
-        say(f'{self.format_usage()}{PROGRAM}: error: {message}')
+        line = ''.join(one if one == '\\' else shown_name(one) for one in message)
+        say(f'{self.format_usage()}{PROGRAM}: error: {line}')
         sys.exit(USAGE)
 
 
@@ -90,7 +91,7 @@ class Source:
     """A script, by what reads so many bytes of it at most, and how far it was read."""
 
     def __init__(self, name: str, read: Callable[[int], bytes], line: int = 1) -> None:
-        self.name, self._read = name, read
+        self.name, self._read = shown_name(name), read
         self._reading = Reading(line)
 
     def give_more(self, session: Session) -> None:
@@ -168,7 +169,7 @@ def run_file(session: Session, name: str, reports: bool) -> int:
         with opened(name) as source:
             return run_source(session, source, reports)
     except OSError as error:
-        say(f"{PROGRAM}: can't read {name}: {error.strerror}")
+        say(f"{PROGRAM}: can't read {shown_name(name)}: {error.strerror}")
         return INPUT_FAILED
 
 

@@ -9,9 +9,13 @@
 #include <stdlib.h>
 #include <time.h>
 
-/* The steps of a turn that keeps Python's lock; those between two looks at the clock; the looks at signals a second;
- * the least bytes of a buffer, and the most that it keeps when it is empty. */
-enum { SHORT = 256, PART = 4096, LOOKS = 20, LEAST = 4096, KEPT = 65536 };
+/* The steps of a turn that keeps Python's lock; the seconds between two looks at signals, as a part of a second; the
+ * least bytes of a buffer, and the most that it keeps when it is empty. */
+enum { SHORT = 16, LOOKS = 20, LEAST = 4096, KEPT = 65536 };
+
+/* The fewest and the most steps of a turn, and the cells that its steps may go through, each of them through all that
+ * there is: some 50 milliseconds. */
+enum { FEWEST = 4, MOST = 4096, CELLS_A_TURN = 1 << 24 };
 
 /* ---- Bytes that come in at the end and leave at the front. */
 
@@ -73,88 +77,50 @@ static PyObject *bytes_of(const buffer *of) {
 
 /* ---- Machines. */
 
-/* A block. A machine keeps the address of its block, so a machine and its copies share one: the cells of one of them
- * stand inside, and each other has its cells aside. */
 typedef struct {
-    trac_cell *cells;
-    size_t count, sharers;
-    struct machine_object *inside; /* null where the one inside was closed */
-    int is_in_turn;
-} block;
-
-typedef struct machine_object {
     PyObject_HEAD
     trac_machine machine;
-    block *block;     /* null where the machine is closed */
-    trac_cell *aside; /* null where its cells stand inside the block */
+    trac_cell *block; /* null where the machine is closed */
+    size_t cells;
     buffer input, output;
     int has_ended; /* whether the input ends behind what the buffer holds */
+    int is_busy;   /* whether a call uses it. Whoever asks meanwhile, as an object's finaliser does, is refused */
     trac_report report;
     uint64_t consumed;
 } machine_object;
 
-static size_t block_size(const block *of) { return of->count * sizeof(trac_cell); }
-
-/* Exchanges the bytes of two rows. */
-static void exchange(char *a, char *b, size_t length) {
-    char between[LEAST];
-    while (length) {
-        const size_t part = length < sizeof between ? length : sizeof between;
-        memcpy(between, a, part);
-        memcpy(a, b, part);
-        memcpy(b, between, part);
-        a += part;
-        b += part;
-        length -= part;
-    }
-}
-
-/* Puts a machine's cells into its block; those of the machine that was inside go to where they were. */
-static void go_inside(machine_object *self) {
-    block *const shared = self->block;
-    if (shared->inside) {
-        exchange((char *)shared->cells, (char *)self->aside, block_size(shared));
-        shared->inside->aside = self->aside;
-    } else {
-        memcpy(shared->cells, self->aside, block_size(shared));
-        free(self->aside);
-    }
-    self->aside = NULL;
-    shared->inside = self;
-}
-
-/* Whether the machine can be used now, with its cells inside; else the error is set. */
-static int is_usable(machine_object *self) {
+/* Whether the machine can be used now; else the error is set. */
+static int is_usable(const machine_object *self) {
     if (!self->block) {
         PyErr_SetString(PyExc_ValueError, "the session is closed");
         return 0;
     }
-    if (self->block->is_in_turn) {
-        PyErr_SetString(PyExc_RuntimeError, "the session, or a copy of it, is in the middle of a turn");
+    if (self->is_busy) {
+        PyErr_SetString(PyExc_RuntimeError, "the session is in the middle of a turn or another call");
         return 0;
     }
-    if (self->aside)
-        go_inside(self);
     return 1;
+}
+
+/* Has the machine for one call, which makes objects of Python or runs its code, by a function that gives what the call
+ * gives. */
+static PyObject *used(machine_object *self, PyObject *(*by)(machine_object *)) {
+    PyObject *result;
+    if (!is_usable(self))
+        return NULL;
+    self->is_busy = 1;
+    result = by(self);
+    self->is_busy = 0;
+    return result;
 }
 
 /* Gives up the block and all other memory. */
 static void release(machine_object *self) {
-    block *const shared = self->block;
-    free(self->aside);
+    free(self->block);
     free(self->input.bytes);
     free(self->output.bytes);
-    self->aside = NULL;
-    self->input = self->output = (buffer){NULL, 0, 0, 0};
     self->block = NULL;
-    if (!shared)
-        return;
-    if (shared->inside == self)
-        shared->inside = NULL;
-    if (--shared->sharers == 0) {
-        free(shared->cells);
-        free(shared);
-    }
+    self->input = self->output = (buffer){NULL, 0, 0, 0};
 }
 
 static void machine_dealloc(PyObject *object) {
@@ -162,18 +128,6 @@ static void machine_dealloc(PyObject *object) {
     release((machine_object *)object);
     ((freefunc)PyType_GetSlot(type, Py_tp_free))(object);
     Py_DECREF(type);
-}
-
-/* A block of so many cells with this machine inside. Null where there is no memory for it. */
-static block *new_block(machine_object *inside, size_t cells) {
-    block *const made = (block *)malloc(sizeof(block));
-    if (!made)
-        return NULL;
-    *made = (block){(trac_cell *)calloc(cells, sizeof(trac_cell)), cells, 1, inside, 0};
-    if (made->cells)
-        return made;
-    free(made);
-    return NULL;
 }
 
 static PyObject *machine_new(PyTypeObject *type, PyObject *arguments, PyObject *names) {
@@ -191,8 +145,9 @@ static PyObject *machine_new(PyTypeObject *type, PyObject *arguments, PyObject *
     machine_object *const self = (machine_object *)PyType_GenericAlloc(type, 0);
     if (!self)
         return NULL;
-    self->block = new_block(self, (size_t)cells);
-    if (self->block && trac_open(&self->machine, self->block->cells, (size_t)cells, steps) == 0)
+    self->block = (trac_cell *)calloc((size_t)cells, sizeof(trac_cell));
+    self->cells = (size_t)cells;
+    if (self->block && trac_open_zeroed(&self->machine, self->block, self->cells, steps) == 0)
         return (PyObject *)self;
     Py_DECREF(self);
     return PyErr_NoMemory();
@@ -213,20 +168,20 @@ static PyObject *machine_copy(machine_object *self, PyObject *nothing) {
     machine_object *const copy = (machine_object *)PyType_GenericAlloc(Py_TYPE((PyObject *)self), 0);
     if (!copy)
         return NULL;
-    const size_t size = block_size(self->block);
-    copy->aside = (trac_cell *)malloc(size);
-    if (!copy->aside || !append(&copy->input, front_of(&self->input), length_of(&self->input)) ||
+    const size_t size = self->cells * sizeof(trac_cell);
+    copy->block = (trac_cell *)malloc(size);
+    if (!copy->block || !append(&copy->input, front_of(&self->input), length_of(&self->input)) ||
         !append(&copy->output, front_of(&self->output), length_of(&self->output))) {
         Py_DECREF(copy);
         return PyErr_NoMemory();
     }
-    memcpy(copy->aside, self->block->cells, size);
+    memcpy(copy->block, self->block, size);
+    copy->cells = self->cells;
     copy->machine = self->machine;
+    (void)trac_moved(&copy->machine, copy->block);
     copy->has_ended = self->has_ended;
     copy->report = self->report;
     copy->consumed = self->consumed;
-    copy->block = self->block;
-    copy->block->sharers++;
     return (PyObject *)copy;
 }
 
@@ -272,12 +227,20 @@ typedef struct {
  * time to look at signals. */
 typedef enum { DONE, NO_MEMORY, TIME } stop;
 
+/* How many steps the next turn makes, so that it ends in time for a look at signals whatever they do. */
+static uint64_t steps_a_turn(const machine_object *self) {
+    const size_t used = self->cells - trac_part(&self->machine, TRAC_PART_FREE) + length_of(&self->input);
+    const size_t steps = CELLS_A_TURN / (used + 1);
+    return steps < FEWEST ? FEWEST : steps > MOST ? MOST : steps;
+}
+
 /* Makes steps until they stop; it needs no lock of Python's. */
 static stop make_steps(machine_object *self, task *of) {
     const clock_t begin = clock();
     while (of->most && clock() - begin <= CLOCKS_PER_SEC / LOOKS) {
         const size_t room = of->stops_at_output ? 0 : room_in(&self->output);
-        of->most -= take_turn(self, room, of->most < PART ? of->most : PART);
+        const uint64_t steps = steps_a_turn(self);
+        of->most -= take_turn(self, room, of->most < steps ? of->most : steps);
         if (self->report.fate == TRAC_WANTS_OUTPUT) {
             if (!reserve(&self->output, self->report.wanted))
                 return NO_MEMORY;
@@ -318,24 +281,24 @@ static PyObject *machine_go(machine_object *self, PyObject *arguments) {
     given.most = PyLong_AsUnsignedLongLong(number);
     if ((given.most == UINT64_MAX && PyErr_Occurred()) || !is_usable(self))
         return NULL;
-    block *const shared = self->block;
-    shared->is_in_turn = 1;
+    self->is_busy = 1;
     const int is_done = go_on(self, &given);
-    shared->is_in_turn = 0;
+    self->is_busy = 0;
     if (!is_done)
         return NULL;
     Py_RETURN_NONE;
 }
 
-static PyObject *machine_take(machine_object *self, PyObject *nothing) {
-    PyObject *printed;
-    (void)nothing;
-    if (!is_usable(self))
-        return NULL;
-    printed = bytes_of(&self->output);
+static PyObject *taken(machine_object *self) {
+    PyObject *const printed = bytes_of(&self->output);
     if (printed)
         discard(&self->output, length_of(&self->output));
     return printed;
+}
+
+static PyObject *machine_take(machine_object *self, PyObject *nothing) {
+    (void)nothing;
+    return used(self, taken);
 }
 
 static PyObject *machine_again(machine_object *self, PyObject *number) {
@@ -352,17 +315,21 @@ static PyObject *machine_again(machine_object *self, PyObject *number) {
 
 /* ---- What a machine shows of itself. */
 
-static PyObject *machine_report(machine_object *self, PyObject *nothing) {
-    (void)nothing;
-    if (!is_usable(self))
-        return NULL;
+static PyObject *reported(machine_object *self) {
     return Py_BuildValue("sKIK", trac_fate_name(self->report.fate), (unsigned long long)self->report.steps,
                          (unsigned int)self->report.peak, (unsigned long long)self->consumed);
 }
 
+static PyObject *machine_report(machine_object *self, PyObject *nothing) {
+    (void)nothing;
+    return used(self, reported);
+}
+
+static PyObject *unread(machine_object *self) { return bytes_of(&self->input); }
+
 static PyObject *machine_unread(machine_object *self, PyObject *nothing) {
     (void)nothing;
-    return is_usable(self) ? bytes_of(&self->input) : NULL;
+    return used(self, unread);
 }
 
 static PyObject *machine_has_ended(machine_object *self, PyObject *nothing) {
@@ -394,13 +361,18 @@ static PyObject *codes_of_form(const trac_form *form) {
     return bytes;
 }
 
-static PyObject *codes_of_string(machine_object *self, size_t (*fill)(const trac_machine *, uint32_t *, size_t)) {
+/* Part of a string from a place on, at most so many codes, by a function of trac.h. */
+static PyObject *codes_of_part(machine_object *self, size_t (*fill)(const trac_machine *, size_t, uint32_t *, size_t),
+                               Py_ssize_t start, Py_ssize_t most) {
     if (!is_usable(self))
         return NULL;
-    const size_t count = fill(&self->machine, NULL, 0);
+    const size_t left = fill(&self->machine, (size_t)start, NULL, 0);
+    const size_t count = left < (size_t)most ? left : (size_t)most;
+    self->is_busy = 1;
     PyObject *const bytes = room_for_codes(count);
     if (bytes)
-        (void)fill(&self->machine, codes_in(bytes), count);
+        (void)fill(&self->machine, (size_t)start, codes_in(bytes), count);
+    self->is_busy = 0;
     return bytes;
 }
 
@@ -417,11 +389,9 @@ static PyObject *form_tuple(const trac_form *form) {
     return made;
 }
 
-static PyObject *machine_forms(machine_object *self, PyObject *nothing) {
+/* Objects are made in between, so the collector may run finalisers, which can't use the machine meanwhile. */
+static PyObject *forms(machine_object *self) {
     trac_form form = TRAC_NO_FORM;
-    (void)nothing;
-    if (!is_usable(self))
-        return NULL;
     PyObject *const list = PyList_New(0);
     while (list && trac_next_form(&self->machine, &form)) {
         PyObject *const each = form_tuple(&form);
@@ -435,41 +405,58 @@ static PyObject *machine_forms(machine_object *self, PyObject *nothing) {
     return list;
 }
 
-static PyObject *machine_neutral(machine_object *self, PyObject *nothing) {
+static PyObject *machine_forms(machine_object *self, PyObject *nothing) {
     (void)nothing;
-    return codes_of_string(self, trac_neutral);
-}
-
-static PyObject *machine_active(machine_object *self, PyObject *nothing) {
-    (void)nothing;
-    return codes_of_string(self, trac_active);
-}
-
-/* Part of a string from a place on, at most so many codes. */
-static PyObject *codes_of_part(machine_object *self, PyObject *arguments,
-                               size_t (*fill)(const trac_machine *, size_t, uint32_t *, size_t)) {
-    Py_ssize_t start, most;
-    if (!PyArg_ParseTuple(arguments, "nn", &start, &most) || !is_usable(self))
-        return NULL;
-    const size_t left = fill(&self->machine, (size_t)start, NULL, 0);
-    const size_t count = left < (size_t)most ? left : (size_t)most;
-    PyObject *const bytes = room_for_codes(count);
-    if (bytes)
-        (void)fill(&self->machine, (size_t)start, codes_in(bytes), count);
-    return bytes;
+    return used(self, forms);
 }
 
 static PyObject *machine_neutral_part(machine_object *self, PyObject *arguments) {
-    return codes_of_part(self, arguments, trac_neutral_part);
+    Py_ssize_t start, most;
+    return PyArg_ParseTuple(arguments, "nn", &start, &most) ? codes_of_part(self, trac_neutral_part, start, most)
+                                                            : NULL;
 }
 
 static PyObject *machine_active_part(machine_object *self, PyObject *arguments) {
-    return codes_of_part(self, arguments, trac_active_part);
+    Py_ssize_t start, most;
+    return PyArg_ParseTuple(arguments, "nn", &start, &most) ? codes_of_part(self, trac_active_part, start, most) : NULL;
+}
+
+static size_t calls_from(const trac_machine *machine, size_t from, uint32_t *to, size_t room) {
+    (void)from;
+    return trac_calls(machine, to, room);
 }
 
 static PyObject *machine_calls(machine_object *self, PyObject *nothing) {
     (void)nothing;
-    return codes_of_string(self, trac_calls);
+    return codes_of_part(self, calls_from, 0, PY_SSIZE_T_MAX);
+}
+
+/* An argument of the call that the next step performs. */
+static PyObject *argument(const machine_object *self, size_t which) {
+    const size_t length = trac_argument(&self->machine, which, NULL, 0);
+    PyObject *const bytes = PyBytes_FromStringAndSize(NULL, (Py_ssize_t)length);
+    if (bytes)
+        (void)trac_argument(&self->machine, which, PyBytes_AsString(bytes), length);
+    return bytes;
+}
+
+/* All of them. Each is looked for from the first one on, so where they are many a signal can stop this. */
+static PyObject *all_arguments(machine_object *self) {
+    const size_t count = trac_argument_count(&self->machine);
+    PyObject *const tuple = PyTuple_New((Py_ssize_t)count);
+    for (size_t which = 0; tuple && which < count; which++) {
+        PyObject *const each = PyErr_CheckSignals() < 0 ? NULL : argument(self, which);
+        if (!each || PyTuple_SetItem(tuple, (Py_ssize_t)which, each) < 0) {
+            Py_DECREF(tuple);
+            return NULL;
+        }
+    }
+    return tuple;
+}
+
+static PyObject *machine_arguments(machine_object *self, PyObject *nothing) {
+    (void)nothing;
+    return used(self, all_arguments);
 }
 
 static PyObject *machine_takes(machine_object *self, PyObject *nothing) {
@@ -504,15 +491,17 @@ static PyObject *machine_meta(machine_object *self, PyObject *nothing) {
     return is_usable(self) ? PyLong_FromUnsignedLong(trac_meta(&self->machine)) : NULL;
 }
 
-static PyObject *machine_parts(machine_object *self, PyObject *nothing) {
+static PyObject *parts(machine_object *self) {
     Py_ssize_t cells[4];
-    (void)nothing;
-    if (!is_usable(self))
-        return NULL;
     for (uint32_t part = TRAC_PART_STORE; part <= TRAC_PART_ACTIVE; part++)
         cells[part] = (Py_ssize_t)trac_part(&self->machine, part);
     return Py_BuildValue("nnnn", cells[TRAC_PART_STORE], cells[TRAC_PART_NEUTRAL], cells[TRAC_PART_FREE],
                          cells[TRAC_PART_ACTIVE]);
+}
+
+static PyObject *machine_parts(machine_object *self, PyObject *nothing) {
+    (void)nothing;
+    return used(self, parts);
 }
 
 static PyObject *machine_take_peak(machine_object *self, PyObject *nothing) {
@@ -603,11 +592,10 @@ static PyMethodDef machine_methods[] = {
     METHOD(unread, METH_NOARGS, "The input that wasn't read."),
     METHOD(has_ended, METH_NOARGS, "Whether the input has ended."),
     METHOD(forms, METH_NOARGS, "The forms: name, display, items as numbers of 32 bits, and pointer."),
-    METHOD(neutral, METH_NOARGS, "The neutral string as numbers of 32 bits."),
-    METHOD(active, METH_NOARGS, "The active string as numbers of 32 bits."),
-    METHOD(neutral_part, METH_VARARGS, "The neutral string from a place on, at most so many codes."),
-    METHOD(active_part, METH_VARARGS, "The active string from a place on, at most so many codes."),
+    METHOD(neutral_part, METH_VARARGS, "The neutral string from a place on, at most so many numbers of 32 bits."),
+    METHOD(active_part, METH_VARARGS, "The active string from a place on, at most so many numbers of 32 bits."),
     METHOD(calls, METH_NOARGS, "Where the marks of the open calls stand, the innermost first."),
+    METHOD(arguments, METH_NOARGS, "The name and the arguments of the call that the next step performs."),
     METHOD(takes, METH_NOARGS, "How many characters the next step takes from the active string."),
     METHOD(drops, METH_NOARGS, "How many characters the next step drops."),
     METHOD(steps_to_call, METH_O, "How many steps come before the next right parenthesis, at most so many."),

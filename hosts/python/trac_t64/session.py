@@ -5,10 +5,12 @@ import enum
 import itertools
 import operator
 import re
-from collections.abc import Iterable, Iterator
+import threading
+from collections.abc import Callable, Iterable, Iterator
+from concurrent.futures import Future
 from dataclasses import dataclass
 from types import TracebackType
-from typing import NamedTuple, SupportsIndex, TypeAlias
+from typing import NamedTuple, ParamSpec, SupportsIndex, TypeAlias, TypeVar
 
 from . import _engine
 from ._engine import MOST_CELLS, Machine
@@ -157,10 +159,15 @@ def _codes(numbers: bytes) -> tuple[int, ...]:
     return tuple(memoryview(numbers).cast('I'))
 
 
-def _shown_character(one: str) -> str:
+def _shown_character(one: str, digits: str = '02X') -> str:
     if one in _LAYOUT or one.isprintable():
         return _LAYOUT.get(one, one)
-    return ''.join(f'\\x{byte:02X}' for byte in one.encode(errors='surrogateescape'))
+    return ''.join(f'\\x{byte:{digits}}' for byte in one.encode(errors='surrogateescape'))
+
+
+def shown_name(name: str) -> str:
+    """A file's name within a line: what is not printable by escapes, as `\\n` and `\\x1b`."""
+    return ''.join(_shown_character(one, '02x') for one in name)
 
 
 def _shown_mark(code: int) -> str:
@@ -194,18 +201,41 @@ def run(script: Text, cells: SupportsIndex = DEFAULT_CELLS, steps: SupportsIndex
         return Report(output, session.fate, session.steps, session.peak, session.consumed)
 
 
+_Given = ParamSpec('_Given')
+_Made = TypeVar('_Made')
+
+
+def _awaited(function: Callable[_Given, _Made], *arguments: _Given.args, **names: _Given.kwargs) -> _Made:
+    """What a function gives that runs without Python's lock. In the main thread, which alone hears of signals, it is
+    called by a thread beside it, so that a signal ends the wait."""
+    if threading.current_thread() is not threading.main_thread():
+        return function(*arguments, **names)
+    answer: Future[_Made] = Future()
+
+    def call() -> None:
+        try:
+            answer.set_result(function(*arguments, **names))
+        except BaseException as error:
+            answer.set_exception(error)
+
+    threading.Thread(target=call, daemon=True).start()
+    return answer.result()
+
+
 _SUSPICION = re.compile(r'line (\d+), column (\d+): (.*)', re.DOTALL)
 
 
 def check(script: Text, cells: SupportsIndex = DEFAULT_CELLS, steps: SupportsIndex = DEFAULT_STEPS) -> Check:
     """Runs a script to its end, as `run` does, and tells what is suspicious in it, by the rules of
     `trac_trace --warn`: names that are no function, parentheses that end no call, and so on. What it prints
-    isn't kept. Other threads run meanwhile.
+    isn't kept. Other threads run meanwhile. ^C ends the call at once; the check itself then goes on in a thread
+    of its own until its steps are used up, and nothing comes of it.
 
     Raises TypeError or ValueError, which name the argument, for what can't be used, and MemoryError.
     """
-    fate, made, peak, lines = _engine.check(
-        _bytes_of('script', script), _whole('cells', cells, 1, MOST_CELLS), _whole('steps', steps, 1, MOST_STEPS))
+    fate, made, peak, lines = _awaited(
+        _engine.check, _bytes_of('script', script), _whole('cells', cells, 1, MOST_CELLS),
+        _whole('steps', steps, 1, MOST_STEPS))
     found = map(_SUSPICION.fullmatch, lines.decode(errors='replace').split('\n'))
     return Check([Suspicion(int(each[1]), int(each[2]), each[3]) for each in found if each], Fate(fate), made, peak)
 
@@ -214,9 +244,9 @@ class Session:
     """A machine that is kept. Input is fed to it in pieces, and its forms and its meta character stay
     from one run to the next.
 
-    One thread at a time uses a session; a second one gets a RuntimeError while a turn goes on. Sessions
-    are independent of each other, but for copies: a session and its copies share one block, so only one
-    of them can be in a turn.
+    One call at a time uses a session. Whoever asks meanwhile gets a RuntimeError: another thread during a
+    turn, or a finaliser that the collector runs while `forms` makes its list. Sessions are independent of
+    each other, and so are copies.
 
     ^C stops a turn between two steps, by KeyboardInterrupt, and so does want of memory by MemoryError. The
     next turn goes on from there, and gives what was printed before, too.
@@ -347,12 +377,12 @@ class Session:
     def neutral(self) -> tuple[int, ...]:
         """The neutral string: the base text, and then for each open call its mark and its arguments with
         comma marks between. 0 to 255 is a byte; the marks are ACTIVE_CALL, NEUTRAL_CALL and COMMA_MARK."""
-        return _codes(self._machine.neutral())
+        return self.neutral_part()
 
     @property
     def active(self) -> bytes:
         """The active string, the next character first."""
-        return bytes(_codes(self._machine.active()))
+        return self.active_part()
 
     def neutral_part(self, start: SupportsIndex = 0, most: SupportsIndex = MOST_CELLS) -> tuple[int, ...]:
         """At most so many codes of the neutral string, from a place on, which counts from 0; none behind its
@@ -371,6 +401,14 @@ class Session:
         """The open calls, the innermost first: the place at which the mark of each stands in the neutral
         string. Its arguments stand behind it, up to the mark of the next call or to the end."""
         return _codes(self._machine.calls())
+
+    @property
+    def arguments(self) -> tuple[bytes, ...]:
+        """The name and the arguments of the call that the next step performs: the bytes that the call gets,
+        after all calls in it. Empty where that step performs no call, where the run is over, and where the
+        allowance is used up. The time grows as their number times the characters of the call: a second for
+        some ten thousand arguments. ^C ends it."""
+        return self._machine.arguments()
 
     @property
     def takes(self) -> int:

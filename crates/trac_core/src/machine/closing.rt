@@ -1,5 +1,5 @@
 //! The call that the next step of a machine performs.
-ghost use Rattle.std.specs.Prelude.{◌≡◌, ℕ, MatchOption, None, Some, drop, slice_get};
+ghost use Rattle.std.specs.Prelude.{◌≡◌, ◌≤◌, ℕ, MatchOption, None, Some, drop, slice_get};
 ghost use Rattle.trac_space.specs.Calls.{IsLastCall};
 ghost use Rattle.trac_space.specs.Texts.{text_of_cells};
 ghost use Rattle.trac_forms.specs.Contents.{IsSound};
@@ -33,6 +33,24 @@ pub(crate) fn closed_call(work: &Work) -> Option<u32>
     }
 }
 
+/// The arguments of the innermost call, whose mark stands at the place, the name first. From the plain place on no comma
+/// mark stands in the neutral string.
+pub(super) fn arguments_at(work: &Work, place: u32, plain: u32) -> Arguments
+    requires innermost { IsLastCall work.now.neutral place }
+    requires plain { IsPlainFrom plain work.now.neutral }
+    ensures arguments { AreArguments work.now result }
+    ensures texts { texts work.now result ≡ arguments_at work.now.neutral place }
+    ensures some { result.from ≤ result.end }
+{
+    let end = work.neutral_len();
+    Arguments {
+        from: place + 1,
+        end,
+        plain,
+        scanned: false,
+    }
+}
+
 /// The function that the innermost call names, whose mark stands at the place, and the arguments
 /// behind the name. From the plain place on no comma mark stands in the neutral string.
 pub(super) fn named_at(work: &Work, place: u32, plain: u32) -> (Option<Function>, Arguments)
@@ -42,13 +60,7 @@ pub(super) fn named_at(work: &Work, place: u32, plain: u32) -> (Option<Function>
     ensures arguments { AreArguments work.now result.1 }
     ensures behind { texts work.now result.1 ≡ drop 1 (arguments_at work.now.neutral place) }
 {
-    let end = work.neutral_len();
-    let mut arguments = Arguments {
-        from: place + 1,
-        end,
-        plain,
-        scanned: false,
-    };
+    let mut arguments = arguments_at(work, place, plain);
     let name = arguments.next(work);
     (function_named(text(work, name)), arguments)
 }

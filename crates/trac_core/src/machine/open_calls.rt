@@ -98,7 +98,7 @@ fn performed_call(work: &Work, plain: u32) -> Option<NextCall>
 }
 
 /// How many arguments are left to take.
-fn arguments_left(work: &Work, mut arguments: Arguments) -> u32
+pub(super) fn arguments_left(work: &Work, mut arguments: Arguments) -> u32
     requires { AreArguments work.now arguments }
     ensures { result ≡ length (texts work.now arguments) }
 {

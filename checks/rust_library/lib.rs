@@ -1,0 +1,26 @@
+//! The crate trac-t64 behind the exports of the engine for C, so that one caller can compare the engines. The modules
+//! are those of crates/trac_c without their contracts, which rust_library.py adds, but for the check of a script: the
+//! crate has no part for it.
+#![allow(improper_ctypes_definitions, unsafe_op_in_unsafe_fn, unused_imports)]
+
+extern crate trac_t64 as trac_core;
+extern crate trac_t64 as trac_devices;
+extern crate trac_t64 as trac_language;
+
+/// What the exports take of `trac_space`, of which the crate hands on less.
+mod cells {
+    pub(crate) use trac_t64::{Cell, Mode};
+
+    pub(crate) fn character_of(cell: &Cell) -> u8 {
+        match cell {
+            Cell::Byte(byte) => *byte,
+            _ => 0,
+        }
+    }
+}
+
+/// The crate has no check of scripts.
+#[unsafe(no_mangle)]
+pub extern "C" fn trac_engine_check() -> ! {
+    std::process::abort()
+}

@@ -1,0 +1,763 @@
+"""The page in a lecture: what is shown belongs to the script, nothing typed is lost, long runs and long
+texts are as quick as short ones, and one can jump, play, link, save and exercise."""
+import base64
+import os
+import re
+import sys
+import unittest
+from pathlib import Path
+
+import page
+import pytest
+from page import LOOP, PLACE, By, Lecture, Saving, example
+from selenium.webdriver.common.keys import Keys
+from trac import TOP, run
+
+sys.path.insert(0, os.path.join(TOP, 'hosts', 'page'))
+import make  # noqa: E402
+
+FAULTY = ''.join(f"#(ds,row {k},(line {k}))'\n" for k in range(300)) + "#(ds,a,(#(cl,a)b))#(cl,a)'\n"
+ENDLESS = "#(ds,a,(#(cl,a)))#(cl,a)'"
+
+
+def setUpModule():
+    global browser
+    browser = page.start()
+
+
+class States(Lecture):
+    def test_an_edit_outdates_what_is_shown(self):
+        self.run_script("#(ps,one)'")
+        self.assertFalse(self.is_shown('stale'))
+        self.type('x')
+        self.assertTrue(self.is_shown('stale'))
+        self.run_it()
+        self.assertFalse(self.is_shown('stale'))
+        self.choose('6. Gaps')
+        self.assertTrue(self.is_shown('stale'))
+        self.assertEqual(self.text('output'), 'onex')
+        self.press('first')
+        self.assertEqual(self.steps()[0], 0)
+        self.assertEqual(self.script("return document.querySelectorAll('.sheet mark').length"), 0)
+
+    def test_an_edit_while_it_runs(self):
+        self.put('steps', '1000000000000')
+        self.put('script', ENDLESS)
+        self.find('run').click()
+        self.type('x')
+        self.find('stop').click()
+        self.wait(self.is_at_rest)
+        self.assertTrue(self.is_shown('stale'))
+
+    def test_a_run_that_fails_takes_old_output_away(self):
+        self.run_script("#(ps,old output)'")
+        self.script('WebAssembly.instantiate = () => Promise.reject(new RangeError());')
+        self.press('run')
+        self.assertIn('can’t give the memory', self.text('fate'))
+        self.assertEqual(self.text('output'), '')
+        self.assertFalse(self.is_shown('machine'))
+
+    def test_a_stop_at_once_is_not_lost(self):
+        self.put('steps', '1000000000000')
+        self.put('script', ENDLESS)
+        self.script("document.getElementById('run').click(); document.getElementById('stop').click()")
+        self.wait(self.is_at_rest, 10)
+        self.assertTrue(self.text('fate').startswith('Stopped by you.'))
+
+    def test_no_webassembly(self):
+        self.open_without('delete window.WebAssembly')
+        self.assertIn('has no WebAssembly', self.text('fate'))
+        self.assertFalse(self.find('run').is_enabled())
+        self.choose('6. Gaps')
+        self.script("document.getElementById('settings').open = true")
+        self.find('link').click()
+        self.wait(lambda: 'carries the script' in self.text('told'))
+
+
+class Places(Lecture):
+    def test_far_down_in_a_long_script(self):
+        self.run_script(FAULTY, '', 8000)
+        self.assertIn('line 301, column 1', self.text('fate'))
+        for before in (0, 3000):
+            self.script("document.getElementById('script').scrollTop = arguments[0]", before)
+            self.find('place').click()
+            box, mark = self.script(
+                "return [document.getElementById('script'), document.querySelector('#script-marks mark.fault')]"
+                '.map((node) => { const { top, bottom } = node.getBoundingClientRect(); return [top, bottom]; })')
+            self.assertLessEqual(box[0], mark[0])
+            self.assertLessEqual(mark[1], box[1])
+            self.assertEqual(self.script(
+                "const box = document.getElementById('script');"
+                'return box.value.slice(box.selectionStart, box.selectionEnd)'), "#(ds,a,(#(cl,a)b))#(cl,a)'")
+        self.find('script').send_keys(Keys.HOME, 'x')
+        self.assertEqual(self.script("return document.querySelectorAll('.sheet mark').length"), 0)
+        self.assertFalse(self.is_shown('place'))
+
+    def test_the_script_follows_the_step(self):
+        self.run_script(FAULTY, '', 8000)
+        self.go(15)
+        self.assertEqual(self.script("return document.getElementById('script').scrollTop"), 0)
+        self.go(self.steps()[1] - 40)
+        self.assertGreater(self.script("return document.getElementById('script').scrollTop"), 3000)
+
+
+class Suspicious(Lecture):
+    def warnings(self):
+        return self.script("return Array.from(document.querySelectorAll('#warnings li'), (item) => item.textContent)")
+
+    def listed(self, script, more='', **limits):
+        self.run_script(script, more, **limits)
+        self.wait(lambda: self.is_shown('suspicions'))
+        return self.warnings()
+
+    def test_the_scripts_with_mistakes(self):
+        folder = os.path.join(TOP, 'examples', 'broken')
+        scripts = sorted(name for name in os.listdir(folder) if name.endswith('.trac'))
+        self.assertGreater(len(scripts), 15)
+        for name in scripts:
+            with self.subTest(script=name):
+                told, script = (Path(folder, name[:-4] + end).read_text('utf-8') for end in ('warnings', 'trac'))
+                wanted = re.sub(r'^line (\d+, column \d+):', r'Line \1', told, flags=re.MULTILINE).splitlines()
+                # the line on how the run ended stands above the list
+                wanted = [line for line in wanted if line.startswith('Line ')]
+                self.assertEqual(self.listed(script), wanted)
+
+    def test_a_place(self):
+        more = 'x#(nothing)'
+        self.assertEqual(self.listed("#(ds,ü😀,a)\n#(zz)#(rs)'", more),
+                         ['Line 2, column 1 no function has the name zz',
+                          'Line 2, column 12 no meta character ends the string',
+                          'Line 2, column 13 no function has the name nothing'])
+        buttons = browser.find_elements(By.CSS_SELECTOR, '#warnings button')
+        for button, box, place in zip(buttons, ('script', 'input', 'input'), (12, 0, 1)):
+            button.click()
+            self.assertEqual(self.script(
+                'const box = document.getElementById(arguments[0]);'
+                'return [document.activeElement.id, box.selectionStart, box.selectionEnd]', box),
+                [box, place, place + 1])
+        self.find('script').send_keys('x')
+        self.assertEqual(self.script("return document.querySelectorAll('#warnings button').length"), 0)
+        self.run_script("#(ps,a)'")
+        self.assertFalse(self.is_shown('suspicions'))
+
+    def test_a_long_run_is_looked_at_in_part(self):
+        self.listed("#(zz)#(ds,L,(#(cl,L)))#(cl,L)'", steps=3000000)
+        self.assertRegex(self.text('suspicions-told'), r'^The first [\d,]+ steps were looked at\.$')
+
+
+class Kept(Lecture):
+    def test_an_example_keeps_what_was_typed(self):
+        self.type('typed')
+        text = self.value('script')
+        self.choose('6. Gaps')
+        self.assertNotEqual(self.value('script'), text)
+        self.find('bring-back').click()
+        self.assertEqual(self.value('script'), text)
+        self.assertFalse(self.is_shown('bring-back'))
+
+    def test_undo(self):
+        self.type('typed')
+        text = self.value('script')
+        self.choose('6. Gaps')
+        self.find('script').send_keys(Keys.CONTROL, 'z')
+        self.assertEqual(self.value('script'), text)
+
+    def test_reload(self):
+        self.choose('6. Gaps')
+        self.open(PLACE, keeps=True)
+        self.assertEqual(self.value('example'), '6. Gaps')
+        self.assertTrue(self.text('says').startswith('ss makes'))
+        self.type('typed')
+        self.put('input', "more'")
+        texts = self.value('script'), self.value('input')
+        self.open(PLACE, keeps=True)
+        self.assertEqual((self.value('script'), self.value('input')), texts)
+        self.choose('6. Gaps')
+        self.open(PLACE, keeps=True)
+        self.find('bring-back').click()
+        self.assertEqual((self.value('script'), self.value('input')), texts)
+
+    def test_a_link_and_back(self):
+        self.type('typed')
+        text = self.value('script')
+        self.open(f'{PLACE}#script=YQ', keeps=True)
+        self.assertEqual(self.value('script'), 'a')
+        self.find('bring-back').click()
+        self.assertEqual(self.value('script'), text)
+        self.script("window.location.hash = 'script=Yg'")
+        self.wait(lambda: self.value('script') == 'b')
+        self.type('c')
+        browser.back()
+        self.wait(lambda: self.value('script') == 'a')
+        self.find('bring-back').click()
+        self.assertEqual(self.value('script'), 'bc')
+        self.find('bring-back').click()
+        self.assertEqual(self.value('script'), text)
+
+    def test_no_storage(self):
+        self.open_without("Object.defineProperty(window, 'localStorage', { get() { throw new Error(); } })")
+        self.type('x')
+        self.run_it()
+        self.assertEqual(self.text('output'), 'hellox')
+
+
+# Clicks a button so often; gives what each took until the page stood at the step, and the longest time in
+# which the page did nothing else.
+TIMES = """
+    const [name, count, done] = arguments;
+    const find = (id) => document.getElementById(id);
+    const times = [];
+    let [gap, last, isOver] = [0, performance.now(), false];
+    const tick = () => {
+        const now = performance.now();
+        [gap, last] = [Math.max(gap, now - last), now];
+        if (!isOver) setTimeout(tick);
+    };
+    const press = () => {
+        if (times.length === count) {
+            isOver = true;
+            done([times.sort((a, b) => a - b)[count >> 1], gap]);
+            return;
+        }
+        const start = performance.now();
+        find(name).click();
+        const wait = () => {
+            if (find('machine').ariaBusy !== 'false') return setTimeout(wait);
+            document.body.getBoundingClientRect();
+            times.push(performance.now() - start);
+            return setTimeout(press);
+        };
+        wait();
+    };
+    tick();
+    press();
+"""
+
+
+@pytest.mark.timed
+class Long(Lecture):
+    def quick(self, name, most, longest=None, count=9, place=None, rounds=6):
+        """The middle one of some clicks takes less, and the page is never held for long, in a round of several: one
+        that other programs leave alone. Each round begins at a place, where one is given."""
+        found = []
+        for _ in range(rounds):
+            if place is not None:
+                self.go(place)
+            middle, gap = browser.execute_async_script(TIMES, name, count)
+            found.append((middle, gap))
+            if middle < most and (longest is None or gap < longest):
+                return
+        self.fail(f'{name}: {found} ms')
+
+    def test_sixty_million_steps(self):
+        self.run_script(LOOP.format(3000000), '', 65536, 60000000)
+        self.assertEqual(self.steps(), (60000000, 60000000))
+        for place in (59999990, 31234567):
+            self.go(place)
+            for name in ('back', 'call-back', 'call-step', 'step'):
+                with self.subTest(place=place, name=name):
+                    self.quick(name, 300, 100)
+        self.go(31234567)
+        self.press('call-step')
+        self.assertEqual(self.rule(), 'end of call')
+        there = self.steps()[0]
+        self.press('call-step')
+        self.assertEqual(self.rule(), 'end of call')
+        self.press('call-back')
+        self.assertEqual(self.steps()[0], there)
+
+    def test_the_largest_block(self):
+        self.run_script(LOOP.format(3000000), '', 16777216, 60000000)
+        for place in (59999999, 31234567):
+            self.go(place)
+            for name in ('back', 'call-back'):
+                with self.subTest(place=place, name=name):
+                    self.quick(name, 300, 150, count=3)
+
+    GAP = """
+        const done = arguments[0];
+        let [gap, last, until] = [0, performance.now(), Infinity];
+        const tick = () => {
+            const now = performance.now();
+            [gap, last] = [Math.max(gap, now - last), now];
+            // the list of suspicious places is made behind the run
+            if (document.getElementById('main').ariaBusy !== 'true') until = Math.min(until, now + 500);
+            if (now < until) setTimeout(tick);
+            else done(gap);
+        };
+        document.getElementById('run').click();
+        tick();
+    """
+
+    HEAVY = "#(ds,f,({}))#(ds,m,(#(eq,##(cl,f),##(cl,f))#(gr,N,0,(#(cl,m,#(su,N,1))))))#(ss,m,N)#(cl,m,1000)'".format(
+        'x' * 200000)
+
+    def gaps_of(self, script):
+        """For how long a run of a script holds the page, in each round up to one that other programs leave alone."""
+        for name, value in (('script', script), ('cells', 1000000), ('steps', 100000000)):
+            self.put(name, value)
+        gaps = []
+        while len(gaps) < 8 and not (gaps and gaps[-1] < 100):
+            gaps.append(browser.execute_async_script(self.GAP))
+        return gaps
+
+    def test_steps_that_take_long_behind_quick_ones(self):
+        gaps = self.gaps_of(LOOP.format(50000)[:-1] + self.HEAVY)
+        self.assertLess(min(gaps), 100)
+        self.wait(self.is_at_rest)
+        self.assertEqual(self.steps()[1], 2066483)
+
+    def test_steps_that_take_long_from_the_first_on(self):
+        gaps = self.gaps_of(self.HEAVY)
+        self.assertLess(min(gaps), 100)
+        self.wait(self.is_at_rest)
+        self.assertEqual(self.steps()[1], 49758)
+
+    def test_the_same_at_a_step_from_either_side(self):
+        self.run_script(LOOP.format(3000000), '', 65536, 20000000)
+        for step in (12345678, 19000001):
+            self.go(step)
+            before = self.strings(), self.rule(), self.text('output')
+            for other in (0, 20000000, step + 1):
+                self.go(other)
+                self.go(step)
+                self.assertEqual((self.strings(), self.rule(), self.text('output')), before)
+
+    def test_a_hundred_thousand_characters(self):
+        text = 'x' * 100000
+        for script in (f"#(ps,abcdefghijklmnop)#(ps,({text}))'", f"#(ps,({text})abcdefghijklmnop)'",
+                       f"#(ds,f,({text}))#(ps,##(cl,f))#(ps,done)'"):
+            self.run_script(script, '', 400000)
+            last = self.steps()[1]
+            for place in (12, 17, last - 16):
+                self.quick('step', 16, place=place)
+                self.quick('back', 32, place=place + 9)
+            # the steps at which the text is read, taken, kept and printed too; a single click is less even
+            for place in range(last):
+                self.quick('step', 24, count=1, place=place, rounds=20)
+                self.quick('back', 48, count=1, place=place + 1, rounds=20)
+
+    def test_a_long_output(self):
+        script = "#(ds,l,(#(ps,(0123456789 0123456789 0123456789 012345678\n))#(gr,N,0,(#(cl,l,#(su,N,1))))))" \
+            "#(ss,l,N)#(cl,l,2499)'"
+        self.run_script(script)
+        wanted = run(script)[0].decode()
+        self.assertEqual(len(wanted), 107500)
+        for step in (20000, 60000, self.steps()[1]):
+            self.go(step)
+            self.quick('back', 16)
+            self.assertTrue(self.script(
+                "const box = document.getElementById('output');"
+                "const later = box.querySelector('.later');"
+                'const place = later ? later.getBoundingClientRect().top : box.lastChild && '
+                'box.getBoundingClientRect().bottom;'
+                'const { top, bottom } = box.getBoundingClientRect();'
+                'return top <= place && place <= bottom'), 'what was printed last is in view')
+        found = [self.text('output')]
+        while self.is_on('output-before'):
+            self.press('output-before')
+            found.insert(0, self.text('output'))
+        self.assertGreater(len(found), 1)
+        self.assertTrue(wanted.startswith(found[0]) and wanted.endswith(found[-1]))
+        self.assertIn(found[0], wanted)
+
+    def test_two_thousand_forms(self):
+        self.run_script("#(ds,l,(#(ds,form N,(the body of N))#(gr,N,1,(#(cl,l,#(su,N,1))))))#(ss,l,N)#(cl,l,2000)'")
+        self.assertIn('of 2,001 forms', self.text('forms-where'))
+        self.go(self.steps()[1] - 3000)
+        self.jump('change')
+        shown = self.script("return [...document.querySelectorAll('#forms .changed')].map((node) => {"
+                            'const { top } = node.getBoundingClientRect();'
+                            "const box = document.getElementById('forms').getBoundingClientRect();"
+                            'return [node.textContent, box.top <= top && top <= box.bottom]; })')
+        self.assertRegex(shown[0][0], r'^form \d+ ')
+        self.assertTrue(all(is_seen for _, is_seen in shown), shown)
+        self.put('forms-find', 'form 1234')
+        self.assertIn('the body of 1234', self.text('forms'))
+        names = set()
+        while self.is_on('forms-before'):
+            self.press('forms-before')
+        while True:
+            names.update(self.script("return [...document.querySelectorAll('#forms dt')].map((dt) => dt.textContent)"))
+            if not self.is_on('forms-after'):
+                break
+            self.press('forms-after')
+        self.assertGreater(len(names), 1700)
+        self.quick('step', 16)
+
+    def test_a_long_body(self):
+        self.run_script("#(ds,f,({}))'".format('x' * 5000 + 'y'))
+        while buttons := browser.find_elements(By.CSS_SELECTOR, '#forms button'):
+            buttons[0].click()
+        self.assertIn('xy', self.text('forms'))
+        self.assertEqual(self.script('return document.activeElement.id'), 'forms')
+
+
+class Steps(Lecture):
+    def test_step_through(self):
+        self.find('through').click()
+        self.wait(self.is_at_rest)
+        self.assertEqual(self.steps()[0], 0)
+        late = self.walk("find('output').querySelector('.later')?.textContent ?? ''")
+        printed = next(step for step, text in enumerate(late) if not text)
+        read = next(step for step, text in enumerate(self.walk("find('script-marks').querySelector('mark') ? 1 : 0"))
+                    if text)
+        self.assertLessEqual(printed - read, 10)
+
+    def test_the_lesson(self):
+        lesson = list(make.lesson())
+        self.assertEqual(len(lesson), 10)
+        options = self.find('example').find_elements(By.CSS_SELECTOR, 'optgroup:nth-child(2) option')
+        self.assertEqual([option.text for option in options], [each['name'] for each in lesson])
+        for each in lesson:
+            self.choose(each['name'])
+            self.assertEqual(self.text('says'), each['says'])
+            self.run_it()
+            self.assertEqual(self.text('output'), each['output'])
+            self.assertEqual(run(each['script'])[0].decode(), each['output'])
+
+    def landed(self):
+        return self.script("return ['neutral', 'active'].map((id) => [...document.querySelectorAll("
+                           "`#${id} .landed`)].map((mark) => mark.textContent).join(''))")
+
+    def test_what_a_call_gave(self):
+        self.through("#(ds,f,(a,b))#(ps,##(cl,f)#(cl,f))'")
+        self.jump('name', 'cl')
+        self.assertEqual(self.landed(), ['', ''])
+        self.press('step')
+        self.assertEqual(self.text('gave'), 'cl gave “a,b”: neutral, not scanned again.')
+        self.assertEqual(self.landed(), ['a,b', ''])
+        self.press('step')
+        self.assertEqual(self.landed(), ['', ''])
+        self.assertEqual(self.text('gave'), '')
+        self.jump('name', 'cl')
+        self.press('step')
+        self.assertEqual(self.text('gave'), 'cl gave “a,b”: active, to be scanned again.')
+        self.assertEqual(self.landed(), ['', 'a,b'])
+        self.press('first')
+        self.jump('name', 'ds')
+        self.press('step')
+        self.assertEqual(self.text('gave'), 'ds gave the null text.')
+
+    def test_calls_in_words(self):
+        for script, words in (
+                ("#(gr,3,2,x,y)'", '3 is greater than 2, so the value is the fourth argument.'),
+                ("#(gr,2,3,x,y)'", '2 is not greater than 3, so the value is the fifth argument.'),
+                ("#(gr,99999999999999999999,2,x)'", 'so the value is the fourth argument.'),
+                ("#(eq,a,b,x,y)'", '“a” and “b” are not the same, so the value is the fifth argument.'),
+                ("#(eq,a,b,x,x)'", 'The fourth and the fifth argument are the same'),
+                ("#(ss,f,a,b)'", 'each “a” becomes gap 1 and each “b” becomes gap 2'),
+                ("#(nosuch,f)'", 'No function has this name, so the value is null.')):
+            with self.subTest(script=script):
+                self.through(script)
+                self.jump('name', script[2:script.index(',')])
+                self.assertIn(words, self.text('rule-says'))
+
+    def test_a_change_right_behind_a_call_that_changes_nothing(self):
+        self.through("#(ds,a,y)#(ds,b,#(ds,a,y))'")
+        for name in ('a', 'b'):
+            self.jump('change')
+            self.assertEqual(self.script("return document.querySelector('#forms .changed').textContent[0]"), name)
+
+    def test_the_end_of_a_call(self):
+        self.through("#(ps,#(ad,1,#(su,5,3)))'")
+        self.jump('name', 'su')
+        self.jump('end')
+        self.assertIn('ad with 2 arguments', self.text('rule-says'))
+        self.jump('end')
+        self.assertIn('ps with 1 argument', self.text('rule-says'))
+        self.assertIn('“3”', self.text('rule-says'))
+
+    def test_a_far_printing(self):
+        script = LOOP.format(100000)[:-1] + "#(ps,far)'"
+        self.through(script)
+        self.put('steps', '100000000')
+        self.press('through')
+        self.jump('printing')
+        self.assertIn('ps gave', self.text('gave'))
+        self.assertGreater(self.steps()[0], 2000000)
+
+    def test_play(self):
+        self.through("#(ds,a,x)#(ps,#(cl,a))'")
+        self.choose('20', 'speed')
+        self.press('play')
+        self.assertEqual(self.text('play'), 'Pause')
+        self.wait(lambda: self.steps()[0] > 3)
+        self.press('play')
+        here = self.steps()[0]
+        self.choose('calls', 'pace')
+        self.choose('change', 'stop-at')
+        self.press('play')
+        self.wait(lambda: self.text('play') == 'Play')
+        self.assertGreater(self.steps()[0], here)
+        self.assertEqual(self.text('gave'), 'ds gave the null text.')
+        self.choose('name', 'stop-at')
+        self.put('stop-name', 'cl')
+        self.press('play')
+        self.wait(lambda: self.text('play') == 'Play')
+        self.assertIn('cl gave “x”', self.text('gave'))
+        self.choose('', 'stop-at')
+        self.press('play')
+        self.wait(lambda: self.text('play') == 'Play')
+        self.assertEqual(*self.steps())
+
+    def test_the_tree_of_calls(self):
+        self.run_script("#(ps,#(ad,1,##(su,5,3)))'")
+        self.wait_for_calls()
+        self.script("document.getElementById('tree-part').open = true")
+        self.wait(lambda: self.find('tree').text)
+        labels = [label.text for label in browser.find_elements(By.CSS_SELECTOR, '#tree .call')]
+        self.assertIn('#(ad,1,2) → 3', labels)
+        inner = self.script("return [...document.querySelectorAll('#tree li')].find((item) => "
+                            "item.firstChild.textContent.startsWith('#(ad')).querySelector('ul').textContent")
+        self.assertEqual(inner, '##(su,5,3) → 2')
+        self.find('tree').find_elements(By.XPATH, ".//button[starts-with(., '##(su')]")[0].click()
+        self.assertIn('su with 2 arguments', self.text('rule-says'))
+        self.assertEqual(self.script("return document.activeElement.textContent"), '##(su,5,3) → 2')
+
+    def test_parentheses(self):
+        self.put('script', "#(ps,(a))'")
+        self.find('script').click()
+        self.find('script').send_keys(Keys.CONTROL, Keys.HOME)
+        self.find('script').send_keys(Keys.ARROW_RIGHT)
+        self.wait(lambda: self.script("return document.querySelectorAll('#script-marks .pair').length") == 2)
+        self.find('script').send_keys(Keys.CONTROL, Keys.END)
+        self.find('script').send_keys('(')
+        self.wait(lambda: self.script("return document.querySelectorAll('#script-marks .single').length") == 1)
+        self.assertEqual(self.text('script-marks'), "#(ps,(a))'(\n")
+        depths = self.script("return [...document.querySelectorAll('#script-marks .paren')]"
+                             '.map((node) => node.className)')
+        self.assertEqual([re.search(r'depth-(\d)', name)[1] for name in depths], ['1', '2', '2', '1', '1'])
+
+
+class Files(Saving):
+    def open_file(self, script):
+        """Opens a file that holds this script."""
+        path = os.path.join(self.folder.name, 'odd.trac')
+        with open(path, 'wb') as file:
+            file.write(script)
+        self.find('file').send_keys(path)
+        self.wait(lambda: 'opened' in self.text('told'))
+
+    def test_any_bytes(self):
+        script = b"#(ps,(\xff\xc3(\r\n\xe9t\xc3\xa9\t\x00\xf0\x9f\x98\x80)))'"
+        self.open_file(script)
+        self.assertEqual(self.saved('save', 'script.trac'), script)
+        self.run_it()
+        self.assertEqual(self.saved('save-output', 'output.txt'), run(script)[0])
+        self.script("document.getElementById('settings').open = true")
+        self.find('link').click()
+        self.wait(lambda: '#' in browser.current_url)
+        link = browser.current_url
+        self.open(link)
+        self.wait(self.is_at_rest)
+        self.assertEqual(self.saved('save', 'script.trac'), script)
+
+    def test_many_odd_bytes(self):
+        script = b"#(ps,(" + bytes(byte for byte in range(256) if byte not in b"'()") * 40 + b"))'"
+        self.open_file(script)
+        self.assertEqual(self.saved('save', 'script.trac'), script)
+
+    def test_a_link_with_a_step(self):
+        self.run_script("#(ps,a)'")
+        self.go(12)
+        self.script("document.getElementById('settings').open = true")
+        self.find('link').click()
+        self.wait(lambda: 'carries the script and the step' in self.text('told'))
+        link = browser.current_url
+        self.assertIn('step=12', link)
+        for place in (link, link.replace('#', '?embed#')):
+            self.open(place)
+            self.wait(self.is_at_rest)
+            self.assertEqual(self.steps()[0], 12)
+        self.assertFalse(self.is_shown('script'))
+        self.assertTrue(self.is_shown('step'))
+        browser.find_element(By.TAG_NAME, 'body').send_keys(Keys.ARROW_RIGHT)
+        self.assertEqual(self.steps()[0], 13)
+
+    def test_a_long_link(self):
+        self.put('script', "#(ps,({}))'".format('long ' * 4000))
+        self.script("document.getElementById('settings').open = true")
+        self.find('link').click()
+        self.wait(lambda: 'It is long' in self.text('told'))
+
+
+class Study(Lecture):
+    def test_exercises(self):
+        self.choose('1. A greeting', 'exercise')
+        self.assertEqual(self.value('script'), '')
+        self.assertIn('The comma is part of it.', self.text('task-words'))
+        self.put('script', "#(ps,Hello)'")
+        self.run_it()
+        self.assertEqual(self.text('verdict'), 'Not yet: line 1 of the output is another one.')
+        names = self.script("return [...document.getElementById('exercise').options].slice(1)"
+                            '.map(({ text }) => text)')
+        self.assertEqual(len(names), 20)
+        for name in names:
+            with self.subTest(exercise=name):
+                self.choose(name, 'exercise')
+                path, = [each for each in os.listdir(os.path.join(TOP, 'examples', 'exercises'))
+                         if each.startswith(f'{int(name.split(".")[0]):02}') and each.endswith('.trac')]
+                solution = example(os.path.join('exercises', path)).decode().strip('\n')
+                given = self.value('input').strip('\n')
+                self.assertTrue(solution.endswith(given))
+                self.put('script', solution[:len(solution) - len(given)])
+                self.run_it()
+                self.assertEqual(self.text('verdict'), 'Done: this prints what is wanted.')
+
+    def test_functions(self):
+        rows = browser.find_elements(By.CSS_SELECTOR, '#functions tr')
+        self.assertEqual(len(rows), 22)
+        for index in (0, 10, 21):
+            self.script("document.querySelectorAll('#functions button')[arguments[0]].click()", index)
+            self.run_it()
+            script = self.value('script')
+            self.assertEqual(self.text('output').rstrip('\n'), run(script)[0].decode().rstrip('\n'))
+
+
+class Eyes(Lecture):
+    def tearDown(self):
+        browser.execute_cdp_cmd('Emulation.setEmulatedMedia', {'features': [], 'media': ''})
+        browser.execute_cdp_cmd('Emulation.clearDeviceMetricsOverride', {})
+
+    def emulate(self, **features):
+        browser.execute_cdp_cmd('Emulation.setEmulatedMedia', {'features': [
+            {'name': name.replace('_', '-'), 'value': value} for name, value in features.items()]})
+
+    def look(self, selector, name):
+        return self.script(
+            'return getComputedStyle(document.querySelector(arguments[0]))[arguments[1]]', selector, name)
+
+    def test_contrast_of_marks(self):
+        for scheme in ('light', 'dark'):
+            self.emulate(prefers_color_scheme=scheme, prefers_reduced_motion='reduce')
+            self.through("#(ds,f,a)#(ps,#(cl,f))'")
+            self.jump('name', 'cl')
+            self.press('step')
+            sheet = self.look('.sheet', 'backgroundColor')
+            for selector, name in (('#script-marks mark', 'boxShadow'), ('#active .landed', 'borderBottomColor'),
+                                   ('#neutral .mark', 'borderTopColor'), ('#script-marks .paren', 'color'),
+                                   ('#active .scanned', 'outlineColor')):
+                colour = re.search(r'rgba?\([^)]*\)', self.look(selector, name))[0]
+                against = self.look('#active .scanned', 'backgroundColor') if name == 'outlineColor' else sheet
+                self.assertGreaterEqual(ratio(colour, against), 3, (scheme, selector, colour, against))
+
+    def test_forced_colours(self):
+        self.emulate(forced_colors='active')
+        self.through("#(ds,f,a)#(ps,#(cl,f))'")
+        self.jump('name', 'cl')
+        self.press('step')
+        self.assertNotEqual(self.look('#script', 'color'), 'rgba(0, 0, 0, 0)')
+        self.assertNotEqual(self.look('#script-marks mark', 'boxShadow'), 'none')
+        self.assertNotEqual(self.look('#block .part-store', 'backgroundColor'), self.look('#block', 'backgroundColor'))
+        self.assertNotEqual(self.look('#active .landed', 'color'), self.look('#active .landed', 'backgroundColor'))
+
+    def test_on_paper(self):
+        script = "#(ds,l,(#(ps,(line N of the output\n))#(gr,N,1,(#(cl,l,#(su,N,1))))))#(ss,l,N)#(cl,l,4000)'" \
+            + '\n' * 300 + "#(ps,the end)'" + ' ' * 20000
+        self.run_script(script)
+        browser.execute_cdp_cmd('Emulation.setEmulatedMedia', {'media': 'print'})
+        self.script("window.dispatchEvent(new Event('beforeprint'))")
+        self.assertEqual(len(self.text('output')), len(run(script)[0]))
+        for name in ('script-marks', 'output', 'neutral', 'active', 'forms'):
+            self.assertLessEqual(*self.script(
+                'const box = document.getElementById(arguments[0]); return [box.scrollHeight, box.clientHeight + 1]',
+                name))
+        self.assertIn('the end', self.text('script-marks'))
+        for name in ('script', 'step', 'run', 'slider', 'example', 'size'):
+            self.assertFalse(self.is_shown(name), name)
+        self.script("window.dispatchEvent(new Event('afterprint'))")
+        self.assertLess(len(self.text('output')), len(run(script)[0]))
+        paper = browser.execute_cdp_cmd('Page.printToPDF', {})
+        self.assertTrue(base64.b64decode(paper['data']).startswith(b'%PDF'))
+
+    def test_the_focus_is_never_lost(self):
+        self.through("#(ps,a)'")
+        for name, keys in (('back', Keys.ENTER), ('last', Keys.ENTER), ('step', Keys.ENTER), ('call-step', Keys.ENTER),
+                           ('first', Keys.ENTER), ('call-back', Keys.ENTER), ('run', Keys.ENTER)):
+            self.find(name).send_keys(keys)
+            self.wait(self.is_at_rest)
+            self.assertEqual(self.script('return document.activeElement.id'), name)
+        self.put('script', ENDLESS)
+        self.put('steps', '1000000000000')
+        self.find('run').send_keys(Keys.ENTER)
+        self.wait(lambda: self.is_shown('stop'))
+        self.find('stop').send_keys(Keys.ENTER)
+        self.wait(self.is_at_rest)
+        self.assertEqual(self.script('return document.activeElement.id'), 'run')
+
+    def test_one_thing_is_said_at_a_step(self):
+        self.through("#(ps,#(ad,1,2))'")
+        said = self.script("""
+            const regions = [...document.querySelectorAll('[role=status], [aria-live]')];
+            const look = () => regions.map((region) => region.textContent);
+            const counts = [];
+            while (document.getElementById('step').ariaDisabled !== 'true') {
+                const before = look();
+                document.getElementById('step').click();
+                counts.push(look().filter((text, i) => text !== before[i]).length);
+            }
+            return counts;
+        """)
+        self.assertLessEqual(max(said), 1)
+
+    def test_targets_on_a_phone(self):
+        browser.execute_cdp_cmd('Emulation.setDeviceMetricsOverride', {
+            'width': 390, 'height': 844, 'deviceScaleFactor': 1, 'mobile': True})
+        self.through("#(ps,#(ad,1,2))'")
+        self.script("document.querySelectorAll('details').forEach((part) => { part.open = true; })")
+        self.choose('4. Who is there?', 'exercise')
+        self.wait_for_calls()
+        small = self.script("""
+            return [...document.querySelectorAll('button, select, input, summary, textarea')]
+                .filter((node) => node.offsetParent).map((node) => [node, node.getBoundingClientRect()])
+                .filter(([, { width, height }]) => width < 44 || height < 44)
+                .map(([node, { width, height }]) => `${node.id || node.textContent} ${width} ${height}`);
+        """)
+        self.assertEqual(small, [])
+
+    def test_controls_stay_in_view(self):
+        for width, height in ((1280, 720), (390, 844)):
+            browser.execute_cdp_cmd('Emulation.setDeviceMetricsOverride', {
+                'width': width, 'height': height, 'deviceScaleFactor': 1, 'mobile': width < 500})
+            for size in ('normal', 'large', 'huge'):
+                self.open(PLACE)
+                self.choose(size, 'size')
+                self.through(example('hanoi.trac').decode())
+                for selector in ('#neutral', '#forms', '#block'):
+                    with self.subTest(width=width, size=size, selector=selector):
+                        self.script("document.querySelector(arguments[0]).scrollIntoView({ block: 'end' })", selector)
+                        top, bottom, right = self.script(
+                            "const { top, bottom, right } = document.getElementById('step').getBoundingClientRect();"
+                            'return [top, bottom, right]')
+                        self.assertTrue(0 <= top and bottom <= height and right <= width, (top, bottom, right))
+                self.assertLessEqual(*self.script(
+                    'const page = document.documentElement; return [page.scrollWidth, page.clientWidth]'))
+
+    def test_big_type_and_colours_stay(self):
+        sizes = []
+        for size in ('normal', 'large', 'huge'):
+            self.choose(size, 'size')
+            sizes.append(float(self.look('#says', 'fontSize')[:-2]))
+        self.assertEqual(sizes, sorted(set(sizes)))
+        self.choose('dark', 'scheme')
+        dark = self.look('body', 'backgroundColor')
+        self.open(PLACE, keeps=True)
+        self.assertEqual((self.look('body', 'backgroundColor'), float(self.look('#says', 'fontSize')[:-2])),
+                         (dark, sizes[2]))
+        self.choose('light', 'scheme')
+        self.assertNotEqual(self.look('body', 'backgroundColor'), dark)
+
+
+def ratio(one, other):
+    """The contrast of two colours."""
+    lights = []
+    for colour in (one, other):
+        parts = [float(part) / 255 for part in re.findall(r'[\d.]+', colour)[:3]]
+        parts = [part / 12.92 if part <= 0.04045 else ((part + 0.055) / 1.055) ** 2.4 for part in parts]
+        lights.append(sum(part * weight for part, weight in zip(parts, (0.2126, 0.7152, 0.0722))))
+    return (max(lights) + 0.05) / (min(lights) + 0.05)
+
+
+if __name__ == '__main__':
+    unittest.main()

@@ -1,0 +1,77 @@
+//! The arguments of the call that the next step of a machine performs.
+ghost use Rattle.std.specs.Prelude.{◌≡◌, ℕ, length, slice_get, MatchOption, None, Some};
+ghost use Rattle.trac_space.specs.Texts.{text_of_cells};
+ghost use Rattle.trac_functions.specs.Flat.{memory_of};
+ghost use Rattle.trac_core.specs.OpenCalls.{next_texts, performed_texts};
+ghost use Rattle.trac_core.specs.StepsInRow.{IsPlainFrom};
+
+use super::Machine;
+use super::closing::{arguments_at, closed_call};
+use super::open_calls::arguments_left;
+use trac_forms::{Cell, Work};
+use trac_functions::arguments::text;
+
+impl<'a> Machine<'a> {
+    /// How many arguments the call has that the next step performs, its name counted and null ones too. 0 where that
+    /// step performs no call, as `next_call` says. This processor's own choice.
+    pub fn argument_count(&self) -> u32
+        ensures { result ≡ length (next_texts self.now) }
+    {
+        if self.fate.is_none() && self.steps < self.allowance {
+            performed_count(&self.work, self.plain)
+        } else {
+            0
+        }
+    }
+
+    /// An argument of the call that the next step performs, a cell for each character. The name is argument 0. None where
+    /// the call has no such argument, and where that step performs no call, as `next_call` says. Looks at the
+    /// arguments up to this one. This processor's own choice.
+    pub fn argument(&self, which: u32) -> Option<&[Cell]>
+        ensures { MatchOption result
+            (slice_get (next_texts self.now) which ≡ None)
+            (λ cells. slice_get (next_texts self.now) which ≡ Some (text_of_cells cells.now)) }
+    {
+        if self.fate.is_none() && self.steps < self.allowance {
+            performed_argument(&self.work, self.plain, which)
+        } else {
+            None
+        }
+    }
+}
+
+/// How many arguments the call has that a step over these contents performs, the name counted; 0 where it performs none.
+/// From the plain place on no comma mark stands in the neutral string.
+fn performed_count(work: &Work, plain: u32) -> u32
+    requires { IsPlainFrom plain work.now.neutral }
+    ensures { (meta : ℕ) → result ≡ length (performed_texts (memory_of meta work.now)) }
+{
+    match closed_call(work) {
+        None => 0,
+        Some(place) => arguments_left(work, arguments_at(work, place, plain)),
+    }
+}
+
+/// An argument of the call that a step over these contents performs, the name being argument 0. From the plain place on
+/// no comma mark stands in the neutral string.
+fn performed_argument<'w>(work: &'w Work, plain: u32, which: u32) -> Option<&'w [Cell]>
+    requires { IsPlainFrom plain work.now.neutral }
+    ensures { (meta : ℕ) → let texts = performed_texts (memory_of meta work.now) in MatchOption result
+        (slice_get texts which ≡ None)
+        (λ cells. slice_get texts which ≡ Some (text_of_cells cells.now)) }
+{
+    let Some(place) = closed_call(work) else {
+        return None;
+    };
+    let mut arguments = arguments_at(work, place, plain);
+    for _before in 0..which {
+        if arguments.is_empty() {
+            return None;
+        }
+        arguments.next(work);
+    }
+    if arguments.is_empty() {
+        return None;
+    }
+    Some(text(work, arguments.next(work)))
+}

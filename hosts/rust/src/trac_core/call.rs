@@ -1,0 +1,200 @@
+// Generated from crates/trac_core/src/call.rt by hosts/rust/generate, and never edited.
+//! Calls: one is performed when its right parenthesis is scanned. The table of functions stands in
+//! `trac_functions::function`. The functions that read, print, change the meta character or end the
+//! run are called here; one that reads or prints has a line in `needs_device` too.
+
+use crate::trac_core::attempt::Attempt;
+use crate::trac_core::delivery::{finish_call, is_active_call};
+use crate::trac_core::display::print_form;
+use crate::trac_core::idling::load_idling;
+use crate::trac_core::input_output::{change_meta, print_string, read_character, read_string};
+use crate::trac_core::scan::{InnermostCall, Pending};
+use crate::trac_devices::{Sink, Source};
+use crate::trac_forms::Work;
+use crate::trac_functions::arguments::{Arguments, CallResult};
+use crate::trac_functions::function::value_of;
+use crate::trac_language::{Fate, Function};
+use crate::trac_space::Part;
+
+/// The step that the beginning of the active string asks for, where no rule fits that only scans:
+/// the idling procedure is loaded, or the right parenthesis is deleted and the innermost call
+/// performed.
+#[inline(always)]
+pub(crate) fn perform_pending<I: Source, O: Sink>(
+    work: &mut Work,
+    pending: Pending,
+    meta: &mut u8,
+    source: &mut I,
+    sink: &mut O,
+) -> Attempt
+{
+    match pending {
+        Pending::Idling => load_idling(work),
+        Pending::EndOfCall(call) => {
+            work.drop_active(1);
+            perform(work, call, meta, source, sink)
+        }
+    }
+}
+
+/// The step that `perform_pending` makes, where it needs no device. An error is the function that reads
+/// or prints: then nothing is done.
+#[inline(always)]
+pub(crate) fn perform_pending_alone(
+    work: &mut Work,
+    pending: Pending,
+    meta: &mut u8,
+) -> Result<Attempt, Option<Function>>
+{
+    match pending {
+        Pending::Idling => Ok(load_idling(work)),
+        Pending::EndOfCall(call) => {
+            let call = named(work, call);
+            if needs_device(work, call) {
+                return Err(call.function);
+            }
+            work.drop_active(1);
+            Ok(perform_alone(work, call, meta))
+        }
+    }
+}
+
+/// Performs the innermost call, whose right parenthesis was deleted.
+#[inline(always)]
+fn perform<I: Source, O: Sink>(
+    work: &mut Work,
+    call: InnermostCall,
+    meta: &mut u8,
+    source: &mut I,
+    sink: &mut O,
+) -> Attempt
+{
+    let before = work.used();
+    let part = Part {
+        from: call.place,
+        to: work.neutral_len(),
+    };
+    let parts = named(work, call);
+    let Some(function) = parts.function else {
+        return finish_call(work, part, before, nothing(work, parts));
+    };
+    let made = answer(work, parts, function, meta, source, sink);
+    finish_call(work, part, before, made)
+}
+
+/// Performs the innermost call, whose right parenthesis was deleted and which needs no device.
+#[inline(always)]
+fn perform_alone(work: &mut Work, call: NamedCall, meta: &mut u8) -> Attempt
+{
+    let before = work.used();
+    let end = work.neutral_len();
+    let made = answer_alone(work, call, meta);
+    let part = Part {
+        from: call.place,
+        to: end,
+    };
+    finish_call(work, part, before, made)
+}
+
+/// The innermost call by its parts.
+#[derive(Clone, Copy, Debug)]
+pub(crate) struct NamedCall {
+    /// Where its mark stands in the neutral string.
+    place: u32,
+    /// The function that it names, if it names one.
+    pub(crate) function: Option<Function>,
+    /// The arguments behind that name.
+    arguments: Arguments,
+}
+
+/// The parts of the innermost call.
+#[inline(always)]
+pub(crate) fn named(work: &Work, call: InnermostCall) -> NamedCall
+{
+    let mut arguments = Arguments {
+        from: call.place + 1,
+        end: work.neutral_len(),
+        plain: call.plain,
+        scanned: is_active_call(work, call.place),
+    };
+    NamedCall {
+        place: call.place,
+        function: arguments.function(work),
+        arguments,
+    }
+}
+
+/// Whether a call needs a device: it reads, it displays a form, or it prints a text that isn't null.
+#[inline(always)]
+fn needs_device(work: &Work, call: NamedCall) -> bool
+{
+    match call.function {
+        Some(Function::ReadString | Function::ReadCharacter | Function::PrintForm) => true,
+        Some(Function::PrintString) => has_text(work, call.arguments),
+        _ => false,
+    }
+}
+
+/// Whether the next argument is a text that isn't null.
+#[inline(always)]
+fn has_text(work: &Work, mut arguments: Arguments) -> bool
+{
+    let part = arguments.next(work);
+    part.from < part.to
+}
+
+/// What a call of a name that is no function answers: its value is null (this processor's own choice).
+#[inline(always)]
+fn nothing(work: &Work, call: NamedCall) -> CallResult
+{
+    CallResult::Null(0)
+}
+
+/// What the function of the innermost call answers, which is `function`.
+#[inline(always)]
+fn answer<I: Source, O: Sink>(
+    work: &mut Work,
+    call: NamedCall,
+    function: Function,
+    meta: &mut u8,
+    source: &mut I,
+    sink: &mut O,
+) -> CallResult
+{
+    match function {
+        Function::ReadString => read_string(work, *meta, source),
+        Function::ReadCharacter => read_character(work, source),
+        Function::PrintString => print_string(work, call.arguments, sink),
+        Function::PrintForm => print_form(work, call.arguments, sink),
+        _ => made_alone(work, function, call.arguments, meta),
+    }
+}
+
+/// What the function of a call answers that needs no device.
+#[inline(always)]
+fn answer_alone(work: &mut Work, call: NamedCall, meta: &mut u8) -> CallResult
+{
+    match call.function {
+        None => CallResult::Null(0),
+        Some(function) => match function {
+            Function::PrintString => CallResult::Null(0),
+            _ => made_alone(work, function, call.arguments, meta),
+        },
+    }
+}
+
+/// What a function that touches no device makes of the arguments that follow its name.
+#[inline(always)]
+fn made_alone(
+    work: &mut Work,
+    function: Function,
+    arguments: Arguments,
+    meta: &mut u8,
+) -> CallResult
+{
+    match function {
+        Function::ChangeMeta => change_meta(work, arguments, meta),
+        Function::Halt => CallResult::Over(Fate::Halted),
+        _ => value_of(work, function, arguments),
+    }
+}

@@ -1,0 +1,225 @@
+// Generated from crates/trac_core/src/machine.rt by hosts/rust/generate, and never edited.
+//! The machine: one step, and a run to the end.
+
+use crate::trac_core::attempt::Attempt;
+use crate::trac_core::call::perform_pending;
+use crate::trac_core::idling::{IDLING_STEPS, begin_idling, may_begin_idling};
+use crate::trac_core::run_hints::RunHints;
+use crate::trac_core::scan::{Pending, scan_once, scan_steps};
+use crate::trac_devices::{Sink, Source};
+use crate::trac_forms::Work;
+use crate::trac_language::{Fate, Report};
+use crate::trac_space::Cell;
+
+pub(crate) mod advancing;
+pub(crate) mod arguments;
+pub(crate) mod closing;
+pub(crate) mod open_calls;
+pub(crate) mod printing;
+pub(crate) mod session;
+pub(crate) mod view;
+
+pub use advancing::Progress;
+pub use open_calls::{CallMark, NextCall, OpenCall};
+pub use session::Awaits;
+
+/// A processor over a lent block of cells, with an allowance of steps. It takes no other memory.
+/// The rules that it follows are Mooers' (1966 and 1972); the block, the allowance and the
+/// accounting are this processor's own choice.
+pub struct Machine<'a> {
+    work: Work<'a>,
+    meta: u8,
+    /// A place of the neutral string from which on no comma mark stands.
+    plain: u32,
+    allowance: u64,
+    steps: u64,
+    peak: u32,
+    fate: Option<Fate>,
+}
+
+impl<'a> Machine<'a> {
+    /// A machine over the cells of a block, whatever they hold, which may make `steps` steps.
+    /// It has no form, and the apostrophe is its meta character.
+    pub fn over(block: &'a mut [Cell], steps: u64) -> Machine<'a>
+    {
+        Machine {
+            work: Work::over(block),
+            meta: b'\'',
+            plain: 0,
+            allowance: steps,
+            steps: 0,
+            peak: 0,
+            fate: None,
+        }
+    }
+
+    /// The steps done.
+    pub fn steps(&self) -> u64
+    {
+        self.steps
+    }
+
+    /// The greatest need of a step so far, in cells.
+    pub fn peak(&self) -> u32
+    {
+        self.peak
+    }
+
+    /// One step. None: it was done, and the run goes on. Some: the run is over with this fate, and
+    /// each later call answers it again and calls neither source nor sink.
+    pub fn step<I: Source, O: Sink>(&mut self, source: &mut I, sink: &mut O) -> Option<Fate>
+    {
+        if self.fate.is_some() {
+            return self.fate;
+        }
+        if self.steps == self.allowance {
+            return self.count(Attempt {
+                fate: Some(Fate::Steps),
+                need: 0,
+            });
+        }
+        let need = self.work.used();
+        let Some(pending) = scan_once(&mut self.work, self.plain) else {
+            self.plain = self.work.neutral_len();
+            return self.count(Attempt { fate: None, need });
+        };
+        let attempt = perform_pending(&mut self.work, pending, &mut self.meta, source, sink);
+        self.plain = self.work.neutral_len();
+        self.count(attempt)
+    }
+
+    /// Counts a step that came to this, of a run that is not over.
+    fn count(&mut self, attempt: Attempt) -> Option<Fate>
+    {
+        match attempt.fate {
+            None | Some(Fate::Halted | Fate::InputEnded) => {
+                self.steps += 1;
+                self.peak = self.peak.max(attempt.need);
+            }
+            Some(Fate::InputFailed | Fate::OutputFailed) => {
+                self.peak = self.peak.max(attempt.need);
+            }
+            Some(Fate::Workspace | Fate::Steps) => {}
+        }
+        if attempt.fate.is_some() {
+            self.fate = attempt.fate;
+        }
+        attempt.fate
+    }
+
+    /// Makes steps to the end of the run, and reports what it came to: with neither device failing,
+    /// the output, the fate, the steps and the peak of the definition's run in this room with this
+    /// allowance. A machine that was just made is run.
+    pub fn run<I: Source, O: Sink>(mut self, source: &mut I, sink: &mut O) -> Report
+    {
+        self.resume(source, sink)
+    }
+
+    /// Makes steps to the end of the run, as `run` does, from wherever the machine stands, and
+    /// leaves it to be looked at: the report has its steps and its peak. With neither device
+    /// failing, what is printed, the fate, the steps and the peak are those of the definition's run
+    /// from there. Where the run is over already, the same fate is reported again, and nothing is
+    /// called.
+    pub fn resume<I: Source, O: Sink>(&mut self, source: &mut I, sink: &mut O) -> Report
+    {
+        if let Some(fate) = self.fate {
+            return self.report_with(fate);
+        }
+        let at = Counters {
+            allowance: self.allowance,
+            steps: self.steps,
+            peak: self.peak,
+        };
+        let report = run_to_end(&mut self.work, &mut self.meta, at, source, sink);
+        self.steps = report.steps;
+        self.peak = report.peak;
+        self.fate = Some(report.fate);
+        self.plain = self.work.neutral_len();
+        report
+    }
+
+    /// The report of a run that ended with this fate.
+    fn report_with(&self, fate: Fate) -> Report
+    {
+        Report {
+            fate,
+            steps: self.steps,
+            peak: self.peak,
+        }
+    }
+}
+
+/// The counters of a run.
+#[derive(Clone, Copy, Debug, PartialEq, Eq)]
+struct Counters {
+    allowance: u64,
+    steps: u64,
+    peak: u32,
+}
+
+/// Makes steps to the end of a run that isn't over and has these counters, and reports what it came
+/// to. The counters are single values here, and no part of a machine, so that they need not stand
+/// in memory.
+#[inline(never)]
+fn run_to_end<I: Source, O: Sink>(
+    work: &mut Work,
+    meta: &mut u8,
+    at: Counters,
+    source: &mut I,
+    sink: &mut O,
+) -> Report
+{
+    let mut left = at.allowance - at.steps;
+    let mut peak = at.peak;
+    // The cells of the first step since a call: those that perform none need no more than it does.
+    let mut need = work.used();
+    let mut hints = RunHints::new(work.neutral_len());
+    while left > 0 {
+        match scan_steps(work, left, &mut hints) {
+            Ok(done) => {
+                left -= done;
+                peak = peak.max(need);
+            }
+            Err(Pending::Idling) if may_begin_idling(work, left) => {
+                peak = peak.max(begin_idling(work));
+                left -= IDLING_STEPS;
+                need = work.used();
+                hints = RunHints::new(work.neutral_len());
+            }
+            Err(pending) => {
+                let last = perform_pending(work, pending, meta, source, sink);
+                if let Some(fate) = last.fate {
+                    return ended(fate, last.need, at.allowance - left, peak);
+                }
+                left -= 1;
+                peak = peak.max(last.need);
+                need = work.used();
+                hints = RunHints::new(work.neutral_len());
+            }
+        }
+    }
+    Report {
+        fate: Fate::Steps,
+        steps: at.allowance,
+        peak,
+    }
+}
+
+/// What a run reports that ended with this fate in a step that needed `need` cells, after `steps`
+/// steps and with this peak.
+fn ended(fate: Fate, need: u32, steps: u64, peak: u32) -> Report
+{
+    match fate {
+        Fate::Halted | Fate::InputEnded => Report {
+            fate,
+            steps: steps + 1,
+            peak: peak.max(need),
+        },
+        Fate::InputFailed | Fate::OutputFailed => Report {
+            fate,
+            steps,
+            peak: peak.max(need),
+        },
+        Fate::Workspace | Fate::Steps => Report { fate, steps, peak },
+    }
+}

@@ -1,0 +1,128 @@
+// Generated from crates/trac_core/src/machine/advancing.rt by hosts/rust/generate, and never edited.
+//! Steps that need no device, as many as follow one another.
+
+use super::{Counters, Machine, ended};
+use crate::trac_core::call::perform_pending_alone;
+use crate::trac_core::idling::{IDLING_STEPS, begin_idling, may_begin_idling};
+use crate::trac_core::run_hints::RunHints;
+use crate::trac_core::scan::{Pending, scan_steps};
+use crate::trac_forms::Work;
+use crate::trac_language::{Fate, Function, Report};
+
+/// What `advance` did.
+#[derive(Clone, Copy, Debug)]
+pub struct Progress {
+    /// The steps that were done and after which the run went on.
+    pub done: u64,
+    /// The function of the call that it stopped before, which reads or prints. `None` where it
+    /// stopped for another reason.
+    pub next: Option<Function>,
+}
+
+/// How far a machine went.
+#[derive(Clone, Copy, Debug)]
+pub(super) struct Advance {
+    progress: Progress,
+    /// A place of the neutral string from which on no comma mark stands.
+    plain: u32,
+    /// The steps and the peak that are counted then, and how the run ended, if it did.
+    steps: u64,
+    peak: u32,
+    fate: Option<Fate>,
+}
+
+impl<'a> Machine<'a> {
+    /// Makes at most `most` steps, as `step` does, but none that needs a device: it stops before a
+    /// call of `rs`, `rc` or `pf`, and before one of `ps` whose text isn't null. Gives how many steps were done
+    /// after which the run went on. They are fewer than `most` only if it stopped there, the allowance
+    /// is used up, or the next step ended the run, by `hl` or since it needs more than the room. With
+    /// the allowance used up, the next call of `step` ends the run. Where the run is over before,
+    /// nothing is done. This processor's own choice.
+    pub fn advance(&mut self, most: u64) -> Progress
+    {
+        if self.fate.is_some() {
+            return Progress {
+                done: 0,
+                next: None,
+            };
+        }
+        let at = Counters {
+            allowance: self.allowance,
+            steps: self.steps,
+            peak: self.peak,
+        };
+        let to = go_alone(&mut self.work, &mut self.meta, self.plain, at, most);
+        self.steps = to.steps;
+        self.peak = to.peak;
+        self.fate = to.fate;
+        self.plain = to.plain;
+        to.progress
+    }
+}
+
+/// Makes at most `most` steps that need no device, of a run that isn't over and has these counters.
+/// They are single values here, so that they need not stand in memory. From the plain place on no
+/// comma mark stands in the neutral string.
+#[inline(never)]
+fn go_alone(work: &mut Work, meta: &mut u8, plain: u32, at: Counters, most: u64) -> Advance
+{
+    let reach = most.min(at.allowance - at.steps);
+    let mut left = reach;
+    let mut peak = at.peak;
+    let mut need = work.used();
+    let mut hints = RunHints::new(plain);
+    while left > 0 {
+        match scan_steps(work, left, &mut hints) {
+            Ok(done) => {
+                left -= done;
+                peak = peak.max(need);
+            }
+            Err(Pending::Idling) if may_begin_idling(work, left) => {
+                peak = peak.max(begin_idling(work));
+                left -= IDLING_STEPS;
+                need = work.used();
+                hints = RunHints::new(work.neutral_len());
+            }
+            Err(pending) => {
+                let last = match perform_pending_alone(work, pending, meta) {
+                    Ok(last) => last,
+                    Err(function) => return going(reach - left, function, hints, at.steps, peak),
+                };
+                if let Some(fate) = last.fate {
+                    let report = ended(fate, last.need, at.steps + (reach - left), peak);
+                    return over(reach - left, work.neutral_len(), report);
+                }
+                left -= 1;
+                peak = peak.max(last.need);
+                need = work.used();
+                hints = RunHints::new(work.neutral_len());
+            }
+        }
+    }
+    going(reach, None, hints, at.steps, peak)
+}
+
+/// `done` steps, behind which the run is over with this report.
+fn over(done: u64, plain: u32, report: Report) -> Advance
+{
+    Advance {
+        progress: Progress { done, next: None },
+        plain,
+        steps: report.steps,
+        peak: report.peak,
+        fate: Some(report.fate),
+    }
+}
+
+/// `done` steps after `steps` others, with this peak, and what the next one performs; the run goes
+/// on.
+fn going(done: u64, next: Option<Function>, hints: RunHints, steps: u64, peak: u32) -> Advance
+{
+    Advance {
+        progress: Progress { done, next },
+        plain: hints.plain_from,
+        steps: steps + done,
+        peak,
+        fate: None,
+    }
+}

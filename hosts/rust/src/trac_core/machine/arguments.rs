@@ -1,0 +1,63 @@
+// Generated from crates/trac_core/src/machine/arguments.rt by hosts/rust/generate, and never edited.
+//! The arguments of the call that the next step of a machine performs.
+
+use super::Machine;
+use super::closing::{arguments_at, closed_call};
+use super::open_calls::arguments_left;
+use crate::trac_forms::{Cell, Work};
+use crate::trac_functions::arguments::text;
+
+impl<'a> Machine<'a> {
+    /// How many arguments the call has that the next step performs, its name counted and null ones too. 0 where that
+    /// step performs no call, as `next_call` says. This processor's own choice.
+    pub fn argument_count(&self) -> u32
+    {
+        if self.fate.is_none() && self.steps < self.allowance {
+            performed_count(&self.work, self.plain)
+        } else {
+            0
+        }
+    }
+
+    /// An argument of the call that the next step performs, a cell for each character. The name is argument 0. None where
+    /// the call has no such argument, and where that step performs no call, as `next_call` says. Looks at the
+    /// arguments up to this one. This processor's own choice.
+    pub fn argument(&self, which: u32) -> Option<&[Cell]>
+    {
+        if self.fate.is_none() && self.steps < self.allowance {
+            performed_argument(&self.work, self.plain, which)
+        } else {
+            None
+        }
+    }
+}
+
+/// How many arguments the call has that a step over these contents performs, the name counted; 0 where it performs none.
+/// From the plain place on no comma mark stands in the neutral string.
+fn performed_count(work: &Work, plain: u32) -> u32
+{
+    match closed_call(work) {
+        None => 0,
+        Some(place) => arguments_left(work, arguments_at(work, place, plain)),
+    }
+}
+
+/// An argument of the call that a step over these contents performs, the name being argument 0. From the plain place on
+/// no comma mark stands in the neutral string.
+fn performed_argument<'w>(work: &'w Work, plain: u32, which: u32) -> Option<&'w [Cell]>
+{
+    let Some(place) = closed_call(work) else {
+        return None;
+    };
+    let mut arguments = arguments_at(work, place, plain);
+    for _before in 0..which {
+        if arguments.is_empty() {
+            return None;
+        }
+        arguments.next(work);
+    }
+    if arguments.is_empty() {
+        return None;
+    }
+    Some(text(work, arguments.next(work)))
+}

@@ -1,0 +1,150 @@
+// Generated from crates/trac_core/src/machine/open_calls.rt by hosts/rust/generate, and never edited.
+//! The calls that are open in a machine, and the one that its next step performs.
+
+use super::Machine;
+use super::closing::{closed_call, named_at};
+use crate::trac_forms::{Cell, Work};
+use crate::trac_functions::arguments::Arguments;
+use crate::trac_language::{Function, Mode};
+
+/// A call that is open.
+#[derive(Clone, Copy, Debug, PartialEq, Eq)]
+pub struct OpenCall {
+    pub mode: Mode,
+    /// The place of its mark in the neutral string, in cells from 0.
+    pub mark: usize,
+    /// How many calls are open around it.
+    pub depth: usize,
+}
+
+/// The mark of an open call.
+#[derive(Clone, Copy, Debug, PartialEq, Eq)]
+pub struct CallMark {
+    /// The mode of the call.
+    pub mode: Mode,
+    /// The place of the mark in the neutral string, in cells from 0.
+    pub place: usize,
+}
+
+/// The call that the next step performs.
+#[derive(Clone, Copy, Debug)]
+pub struct NextCall {
+    /// The function that the call names. `None` where no function has the name.
+    pub function: Option<Function>,
+    /// How many arguments stand behind the name, null ones counted: one for each comma mark of the
+    /// call, so 0 without a comma. They are counted too where no function has the name.
+    pub arguments: u32,
+    /// How many calls are open around it.
+    pub depth: usize,
+}
+
+impl<'a> Machine<'a> {
+    /// The innermost open call: the one that the next right parenthesis performs. None if no call is open.
+    /// Looks at the mark of each open call and at no text. This processor's own choice.
+    pub fn innermost_call(&self) -> Option<OpenCall>
+    {
+        innermost_of(&self.work)
+    }
+
+    /// The mark of an open call. The innermost call has the number 0, the one around it the number 1, and so
+    /// on. None if no open call has the number. Looks at the marks of the calls up to this one and at no text.
+    /// This processor's own choice.
+    pub fn call_mark(&self, number: u32) -> Option<CallMark>
+    {
+        mark_of(&self.work, number)
+    }
+
+    /// The call that the next step performs, for a host that shows or counts calls before they are
+    /// performed. None where that step performs no call: the active string begins with no right
+    /// parenthesis, or no call is open. None too where there is no next step: the run is over, or the
+    /// allowance is used up. A call that the step then refuses, since the cells are too few, is given.
+    /// Looks at the arguments of that call and at the mark of each open call. This processor's own choice.
+    pub fn next_call(&self) -> Option<NextCall>
+    {
+        if self.fate.is_none() && self.steps < self.allowance {
+            performed_call(&self.work, self.plain)
+        } else {
+            None
+        }
+    }
+}
+
+/// The call that a step over these contents performs. From the plain place on no comma mark stands in
+/// the neutral string.
+fn performed_call(work: &Work, plain: u32) -> Option<NextCall>
+{
+    let Some(place) = closed_call(work) else {
+        return None;
+    };
+    let (function, arguments) = named_at(work, place, plain);
+    let arguments = arguments_left(work, arguments);
+    let depth = calls_around(work, place);
+    Some(NextCall {
+        function,
+        arguments,
+        depth,
+    })
+}
+
+/// How many arguments are left to take.
+pub(super) fn arguments_left(work: &Work, mut arguments: Arguments) -> u32
+{
+    let mut count = 0;
+    while !arguments.is_empty() {
+        let _ = arguments.next(work);
+        count += 1;
+    }
+    count
+}
+
+/// The innermost open call.
+fn innermost_of(work: &Work) -> Option<OpenCall>
+{
+    let Some(place) = work.last_call() else {
+        return None;
+    };
+    Some(OpenCall {
+        mode: mode_at(work, place),
+        mark: place as usize,
+        depth: calls_around(work, place),
+    })
+}
+
+/// The mark of the open call with this number, the innermost being 0.
+fn mark_of(work: &Work, number: u32) -> Option<CallMark>
+{
+    let Some(mut place) = work.last_call() else {
+        return None;
+    };
+    for _inner in 0..number {
+        let Some(around) = work.call_before(place) else {
+            return None;
+        };
+        place = around;
+    }
+    Some(CallMark {
+        mode: mode_at(work, place),
+        place: place as usize,
+    })
+}
+
+/// The mode of the call whose mark stands at a place.
+fn mode_at(work: &Work, place: u32) -> Mode
+{
+    match work.neutral_at(place) {
+        Some(Cell::Call(mode, _)) => mode,
+        _ => Mode::Active,
+    }
+}
+
+/// How many calls are open around the one whose mark stands at a place.
+fn calls_around(work: &Work, mark: u32) -> usize
+{
+    let mut place = mark;
+    let mut count = 0;
+    while let Some(around) = work.call_before(place) {
+        place = around;
+        count += 1;
+    }
+    count
+}

@@ -1,0 +1,121 @@
+// Generated from crates/trac_core/src/machine/printing.rt by hosts/rust/generate, and never edited.
+//! How many bytes the next step of a machine prints.
+
+use super::Machine;
+use super::closing::{closed_call, named_at};
+use crate::trac_core::display::display_len;
+use crate::trac_core::scan::InnermostCall;
+use crate::trac_forms::Work;
+use crate::trac_language::Function;
+use crate::trac_space::Part;
+
+impl<'a> Machine<'a> {
+    /// How many bytes the next step prints: by `ps` or `pf`, whatever the input. 0 where it prints
+    /// nothing, and where the run is over or the allowance is used up. This processor's own choice.
+    pub fn prints(&mut self) -> u32
+    {
+        if self.fate.is_some() {
+            return 0;
+        }
+        if self.steps == self.allowance {
+            return 0;
+        }
+        printed_len(&mut self.work, self.plain)
+    }
+
+    /// How many bytes the next step prints, as `prints` counts them, where they are more than `free`.
+    /// The caller says which function that step performs, as `next_function` does. A text isn't
+    /// measured where there is room for the whole neutral string. This processor's own choice.
+    pub fn prints_past(&mut self, function: Option<Function>, free: u64) -> Option<u32>
+    {
+        if prints(function) {
+            printed_past(&mut self.work, self.plain, function, free)
+        } else {
+            None
+        }
+    }
+}
+
+/// Whether a call of the function prints.
+#[inline]
+fn prints(function: Option<Function>) -> bool
+{
+    matches!(function, Some(Function::PrintString | Function::PrintForm))
+}
+
+/// How many bytes a step over these contents prints, which performs this function, where they are
+/// more than `free`. From the plain place on no comma mark stands in the neutral string.
+fn printed_past(work: &mut Work, plain: u32, function: Option<Function>, free: u64) -> Option<u32>
+{
+    match closed_call(work) {
+        None => None,
+        Some(place) => call_past(work, InnermostCall { place, plain }, function, free),
+    }
+}
+
+/// How many bytes the innermost call prints, which names this function, where they are more than
+/// `free`.
+fn call_past(
+    work: &mut Work,
+    call: InnermostCall,
+    function: Option<Function>,
+    free: u64,
+) -> Option<u32>
+{
+    if u64::from(work.neutral_len()) <= free && !displays(function) {
+        return None;
+    }
+    let printed = call_len(work, call);
+    if u64::from(printed) <= free {
+        None
+    } else {
+        Some(printed)
+    }
+}
+
+/// Whether a call of the function displays a form.
+fn displays(function: Option<Function>) -> bool
+{
+    match function {
+        None => false,
+        Some(function) => match function {
+            Function::PrintForm => true,
+            _ => false,
+        },
+    }
+}
+
+/// How many bytes a step over these contents prints. From the plain place on no comma mark stands in
+/// the neutral string.
+fn printed_len(work: &mut Work, plain: u32) -> u32
+{
+    match closed_call(work) {
+        None => 0,
+        Some(place) => call_len(work, InnermostCall { place, plain }),
+    }
+}
+
+/// How many bytes the innermost call prints.
+fn call_len(work: &mut Work, call: InnermostCall) -> u32
+{
+    let (function, mut arguments) = named_at(work, call.place, call.plain);
+    let part = arguments.next(work);
+    match function {
+        None => 0,
+        Some(function) => match function {
+            Function::PrintString => part.to - part.from,
+            Function::PrintForm => named_len(work, part),
+            _ => 0,
+        },
+    }
+}
+
+/// How many bytes the display of the form has whose name is a part of the neutral string, 0 where
+/// no form has that name.
+fn named_len(work: &mut Work, name: Part) -> u32
+{
+    match work.find(name.from, name.to) {
+        Some(form) => display_len(&work.stored(form)),
+        None => 0,
+    }
+}

@@ -1,0 +1,232 @@
+// Generated from crates/trac_core/src/scan.rt by hosts/rust/generate, and never edited.
+//! The scanner: the rules that perform no call.
+
+use crate::trac_core::machine::closing::closed_call;
+use crate::trac_core::rules::{ScanningRule, rule_of};
+use crate::trac_core::run_hints::RunHints;
+use crate::trac_core::runs::{KINDS, layout_characters, matching, ordinary_characters};
+use crate::trac_forms::Work;
+use crate::trac_language::Mode;
+use crate::trac_space::{Cell, byte_in};
+
+// Up to this many characters of a run in a call are moved as they are looked at; a longer run is long.
+// Up to twelve, the compiler makes code without a loop.
+const FEW: u64 = 12;
+
+/// The cells of the active string.
+#[inline(always)]
+pub(crate) fn characters<'w>(work: &'w Work) -> &'w [Cell]
+{
+    work.active_part(0, work.active_len())
+}
+
+/// Whether a character stands at a place of the active string.
+#[inline]
+pub(crate) fn is_at(work: &Work, place: u32, byte: u8) -> bool
+{
+    match work.active_at(place) {
+        Some(cell) => byte_in(&cell) == byte,
+        None => false,
+    }
+}
+
+/// What the beginning of the active string asks for where no rule fits that only scans.
+#[derive(Clone, Copy, Debug, PartialEq, Eq)]
+pub(crate) enum Pending {
+    /// It is empty: the idling procedure.
+    Idling,
+    /// A right parenthesis: the innermost call.
+    EndOfCall(InnermostCall),
+}
+
+/// The innermost call that is open.
+#[derive(Clone, Copy, Debug, PartialEq, Eq)]
+pub(crate) struct InnermostCall {
+    /// Where its mark stands in the neutral string.
+    pub(crate) place: u32,
+    /// A place of that string from which on no comma mark stands.
+    pub(crate) plain: u32,
+}
+
+/// One step that performs no call. Gives what the step asks for instead where it does perform one.
+/// From the plain place on no comma mark stands in the neutral string.
+pub(crate) fn scan_once(work: &mut Work, plain: u32) -> Option<Pending>
+{
+    if let Some(place) = closed_call(work) {
+        return Some(Pending::EndOfCall(InnermostCall { place, plain }));
+    }
+    match scan_steps(work, 1, &mut RunHints::new(plain)) {
+        Ok(_) => None,
+        Err(pending) => Some(pending),
+    }
+}
+
+/// Makes the steps of the rule that fits the beginning of the active string, at most `most`: a whole
+/// run of ordinary characters, in a call with the commas between them, or of layout characters, or
+/// one step of another rule that performs no call.
+#[inline(always)]
+pub(crate) fn scan_steps(work: &mut Work, most: u64, hints: &mut RunHints) -> Result<u64, Pending>
+{
+    match next_rule(work) {
+        ScanningRule::Idling => Err(Pending::Idling),
+        ScanningRule::Layout => Ok(delete_layout(work, most)),
+        ScanningRule::Protection => {
+            protect(work);
+            Ok(1)
+        }
+        ScanningRule::Argument => Ok(begin_argument(work, most, hints)),
+        ScanningRule::ActiveCall => Ok(begin_call(work, 2, Mode::Active, most, hints)),
+        ScanningRule::NeutralCall => Ok(begin_call(work, 3, Mode::Neutral, most, hints)),
+        ScanningRule::NumberSign => {
+            add_number_sign(work);
+            Ok(1)
+        }
+        ScanningRule::EndOfCall => end_call(work, hints.plain_from),
+        ScanningRule::Character => Ok(add_characters(work, most, hints)),
+    }
+}
+
+/// The rule that fits the beginning of the active string.
+#[inline(always)]
+fn next_rule(work: &Work) -> ScanningRule
+{
+    rule_of(characters(work))
+}
+
+/// A right parenthesis closes the innermost call, or, where none is
+/// open, is deleted (this processor's own choice).
+#[inline]
+fn end_call(work: &mut Work, plain: u32) -> Result<u64, Pending>
+{
+    match work.last_call() {
+        Some(place) => Err(Pending::EndOfCall(InnermostCall { place, plain })),
+        None => {
+            work.drop_active(1);
+            Ok(1)
+        }
+    }
+}
+
+/// Adds the ordinary characters at the front of the active string, at most `most`, and in a call the
+/// commas between them too. A run that follows two long ones, or stands in no call, is looked at
+/// before it is moved; a run with commas is not long. Gives how many steps these are.
+#[inline]
+fn add_characters(work: &mut Work, most: u64, hints: &mut RunHints) -> u64
+{
+    let before = hints.plain_from;
+    let count = if hints.long_runs_follow() || work.last_call().is_none() {
+        add_long_run(work, most)
+    } else {
+        add_run(work, most, hints)
+    };
+    let is_long = count >= FEW && hints.plain_from == before;
+    hints.count_run(is_long);
+    count
+}
+
+/// A comma is deleted. Where a call is open, a new argument of the innermost begins, and what
+/// follows is added as by `add_characters`, unless long runs are. Gives how many steps they were.
+#[inline]
+fn begin_argument(work: &mut Work, most: u64, hints: &mut RunHints) -> u64
+{
+    if work.last_call().is_none() {
+        work.drop_active(1);
+        return 1;
+    }
+    if hints.long_runs_follow() {
+        work.active_to_cell(1, Cell::Comma);
+        hints.plain_from = work.neutral_len();
+        return 1;
+    }
+    add_run(work, most, hints)
+}
+
+/// Adds the ordinary characters and the commas at the front of the active string where a call is
+/// open, at most `most` and at most `FEW`. Gives how many steps these are: 0 where another character
+/// stands there.
+#[inline(always)]
+fn add_run(work: &mut Work, most: u64, hints: &mut RunHints) -> u64
+{
+    let reach = most.min(u64::from(work.active_len()));
+    // A number that is known makes a shorter loop.
+    if reach >= FEW {
+        add_run_within(work, FEW as u32, hints)
+    } else {
+        add_run_within(work, reach as u32, hints)
+    }
+}
+
+/// Adds the ordinary characters and the commas among the first `reach` characters of the active
+/// string, up to the first other one, where a call is open. Gives how many steps these are.
+#[inline]
+fn add_run_within(work: &mut Work, reach: u32, hints: &mut RunHints) -> u64
+{
+    let before = work.neutral_len();
+    let (count, last) = work.run_to_neutral(reach, KINDS);
+    if last > 0 {
+        hints.plain_from = before + last;
+    }
+    u64::from(count)
+}
+
+/// Adds the ordinary characters at the front of the active string, at most `most`: first it looks how
+/// many they are, and then it moves them. Gives how many steps these are.
+#[inline(never)]
+fn add_long_run(work: &mut Work, most: u64) -> u64
+{
+    let count = 1 + ordinary_characters(after_first(work, most));
+    work.active_to_neutral(count);
+    u64::from(count)
+}
+
+/// Deletes the layout characters at the front of the active string, at most `most`. Gives how many
+/// steps these are.
+#[inline(always)]
+fn delete_layout(work: &mut Work, most: u64) -> u64
+{
+    let count = 1 + layout_characters(after_first(work, most));
+    work.drop_active(count);
+    u64::from(count)
+}
+
+/// The cells of the active string after the first, as far as its first `most` characters reach.
+#[inline]
+fn after_first<'a>(work: &'a Work, most: u64) -> &'a [Cell]
+{
+    let all = work.active_len();
+    work.active_part(1, most.min(u64::from(all)) as u32)
+}
+
+/// The text between a left parenthesis and its match is added unscanned; where there is no match
+/// the active string becomes empty (this processor's own choice).
+#[inline(never)]
+fn protect(work: &mut Work)
+{
+    match matching(work.active_part(1, work.active_len())) {
+        Some(len) => {
+            work.drop_active(1);
+            work.active_to_neutral(len);
+            work.drop_active(1);
+        }
+        None => work.clear_active(),
+    }
+}
+
+/// A number sign, or two, and a left parenthesis open a call: they leave the active string, and its
+/// mark stands last in the neutral one. What begins its name is added as by `add_run`, unless long
+/// runs are. Gives how many steps they were.
+#[inline(always)]
+fn begin_call(work: &mut Work, characters: u32, mode: Mode, most: u64, hints: &mut RunHints) -> u64
+{
+    work.active_to_cell(characters, Cell::Call(mode, 0));
+    if hints.long_runs_follow() {
+        return 1;
+    }
+    1 + add_run(work, most - 1, hints)
+}
+
+/// A number sign that opens no call goes to the end of the neutral string.
+fn add_number_sign(work: &mut Work)
+{
+    work.active_to_cell(1, Cell::Byte(b'#'));
+}

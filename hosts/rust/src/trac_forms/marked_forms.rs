@@ -1,0 +1,120 @@
+// Generated from crates/trac_forms/src/marked_forms.rt by hosts/rust/generate, and never edited.
+//! Removes the forms of several names from the store in one pass.
+//!
+//! Each of them is marked first, by a pointer that no form can have; searches still find it by its name.
+//! Then the forms that stay move over the marked ones.
+
+use crate::trac_forms::form_finder::FormFinder;
+use crate::trac_forms::index::{index_from, keep_index, unindex_from};
+use crate::trac_space::{Cell, Part, Space};
+use crate::trac_store::{Located, before_comma, tested_heads};
+
+// The pointer of a marked form.
+const MARK: u32 = u32::MAX;
+
+// Marks each form whose name stands between the comma marks of a part of neutral. Gives a form before
+// which no form is marked. `last` is the form used last, and the searches add to `search_cost`.
+pub(crate) fn mark_all(
+    space: &mut Space,
+    count: u32,
+    last: Located,
+    names: Part,
+    search_cost: &mut u32,
+) -> Located
+{
+    let end = Located {
+        number: count,
+        start: space.store_len(),
+    };
+    let mut places = Marking { last, first: end };
+    let mut from = names.from;
+    while from <= names.to {
+        let to = from + before_comma(space.neutral_part(from, names.to));
+        keep_index(space, count, search_cost);
+        places = mark_named(space, count, places, Part { from, to }, search_cost);
+        from = to + 1;
+    }
+    places.first
+}
+
+// `last` is the form used last; no form before `first` is marked.
+#[derive(Clone, Copy, Debug)]
+struct Marking {
+    last: Located,
+    first: Located,
+}
+
+// Marks the named form, if there is one. `last` is the form used last; no form before `first` is marked.
+fn mark_named(
+    space: &mut Space,
+    count: u32,
+    places: Marking,
+    name: Part,
+    search_cost: &mut u32,
+) -> Marking
+{
+    match FormFinder::new(space, count, places.last).find_named(name, search_cost) {
+        Some(form) => {
+            space.write_store(form.start + 2, Cell::Head(MARK));
+            Marking {
+                last: form,
+                first: earlier(places.first, form),
+            }
+        }
+        None => places,
+    }
+}
+
+// The form that comes first in the list.
+fn earlier(a: Located, b: Located) -> Located
+{
+    if b.number < a.number { b } else { a }
+}
+
+// Removes the marked forms from the store and from the index, and gives how many forms are left. No form
+// before `first` is marked.
+pub(crate) fn take_out_marked(space: &mut Space, first: Located, count: u32) -> u32
+{
+    unindex_from(space, first.number, count);
+    let count = remove_marked(space, first, count);
+    index_from(space, first, count);
+    count
+}
+
+// Removes the marked forms from the store, and gives how many forms are left. No form before `first` is
+// marked.
+fn remove_marked(space: &mut Space, first: Located, count: u32) -> u32
+{
+    let mut kept = first.number;
+    let mut gap = Part {
+        from: first.start,
+        to: first.start,
+    };
+    let mut from = first.start;
+    for _form in first.number..count {
+        let form = tested_heads(space, from);
+        let end = from + 3 + form.name + form.body;
+        if form.pointer == MARK {
+            gap = move_gap(space, gap, from, end);
+        } else {
+            kept += 1;
+        }
+        from = end;
+    }
+    space.remove_store(gap.from, gap.to);
+    kept
+}
+
+// Moves the cells between the gap and place `from` to the beginning of the gap. Gives the new gap, which
+// ends at `end`. Here a gap is cells of the store that are to be removed.
+fn move_gap(space: &mut Space, gap: Part, from: u32, end: u32) -> Part
+{
+    if gap.from == gap.to {
+        return Part { from, to: end };
+    }
+    space.move_in_store(gap.to, from, gap.from);
+    Part {
+        from: gap.from + (from - gap.to),
+        to: end,
+    }
+}

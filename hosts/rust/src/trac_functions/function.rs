@@ -1,0 +1,132 @@
+// Generated from crates/trac_functions/src/function.rt by hosts/rust/generate, and never edited.
+//! The table of functions: the name of each, and where its value is computed. A new function gets a
+//! line in `function_of` and one in `value_of`. One that reads, prints, changes the meta character or
+//! ends the run is called by the machine, in `trac_core`'s module of calls.
+
+use crate::trac_functions::arguments::{Arguments, CallResult};
+use crate::trac_functions::{arithmetic, bit_strings, comparing, form_calls, form_parts};
+use crate::trac_forms::Work;
+use crate::trac_language::{Arith, Function};
+use crate::trac_space::{Cell, character_of};
+
+/// For each byte the letter of lower case, where it is a letter, and else the byte.
+const LOWER: &[u8; 256] = b"\
+    \0\x01\x02\x03\x04\x05\x06\x07\x08\t\n\x0b\x0c\r\x0e\x0f\x10\x11\x12\x13\x14\x15\x16\x17\
+    \x18\x19\x1a\x1b\x1c\x1d\x1e\x1f !\"#$%&'()*+,-./0123456789:;<=>?@abcdefghijklmnopqrstuv\
+    wxyz[\\]^_`abcdefghijklmnopqrstuvwxyz{|}~\x7f\x80\x81\x82\x83\x84\x85\x86\x87\x88\x89\
+    \x8a\x8b\x8c\x8d\x8e\x8f\x90\x91\x92\x93\x94\x95\x96\x97\x98\x99\x9a\x9b\x9c\x9d\x9e\x9f\
+    \xa0\xa1\xa2\xa3\xa4\xa5\xa6\xa7\xa8\xa9\xaa\xab\xac\xad\xae\xaf\xb0\xb1\xb2\xb3\xb4\xb5\
+    \xb6\xb7\xb8\xb9\xba\xbb\xbc\xbd\xbe\xbf\xc0\xc1\xc2\xc3\xc4\xc5\xc6\xc7\xc8\xc9\xca\xcb\
+    \xcc\xcd\xce\xcf\xd0\xd1\xd2\xd3\xd4\xd5\xd6\xd7\xd8\xd9\xda\xdb\xdc\xdd\xde\xdf\xe0\xe1\
+    \xe2\xe3\xe4\xe5\xe6\xe7\xe8\xe9\xea\xeb\xec\xed\xee\xef\xf0\xf1\xf2\xf3\xf4\xf5\xf6\xf7\
+    \xf8\xf9\xfa\xfb\xfc\xfd\xfe\xff";
+
+/// The letter of lower case of a character, or the character where it is no letter.
+#[inline]
+fn lower(cell: &Cell) -> u8
+{
+    LOWER[usize::from(character_of(cell))]
+}
+
+/// The function that a name of cells names, in ASCII letters of either case. None if no function has the
+/// name. The names are Mooers' (1966 and 1972), the letters of either case this processor's own choice.
+pub fn function_named(name: &[Cell]) -> Option<Function>
+{
+    let [first, second] = name else {
+        return None;
+    };
+    function_of(first, second)
+}
+
+/// The function that the cells before the first comma mark name, in ASCII letters of either case. None if
+/// no function has that name. Looks at three cells at most, since each name has two characters.
+#[inline]
+pub fn function_before_comma(cells: &[Cell]) -> Option<Function>
+{
+    let [first, second, ..] = cells else {
+        return None;
+    };
+    if ends_name(&cells[2..]) {
+        function_of(first, second)
+    } else {
+        None
+    }
+}
+
+/// Whether a comma mark comes first, or nothing.
+#[inline]
+fn ends_name(cells: &[Cell]) -> bool
+{
+    matches!(cells.first(), Some(Cell::Comma) | None)
+}
+
+/// The function whose name has these two characters.
+#[inline]
+fn function_of(first: &Cell, second: &Cell) -> Option<Function>
+{
+    match (lower(first), lower(second)) {
+        (b'r', b's') => Some(Function::ReadString),
+        (b'r', b'c') => Some(Function::ReadCharacter),
+        (b'c', b'm') => Some(Function::ChangeMeta),
+        (b'p', b's') => Some(Function::PrintString),
+        (b'h', b'l') => Some(Function::Halt),
+        (b'd', b's') => Some(Function::DefineString),
+        (b's', b's') => Some(Function::SegmentString),
+        (b'd', b'd') => Some(Function::DeleteDefinition),
+        (b'd', b'a') => Some(Function::DeleteAll),
+        (b'l', b'n') => Some(Function::ListNames),
+        (b'p', b'f') => Some(Function::PrintForm),
+        (b'c', b'l') => Some(Function::CallForm),
+        (b'c', b's') => Some(Function::CallSegment),
+        (b'c', b'c') => Some(Function::CallCharacter),
+        (b'c', b'n') => Some(Function::CallNumber),
+        (b'i', b'n') => Some(Function::InitialPart),
+        (b'c', b'r') => Some(Function::CallRestore),
+        (b'e', b'q') => Some(Function::Equal),
+        (b'g', b'r') => Some(Function::Greater),
+        (b'a', b'd') => Some(Function::Arithmetic(Arith::Add)),
+        (b's', b'u') => Some(Function::Arithmetic(Arith::Subtract)),
+        (b'm', b'l') => Some(Function::Arithmetic(Arith::Multiply)),
+        (b'd', b'v') => Some(Function::Arithmetic(Arith::Divide)),
+        (b'b', b'u') => Some(Function::Union),
+        (b'b', b'i') => Some(Function::Intersection),
+        (b'b', b'c') => Some(Function::Complement),
+        (b'b', b's') => Some(Function::Shift),
+        (b'b', b'r') => Some(Function::Rotate),
+        _ => None,
+    }
+}
+
+/// Performs a function with the arguments that follow its name. The machine itself performs the functions
+/// that touch a device or the meta character, or end the run; here they have a null value.
+#[inline(always)]
+pub fn value_of(work: &mut Work, function: Function, arguments: Arguments) -> CallResult
+{
+    match function {
+        Function::DefineString => form_calls::define_string(work, arguments),
+        Function::SegmentString => form_calls::segment_string(work, arguments),
+        Function::DeleteDefinition => form_calls::delete_definition(work, arguments),
+        Function::DeleteAll => form_calls::delete_all(work),
+        Function::ListNames => form_calls::list_names(work, arguments),
+        Function::CallForm => form_calls::call_form(work, arguments),
+        Function::CallSegment => form_parts::call_segment(work, arguments),
+        Function::CallCharacter => form_parts::call_character(work, arguments),
+        Function::CallNumber => form_parts::call_number(work, arguments),
+        Function::InitialPart => form_parts::initial_part(work, arguments),
+        Function::CallRestore => form_parts::call_restore(work, arguments),
+        Function::Equal => comparing::equal(work, arguments),
+        Function::Greater => comparing::greater(work, arguments),
+        Function::Arithmetic(operation) => arithmetic::arithmetic(work, operation, arguments),
+        Function::Union => bit_strings::union(work, arguments),
+        Function::Intersection => bit_strings::intersection(work, arguments),
+        Function::Complement => bit_strings::complement(work, arguments),
+        Function::Shift => bit_strings::shift(work, arguments),
+        Function::Rotate => bit_strings::rotate(work, arguments),
+        Function::ReadString
+        | Function::ReadCharacter
+        | Function::ChangeMeta
+        | Function::PrintString
+        | Function::Halt
+        | Function::PrintForm => CallResult::AtEnd,
+    }
+}

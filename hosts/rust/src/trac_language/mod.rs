@@ -1,0 +1,22 @@
+// Generated from crates/trac_language/src/lib.rt by hosts/rust/generate, and never edited.
+//! What the language is: what a reader must believe, and nothing else.
+//!
+//! The definition stands in `specs/`: texts, forms, the state of the processor, the rules of
+//! scanning, what each function means, a step, and a run. Here are only the few types that it
+//! speaks of. The language is that of Mooers, "TRAC, A Procedure-Describing Language for the
+//! Reactive Typewriter", CACM 9(3), 1966, and "Definition and Standard for TRAC T-64 Language",
+//! 1972.
+
+mod arith;
+mod fate;
+mod function;
+mod item;
+mod mode;
+mod report;
+
+pub use arith::Arith;
+pub use fate::Fate;
+pub use function::Function;
+pub use item::Item;
+pub use mode::Mode;
+pub use report::Report;

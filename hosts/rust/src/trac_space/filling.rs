@@ -1,0 +1,184 @@
+// Generated from crates/trac_space/src/filling.rt by hosts/rust/generate, and never edited.
+//! Copies cells of the store to the front of active, and fills their gaps with what stands between comma
+//! marks. Meanwhile the places of the comma marks lie over the first cells that they part.
+
+use crate::trac_space::cell::{Cell, is_character, is_comma};
+use crate::trac_space::copies::{BLOCK, characters_before, copy_at_once_higher, copy_short_higher};
+use crate::trac_space::overlay::{cell_under, laid, lift, number_over_laid};
+
+// The cells whose parts fill the gaps: where they begin in the block, how many they are, and how many
+// comma marks are among them. The places of the comma marks lie over the first of these cells.
+#[derive(Clone, Copy, Debug)]
+pub(crate) struct Given {
+    pub(crate) start: usize,
+    pub(crate) len: usize,
+    pub(crate) commas: usize,
+}
+
+/// Lays the places of the comma marks over the first cells, in order, and gives how many they are. None
+/// stands from place `plain` on.
+#[inline(always)]
+pub(crate) fn lay_commas(cells: &mut [Cell], plain: usize) -> usize
+{
+    let mut count = 0;
+    for at in 0..plain {
+        if is_comma(&cells[at]) {
+            cells[count] = laid(cells[count], at as u32);
+            count += 1;
+        }
+    }
+    count
+}
+
+// Copies the cells from place `from` up to `stop` to a higher place, so that the copy ends before place
+// `to`: a character as it is, and the part of a gap's ordinal in place of the gap. The last cells are copied
+// first. Gives where the copy begins. None if it would begin before `low`; then the cells from `low` up to
+// `to` are unspecified.
+#[inline(always)]
+pub(crate) fn fill_cells(
+    cells: &mut [Cell],
+    from: usize,
+    stop: usize,
+    low: usize,
+    to: usize,
+    given: Given,
+) -> Option<usize>
+{
+    let mut at = stop;
+    let mut to = to;
+    while at >= BLOCK && distance(low, to) >= BLOCK {
+        copy_at_once_higher::<BLOCK>(cells, at - BLOCK, distance(at, to));
+        let run = characters_before(cells, at);
+        if at - from <= run {
+            return Some(to - (at - from));
+        }
+        at -= run;
+        to -= run;
+        if run == BLOCK {
+            continue;
+        }
+        at -= 1;
+        let (start, n) = part_numbered(cells, ordinal_in(cells[at]), given);
+        if n > to - low {
+            return None;
+        }
+        to -= n;
+        put_lifted(cells, start, to, n, given);
+    }
+    fill_each(cells, from, at, low, to, given)
+}
+
+// Does what `fill_cells` does, cell by cell.
+#[inline(never)]
+fn fill_each(
+    cells: &mut [Cell],
+    from: usize,
+    stop: usize,
+    low: usize,
+    to: usize,
+    given: Given,
+) -> Option<usize>
+{
+    let mut at = stop;
+    let mut to = to;
+    while from < at {
+        at -= 1;
+        let (start, n) = filling_of(cells, at, given);
+        if n > to - low {
+            return None;
+        }
+        to -= n;
+        put_lifted(cells, start, to, n, given);
+    }
+    Some(to)
+}
+
+// Copies `n` cells to a higher place apart, without the numbers that lie over them.
+#[inline(always)]
+fn put_lifted(cells: &mut [Cell], start: usize, to: usize, n: usize, given: Given)
+{
+    let laid = given.start + given.commas;
+    if start >= laid {
+        put_plain(cells, start, to, n);
+        return;
+    }
+    if n == 1 {
+        cells[to] = cell_under(cells[start]);
+        return;
+    }
+    copy_short_higher(cells, start, distance(start, to), n);
+    lift(&mut cells[to..to + n.min(laid - start)]);
+}
+
+// Copies `n` cells to a higher place apart. One cell, the commonest case, needs no call.
+#[inline(always)]
+fn put_plain(cells: &mut [Cell], start: usize, to: usize, n: usize)
+{
+    if n == 1 {
+        copy_at_once_higher::<1>(cells, start, distance(start, to));
+    } else {
+        copy_short_higher(cells, start, distance(start, to), n);
+    }
+}
+
+// How far `to` is behind `start`, as a number of 32 bits, which the compiler compares as it is.
+#[inline(always)]
+fn distance(start: usize, to: usize) -> usize
+{
+    (to - start) as u32 as usize
+}
+
+// Where the cells begin that stand for the one at place `at`, and how many they are: a character stands
+// for itself, the part of its ordinal for a gap.
+#[inline]
+fn filling_of(cells: &[Cell], at: usize, given: Given) -> (usize, usize)
+{
+    if is_character(&cells[at]) {
+        return (at, 1);
+    }
+    part_numbered(cells, ordinal_in(cells[at]), given)
+}
+
+// Where the part of this number, from 1, begins, and how many cells it has: none if there is no such
+// part.
+#[inline(always)]
+fn part_numbered(cells: &[Cell], number: u32, given: Given) -> (usize, usize)
+{
+    let place = number.wrapping_sub(1) as usize;
+    if place > given.commas {
+        return (given.start, 0);
+    }
+    let from = part_begin(cells, place, given);
+    let end = part_end(cells, place, given);
+    (given.start + from, end - from)
+}
+
+// Where the part behind `place` comma marks begins, counted from the first of the given cells.
+#[inline(always)]
+fn part_begin(cells: &[Cell], place: usize, given: Given) -> usize
+{
+    if place == 0 {
+        return 0;
+    }
+    number_over_laid(cells[given.start + place - 1]) as usize + 1
+}
+
+// Where the part behind `place` comma marks ends, counted from the first of the given cells.
+#[inline(always)]
+fn part_end(cells: &[Cell], place: usize, given: Given) -> usize
+{
+    if place == given.commas {
+        return given.len;
+    }
+    number_over_laid(cells[given.start + place]) as usize
+}
+
+// The ordinal of a gap, 0 for any other cell.
+#[inline]
+fn ordinal_in(cell: Cell) -> u32
+{
+    match cell {
+        Cell::Gap(ordinal) => ordinal,
+        _ => 0,
+    }
+}

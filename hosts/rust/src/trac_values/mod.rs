@@ -1,0 +1,21 @@
+// Generated from crates/trac_values/src/lib.rt by hosts/rust/generate, and never edited.
+//! Compares texts, and computes with the numbers and bit strings at their ends. Texts are slices of cells.
+//!
+//! Each cell of such a slice is a character, and the slice is no longer than a block can be: 16,777,216
+//! cells. A number or a bit string stands at the right end of its text, behind a prefix. That is Mooers'
+//! rule of 1966; what exactly counts as one, and the range of arithmetic, is this processor's own choice.
+
+mod bit_string;
+mod number;
+mod text;
+
+pub use bit_string::{
+    bool_complement, bool_intersection, bool_rotation, bool_shift, bool_union, complement_digit,
+    intersection_digit, octal_start, rotated_digit, shifted_digit, union_digit,
+};
+pub use number::{
+    Count, ShortResult, TailNumber, count_of, greater, result_of, rotation_of, shift_of,
+    short_result, tail_number,
+};
+pub use text::{ends_with, equal};
+pub use crate::trac_language::Arith;
