@@ -196,10 +196,10 @@ static void show_one(const kept *of) {
 
 static void check_some(void) {
     static const size_t most = 4096;
-    const size_t room = drawn(MOST_BYTES), length = (size_t)(end - next) < 40 ? (size_t)(end - next) : 40;
+    const size_t room = drawn(MOST_BYTES), lists = drawn(2) ? most : drawn(250), left = (size_t)(end - next);
+    const size_t length = left < 40 ? left : 40;
     trac_cell *const block = (trac_cell *)fresh(60 * sizeof *block);
     uint8_t *const memory = (uint8_t *)fresh(most), *const lines = (uint8_t *)fresh(room);
-    const size_t lists = drawn(2) ? most : drawn(250);
     const trac_report told = trac_check(block, 60, 200, next, length, memory, lists, lines, room);
     must(told.written <= room);
     next += length;
