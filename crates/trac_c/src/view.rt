@@ -1,5 +1,5 @@
-//! What C sees of a machine that it keeps. Each of these has the machine by a shared reference, through which nothing can
-//! be written: no cell of the block moves, and no word of the machine changes.
+//! What C sees of a machine that it keeps. Each of these has the machine by a shared reference, through which nothing
+//! can be written: no cell of the block moves, and no word of the machine changes.
 ghost use Rattle.std.specs.Prelude.{◌≡◌, drop, length, slice_get};
 ghost use Rattle.trac_language.specs.Rule.{rule};
 ghost use Rattle.trac_language.specs.State.{argument};
@@ -126,8 +126,8 @@ pub unsafe extern "C" fn trac_engine_calls(machine: *mut u64, to: &mut [u32]) ->
     strings::lay_calls(&*(machine as *const Machine<'static>), to)
 }
 
-/// How many arguments the call has that the next step performs, its name counted; 0 where it performs no call, where the
-/// run is over, and where the allowance is used up.
+/// How many arguments the call has that the next step performs, its name counted; 0 where it performs no call, where
+/// the run is over, and where the allowance is used up.
 #[unsafe(no_mangle)]
 pub unsafe extern "C" fn trac_engine_argument_count(machine: *mut u64) -> usize
     ghost held: { MachineState }
@@ -137,8 +137,8 @@ pub unsafe extern "C" fn trac_engine_argument_count(machine: *mut u64) -> usize
     strings::argument_count(&*(machine as *const Machine<'static>))
 }
 
-/// The length of argument `which` of the call that the next step performs, the name being argument 0; the argument goes to
-/// the front of `to`, as much of it as fits. Where there is no such argument, 0, and `to` stays as it is.
+/// The length of argument `which` of the call that the next step performs, the name being argument 0; the argument goes
+/// to the front of `to`, as much of it as fits. Where there is no such argument, 0, and `to` stays as it is.
 #[unsafe(no_mangle)]
 pub unsafe extern "C" fn trac_engine_argument(
     machine: *mut u64,

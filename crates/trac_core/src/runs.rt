@@ -159,7 +159,7 @@ fn ordinary_blocks(cells: &[Cell], known: usize) -> usize
 }
 
 /// What the table says of the eight characters from a place on, in all.
-#[inline]
+#[inline(always)]
 fn kinds(cells: &[Cell], i: usize) -> u8
     requires within { i + 8 ≤ length cells.now }
     requires bytes { All IsByte cells.now }

@@ -154,14 +154,17 @@ fn write_block(text: &[Cell], bytes: &mut [u8], i: usize)
         AreWritten next text.now bytes.new }
     ensures same { length bytes.new ≡ length bytes.old }
 {
-    write_byte(text, bytes, i);
-    write_byte(text, bytes, i + 1);
-    write_byte(text, bytes, i + 2);
-    write_byte(text, bytes, i + 3);
-    write_byte(text, bytes, i + 4);
-    write_byte(text, bytes, i + 5);
-    write_byte(text, bytes, i + 6);
-    write_byte(text, bytes, i + 7);
+    // Slices of eight tell a compiler that doesn't know the contract that the places are there.
+    let cells = &text[i..i + 8];
+    let block = &mut bytes[i..i + 8];
+    write_byte(cells, block, 0);
+    write_byte(cells, block, 1);
+    write_byte(cells, block, 2);
+    write_byte(cells, block, 3);
+    write_byte(cells, block, 4);
+    write_byte(cells, block, 5);
+    write_byte(cells, block, 6);
+    write_byte(cells, block, 7);
 }
 
 // Writes the character of cell `i`, which is one, over byte `i`.

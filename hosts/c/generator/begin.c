@@ -67,8 +67,8 @@ HELPER u8 *at(u64 address) { return (u8 *)(uintptr_t)address; }
 
 #define TABLES ((u64)(uintptr_t)tables)
 
-/* The numbers of the engine stand in memory with the lowest byte first. These take a number from this machine's order of
- * bytes to that one, and back. A compiler that doesn't tell the order leaves it to be seen when the program runs. */
+/* The numbers of the engine stand in memory with the lowest byte first. These take a number from this machine's order
+ * of bytes to that one, and back. A compiler that doesn't tell the order leaves it to be seen when the program runs. */
 #if defined(__BYTE_ORDER__) && defined(__ORDER_LITTLE_ENDIAN__) && __BYTE_ORDER__ == __ORDER_LITTLE_ENDIAN__
 HELPER u16 order16(u16 x) { return x; }
 HELPER u32 order32(u32 x) { return x; }

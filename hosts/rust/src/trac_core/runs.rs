@@ -123,7 +123,7 @@ fn ordinary_blocks(cells: &[Cell], known: usize) -> usize
 }
 
 /// What the table says of the eight characters from a place on, in all.
-#[inline]
+#[inline(always)]
 fn kinds(cells: &[Cell], i: usize) -> u8
 {
     // A slice of eight tells a compiler that doesn't know the contract that the places are there.

@@ -19,8 +19,8 @@ impl<'a> Machine<'a> {
         }
     }
 
-    /// An argument of the call that the next step performs, a cell for each character. The name is argument 0. None where
-    /// the call has no such argument, and where that step performs no call, as `next_call` says. Looks at the
+    /// An argument of the call that the next step performs, a cell for each character. The name is argument 0. None
+    /// where the call has no such argument, and where that step performs no call, as `next_call` says. Looks at the
     /// arguments up to this one. This processor's own choice.
     pub fn argument(&self, which: u32) -> Option<&[Cell]>
     {
@@ -32,8 +32,8 @@ impl<'a> Machine<'a> {
     }
 }
 
-/// How many arguments the call has that a step over these contents performs, the name counted; 0 where it performs none.
-/// From the plain place on no comma mark stands in the neutral string.
+/// How many arguments the call has that a step over these contents performs, the name counted; 0 where it performs
+/// none. From the plain place on no comma mark stands in the neutral string.
 fn performed_count(work: &Work, plain: u32) -> u32
 {
     match closed_call(work) {

@@ -19,8 +19,8 @@ pub(crate) fn closed_call(work: &Work) -> Option<u32>
     }
 }
 
-/// The arguments of the innermost call, whose mark stands at the place, the name first. From the plain place on no comma
-/// mark stands in the neutral string.
+/// The arguments of the innermost call, whose mark stands at the place, the name first. From the plain place on no
+/// comma mark stands in the neutral string.
 pub(super) fn arguments_at(work: &Work, place: u32, plain: u32) -> Arguments
 {
     let end = work.neutral_len();
