@@ -15,14 +15,14 @@ block_written text bytes made i next is within before block =
     let cells_long : length cells ≡ 8 = length-between text i (i + 8) inside ∙ eight in
     let made_long : length made ≡ 8 = block.long ∙ cells_long in
     let whole : made ≡ text_of_cells cells =
-        sym (take_all 8 made (omega (arith, made_long))) ∙ block.written ∙ ap text_of_cells (take_all 8 cells (omega (arith, cells_long))) in
+    sym (take_all 8 made (omega (arith, made_long))) ∙ block.written ∙ ap text_of_cells (take_all 8 cells (omega (arith, cells_long))) in
     let joined : take i text ++ cells ≡ take next text =
-        ap (λ n. take i text ++ take n (drop i text)) eight ∙ sym (take-add i 8 text) ∙ ap (λ n. take n text) (sym is) in
+    ap (λ n. take i text ++ take n (drop i text)) eight ∙ sym (take-add i 8 text) ∙ ap (λ n. take n text) (sym is) in
     record {
       written =
-        take-put_mid i (i + 8 - i) bytes made next (omega (arith, is, made_long)) (omega (arith, before.long, inside))
-        ∙ ap₂ (λ (xs ys : Text). xs ++ ys) before.written whole
-        ∙ sym (text_of_cells-append (take i text) cells)
-        ∙ ap text_of_cells joined;
+          take-put_mid i (i + 8 - i) bytes made next (omega (arith, is, made_long)) (omega (arith, before.long, inside))
+          ∙ ap₂ (λ (xs ys : Text). xs ++ ys) before.written whole
+          ∙ sym (text_of_cells-append (take i text) cells)
+          ∙ ap text_of_cells joined;
       long = block_long bytes made i (length text) before.long inside made_long;
     }
