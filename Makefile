@@ -75,7 +75,7 @@ programs: prove crates/trac_trace/out/trac_trace
 check: check-tools all build/libtrac.a $(SHARED) page npm
 	$(PYTEST) -m 'not timed' checks --ignore checks/proved --ignore checks/machines
 
-## make check-machines  the engine in C on a Cortex-M3, aarch64, arm and s390x (emulators, which it installs; minutes)
+## make check-machines  the engine in C on a Cortex-M3, aarch64, arm, powerpc, s390x (emulators, installed; minutes)
 check-machines: check-tools
 	@checks/tools machines
 	$(PYTEST) checks/machines

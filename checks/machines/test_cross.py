@@ -1,5 +1,5 @@
-"""The program in C on machines of other kinds, of 32 and 64 bits and of both orders of bytes, each emulated: it meets
-the cases of conformance/ there."""
+"""The program in C on machines of other kinds, of 32 and 64 bits and of both orders of bytes, each emulated, and
+compiled in other ways on this one: it meets the cases of conformance/."""
 import os
 import subprocess
 import sys
@@ -9,31 +9,54 @@ import unittest
 from trac import TOP
 
 HERE = os.path.join(TOP, 'hosts', 'c')
-KINDS = {'aarch64': 'aarch64-linux-gnu-gcc', 'arm': 'arm-linux-gnueabihf-gcc', 's390x': 's390x-linux-gnu-gcc'}
+KINDS = {'aarch64': 'aarch64-linux-gnu-gcc', 'arm': 'arm-linux-gnueabihf-gcc', 'ppc': 'powerpc-linux-gnu-gcc',
+         's390x': 's390x-linux-gnu-gcc'}
 
 
-class Cross(unittest.TestCase):
-    def meets_the_cases(self, kind, *flags):
+class Cases(unittest.TestCase):
+    def meets_the_cases(self, words, emulator=()):
+        """What these words of a compiler make meets the cases, in an emulator if one is given."""
         with tempfile.TemporaryDirectory() as place:
             program = os.path.join(place, 'trac')
-            subprocess.run([KINDS[kind], '-std=c11', '-O1', '-static', *flags, '-o', program,
-                            os.path.join(HERE, 'trac.c'), os.path.join(HERE, 'trac_engine.c')], check=True)
-            done = subprocess.run([sys.executable, os.path.join(TOP, 'conformance', 'run.py'), f'qemu-{kind}', program],
+            subprocess.run([*words, '-std=c11', '-o', program, os.path.join(HERE, 'trac.c'),
+                            os.path.join(HERE, 'trac_engine.c')], check=True)
+            done = subprocess.run([sys.executable, os.path.join(TOP, 'conformance', 'run.py'), *emulator, program],
                                   capture_output=True, text=True, timeout=600)
         self.assertEqual((done.returncode, done.stdout.split('cases, ')[-1]), (0, '0 missed\n'), done.stdout[-2000:])
 
+
+class Emulated(Cases):
+    def meets_them_on(self, kind, *flags):
+        self.meets_the_cases([KINDS[kind], '-O1', '-static', *flags], [f'qemu-{kind}'])
+
     def test_aarch64(self):
-        self.meets_the_cases('aarch64')
+        self.meets_them_on('aarch64')
 
     def test_arm(self):
-        self.meets_the_cases('arm')
+        self.meets_them_on('arm')
+
+    def test_powerpc(self):
+        self.meets_them_on('ppc')
 
     def test_s390x(self):
-        self.meets_the_cases('s390x')
+        self.meets_them_on('s390x')
 
     def test_compilers_that_do_not_tell_the_order_of_bytes(self):
-        self.meets_the_cases('s390x', '-U__BYTE_ORDER__')
-        self.meets_the_cases('aarch64', '-U__BYTE_ORDER__')
+        self.meets_them_on('s390x', '-U__BYTE_ORDER__')
+        self.meets_them_on('aarch64', '-U__BYTE_ORDER__')
+
+
+class Optimized(Cases):
+    """More and less than by `-O2`, which all other checks of the program in C take."""
+
+    def test_for_size(self):
+        self.meets_the_cases(['gcc', '-Os'])
+
+    def test_not_at_all(self):
+        self.meets_the_cases(['gcc', '-O0'])
+
+    def test_over_both_files_at_once(self):
+        self.meets_the_cases(['gcc', '-O3', '-flto'])
 
 
 if __name__ == '__main__':
