@@ -75,10 +75,10 @@ programs: prove crates/trac_trace/out/trac_trace
 check: check-tools all build/libtrac.a $(SHARED) page npm
 	$(PYTEST) -m 'not timed' checks --ignore checks/proved --ignore checks/machines
 
-## make check-machines  the engine in C on a Cortex-M3, aarch64, arm, powerpc, s390x (emulators, installed; minutes)
+## make check-machines  the engine in C on six other processors (emulators, which it installs; 6 minutes)
 check-machines: check-tools
 	@checks/tools machines
-	$(PYTEST) checks/machines
+	$(PYTEST) --dist load checks/machines
 
 ## make test       the gate: all checks, proofs, tests and edits (the kit, Debian's packages; 45 minutes)
 test:

@@ -11,6 +11,13 @@ from trac import TOP
 HERE = os.path.join(TOP, 'hosts', 'c')
 KINDS = {'aarch64': 'aarch64-linux-gnu-gcc', 'arm': 'arm-linux-gnueabihf-gcc', 'ppc': 'powerpc-linux-gnu-gcc',
          's390x': 's390x-linux-gnu-gcc'}
+# For RV32 a C library is packaged that knows no system; what it needs of Linux stands in a file beside this one. The
+# emulator lends memory at any place.
+RISCV32 = ['riscv64-unknown-elf-gcc', '--specs=/usr/lib/picolibc/riscv64-unknown-elf/picolibc.specs', '-O1',
+           '-march=rv32imac', '-mabi=ilp32', '-nostartfiles',
+           *(f'-Wl,--defsym=__{name}={place}' for name, place in (
+               ('flash', '0x10000000'), ('flash_size', '0x1000000'), ('ram', '0x20000000'), ('ram_size', '0x1000000'))),
+           os.path.join(os.path.dirname(os.path.abspath(__file__)), 'riscv32.c')]
 
 
 class Cases(unittest.TestCase):
@@ -37,6 +44,9 @@ class Emulated(Cases):
 
     def test_powerpc(self):
         self.meets_them_on('ppc')
+
+    def test_riscv32(self):
+        self.meets_the_cases(RISCV32, ['qemu-riscv32'])
 
     def test_s390x(self):
         self.meets_them_on('s390x')
