@@ -9,10 +9,11 @@
 /* The bytes of a read; the room beside a print, to measure it once; the longest end of a line that is kept in mind. */
 enum { CHUNK = 8192, MORE = 16, LONGEST_END = 4000 };
 
-/* Fates beside those of the engine: ^C stopped the run; a saved session can't be loaded. There is no memory:
- * TRAC_REFUSED. */
+/* Fates beside those of the engine: ^C stopped the run; a saved session can't be loaded; a command had the machine run
+ * something else, so that the run of the string begins anew. There is no memory: TRAC_REFUSED. */
 #define STOPPED 100u
 #define NOT_LOADED 101u
+#define BEGINS_ANEW 102u
 
 static const char HELP[] =
     "Runs files, and then the TRAC T-64 strings that are typed, each with its own steps\n\n"
@@ -33,7 +34,9 @@ static const char COMMANDS[] =
     "Behind #( the Tab key completes names of functions and forms.\n"
     "^C drops what is half typed, or stops what runs; forms stay.\n"
     "^D ends the session, and so does #(hl)'\n"
-    ":save FILE  saves the forms as a script, for trac_terminal FILE another day\n"
+    ":save FILE  saves the forms as a script, for another day\n"
+    ":load FILE  runs a file, or loads what was saved\n"
+    ":check FILE tells what is suspicious in a file, and runs nothing of it here\n"
     ":help       shows this\n"
     "::          begins a string that begins with one colon\n"
     "The language: man 7 trac. This program: man trac_terminal.\n";
@@ -94,6 +97,9 @@ static int end_line(session *of) { return !of->end_length || print(of, (const ui
 
 /* ---- Reading. */
 
+/* Runs a file, or loads what was saved in it, and says what went wrong. */
+static void load_file(session *of, const char *name);
+
 static const uint8_t *unread(const source *from) {
     return from->bytes.bytes ? from->bytes.bytes + from->start : (const uint8_t *)"";
 }
@@ -130,25 +136,54 @@ static void note_place(source *from) {
     from->string_column = column;
 }
 
-/* A line that begins with a colon is a command, unless it begins with two. */
-static void do_command(session *of, char *line) {
+/* Tells what is suspicious in a file, which is run over a block of its own. */
+static void check_one(char *name) {
+    const size_t cells = (size_t)options[CELLS].number;
+    trac_cell *const block = (trac_cell *)calloc(cells, sizeof *block);
+    if (block)
+        (void)check_files(&name, 1, block, cells, options[ALLOWANCE].number);
+    else
+        (void)say_line(DONE, "trac_terminal: no memory to check a file\n");
+    free(block);
+    is_interrupted = 0;
+}
+
+/* The file that a command names, if the line is that command; else a null pointer. */
+static char *file_of(char *line, const char *command) {
+    const size_t length = strlen(command);
+    return !strncmp(line, command, length) && line[length] ? line + length : NULL;
+}
+
+/* A line that begins with a colon is a command, unless it begins with two. Gives READ, or what became of the string
+ * that was to be typed: a file was run. */
+static reading do_command(session *of, char *line) {
+    char *name;
     line[strcspn(line, "\n")] = 0;
-    if (!strcmp(line, ":help"))
+    if ((name = file_of(line, ":load ")) != NULL) {
+        load_file(of, name);
+        return READ_ELSEWHERE;
+    }
+    if ((name = file_of(line, ":save ")) != NULL)
+        (void)save_forms(&of->machine, (size_t)options[CELLS].number, options[ALLOWANCE].number, name);
+    else if ((name = file_of(line, ":check ")) != NULL)
+        check_one(name);
+    else if (!strcmp(line, ":help"))
         (void)write_all(STDERR_FILENO, COMMANDS, sizeof COMMANDS - 1);
-    else if (!strncmp(line, ":save ", 6) && line[6])
-        (void)save_forms(&of->machine, (size_t)options[CELLS].number, options[ALLOWANCE].number, line + 6);
     else
         (void)say_line(DONE, "trac_terminal: no such command; try :help\n");
+    return READ;
 }
 
 /* Types a line where a string may begin, or commands up to such a line. */
 static reading type_first_line(session *of, source *from) {
     text line = {NULL, 0, 0, 0};
-    reading became;
+    reading became = READ;
     int is_command = 0;
     do {
         if (is_command)
-            do_command(of, (char *)line.bytes);
+            became = do_command(of, (char *)line.bytes);
+        if (became != READ)
+            break;
         line.length = 0;
         became = type_line(&line, "> ", 0, &from->has_ended);
         is_command = line.length > 1 && line.bytes[0] == ':' && line.bytes[1] != ':';
@@ -196,7 +231,7 @@ static reading read_more(session *of, source *from) {
 
 /* The fate of a run whose reading became this; TRAC_GOING where it can go on. */
 static uint32_t fate_of(reading became) {
-    static const uint32_t fates[] = {TRAC_GOING, TRAC_INPUT_FAILED, STOPPED, TRAC_REFUSED};
+    static const uint32_t fates[] = {TRAC_GOING, TRAC_INPUT_FAILED, STOPPED, TRAC_REFUSED, BEGINS_ANEW};
     return fates[became];
 }
 
@@ -388,6 +423,8 @@ static void drop_typed(source *from) {
 static uint32_t run_strings(session *of, source *from, int *worst) {
     for (;;) {
         trac_report report = run_string(of, from);
+        if (report.fate == BEGINS_ANEW)
+            continue;
         if (report.fate != TRAC_OUTPUT_FAILED && (!from->name || report.fate == STOPPED) && !end_line(of))
             report.fate = TRAC_OUTPUT_FAILED;
         say_end(of, from, &report);
@@ -438,6 +475,11 @@ static uint32_t run_file(session *of, const char *name, outcome *became) {
     became->is_unread |= fate == TRAC_INPUT_FAILED;
     became->worst = status_of(fate) > became->worst ? status_of(fate) : became->worst;
     return fate;
+}
+
+static void load_file(session *of, const char *name) {
+    outcome became = {DONE, 0, 1};
+    (void)run_file(of, name, &became);
 }
 
 /* Runs the files. Nothing more is run where the output failed, there is no memory, or, unless the files are run by

@@ -74,8 +74,9 @@ uint64_t look_ahead(watch *of, const trac_machine *machine);
 
 /* ---- Lines that are typed: typing.c. */
 
-/* What became of reading: something came or the input ended; the read failed; ^C; there is no memory. */
-typedef enum { READ, READ_FAILED, READ_INTERRUPTED, READ_SHORT } reading;
+/* What became of reading: something came or the input ended; the read failed; ^C; there is no memory; a command had
+ * the machine run something else. */
+typedef enum { READ, READ_FAILED, READ_INTERRUPTED, READ_SHORT, READ_ELSEWHERE } reading;
 
 /* Whether ^C was typed since it was last made 0. */
 extern volatile sig_atomic_t is_interrupted;
