@@ -1,12 +1,18 @@
 #!/usr/bin/env python3
-"""bench.py [--smoke | --growth] [--beside FILE ..] [PROGRAM]: runs the built program on jobs of
-several kinds, and prints a table.
+"""bench.py [--smoke | --growth | --beside FILE ..] [--only TEXT] [PROGRAM]: runs the built program on jobs of several
+kinds, and prints a table.
 
-Without PROGRAM it takes the one that ./trac builds. With --smoke the jobs are small, and the output
-alone is looked at: a wrong one is a failure, no time is. With --growth there is a job for each
-function, of two lengths. FILE is another processor of the language, whose words are cells and steps,
-or its source in C, which gcc builds: its instructions stand in a column of their own. m4 and valgrind
-add their columns where they are installed.
+Without PROGRAM it takes the proved program if that is built, else the program in C. With --smoke the jobs are small,
+and only the output is looked at: a wrong output is a failure, a slow run isn't. With --growth there is a job for each
+function, of two lengths. With --only the jobs are those whose names contain TEXT. m4 and valgrind add their columns if
+they are installed.
+
+With --beside the instructions of the program are compared with those of FILE, another processor of the language, whose
+words are cells and steps, or its source in C, which gcc builds. This needs valgrind. So the comparison of
+docs/PERFORMANCE.md is made, in some minutes, or one job of it:
+
+    bench/bench.py --beside bench/plain.c --beside bench/fast.c
+    bench/bench.py --beside bench/plain.c --beside bench/fast.c --only Hanoi build/trac
 """
 import argparse
 import os
@@ -21,7 +27,8 @@ import time
 from growing import GROWING, GROWS, WORDS
 
 TOP = os.path.dirname(os.path.dirname(os.path.abspath(__file__)))
-BUILT = os.path.join(TOP, 'crates', 'trac_cli', 'out', 'trac_cli')
+PROVED = os.path.join(TOP, 'crates', 'trac_cli', 'out', 'trac_cli')
+IN_C = os.path.join(TOP, 'build', 'trac')
 CELLS = 4000000
 LINE = 'A stitch in time saves nine; the rest is silence. '
 
@@ -112,6 +119,42 @@ def jobs(small):
     yield from store_jobs(small)
 
 
+# Of these jobs, those that are compared with other processors.
+COMPARED = {'4000 forms at random', 'plain text', 'protected text', 'towers of Hanoi', 'long numbers',
+            'a counter among 1000 forms'}
+
+
+def repeated_jobs(small):
+    """Jobs for that comparison alone: recursions, and single calls, as often as is said."""
+    n = 20 if small else 2000
+    sums = '#(ds,S,(#(gr,N,0,(#(cl,S,#(su,N,1),#(ad,A,#(ml,N,987654321)))),A)))#(ss,S,N,A)'
+    yield Job('sums and products of a recursion', f"{sums}#(cl,S,{n},0)'", str(987654321 * n * (n + 1) // 2))
+    count = '#(ds,G,(#(gr,N,0,(#(cl,G,#(su,N,1))))))#(ss,G,N)'
+    yield Job(f'counting down from {5 * n // 2}', f"{count}#(cl,G,{5 * n // 2})'", '')
+    yield Job('a name that is no function', '#(zz)' * 10 * n + "'", '')
+    yield Job('empty strings', "'" * 5 * n, '')
+    letter = '#(ds,L,Dear X of Y)#(ss,L,X,Y)'
+    yield Job('a form of two gaps', letter + '##(cl,L,Ann,Bath)' * n + "'", 'Dear Ann of Bath' * n)
+    yield Job('a form of two gaps, scanned again', letter + '#(cl,L,Ann,Bath)' * n + "'", 'Dear Ann of Bath' * n)
+    names, values = 'ABCDEFGH', [4 * name for name in 'abcdefgh']
+    eight = f"#(ds,E,{''.join(f'{name}. ' for name in names)})#(ss,E,{','.join(names)})"
+    yield Job('a form of eight gaps, scanned again', eight + f"#(cl,E,{','.join(values)})" * n + "'",
+              ''.join(f'{value}. ' for value in values) * n)
+    walk = "#(ds,R,(#(ds,X,#(cc,T,(#(ds,R))))#(cl,R)))#(cl,R)'"
+    yield Job('a shorter walk by cc', f"#(ds,T,{'qwertyuiop' * (3 * n // 20)}){walk}", '')
+    n, number = (5, 5) if small else (17, 1597)
+    fibonacci = '#(ds,F,(#(gr,2,N,N,(#(ad,#(cl,F,#(su,N,1)),#(cl,F,#(su,N,2)))))))#(ss,F,N)'
+    yield Job(f'the number {n} of Fibonacci', f"{fibonacci}#(ps,#(cl,F,{n}))'", str(number))
+    n = 200 if small else 20000
+    yield Job('ad', '#(ad,12,34)' * n + "'", '46' * n)
+    yield Job('eq', '#(eq,ab,ac,x,y)' * n + "'", 'y' * n)
+
+
+def compared_jobs():
+    yield from (job for job in jobs(False) if job.name in COMPARED)
+    yield from repeated_jobs(False)
+
+
 # A small process in between, since the memory of a new process counts from that of the one that
 # made it.
 BETWEEN = ('import os, sys; pid = os.posix_spawn(sys.argv[1], sys.argv[1:], os.environ); '
@@ -165,16 +208,34 @@ def checked(job, words):
     return took, int(report.group(1))
 
 
-def row(job, program, others):
-    words = [program, '--cells', str(CELLS), '--steps', '1000000000']
+def limits(program):
+    return [program, '--cells', str(CELLS), '--steps', '1000000000']
+
+
+def compared(job, program, others):
+    """A job's steps and instructions, and of each other processor its instructions, and the ratio of ours to them."""
+    words = limits(program)
+    _, steps = checked(job, words)
+    ours = instructions(words, job.script)
+    found = [job.name, shown(steps), shown(ours)]
+    for other in others:
+        theirs = [other, *words[2::2]]
+        if run(theirs, job.script)[1] != job.printed:
+            sys.exit(f'bench.py: {job.name}: wrong output of {other}')
+        count = instructions(theirs, job.script)
+        found += [shown(count), '-' if count is None else f'{ours / count:.2f}']
+    return found
+
+
+def row(job, program):
+    words = limits(program)
     took, steps = min(checked(job, words) for _ in range(5))
     count = instructions(words, job.script)
     other, theirs = beside_m4(job)
-    beside = [instructions([path, *words[2::2]], job.script) for path in others]
     return (job.name, shown(steps), f'{took * 1000:.1f} ms',
             shown(steps / took), shown(job.cells and job.cells / took),
             shown(count), shown(count and count / steps), theirs, shown(other),
-            shown((memory(words, job.script) - 8 * CELLS) / 1024, ' KB'), *map(shown, beside))
+            shown((memory(words, job.script) - 8 * CELLS) / 1024, ' KB'))
 
 
 def beside_m4(job):
@@ -213,29 +274,37 @@ def growth(program):
 
 
 def main():
-    reader = argparse.ArgumentParser(usage=__doc__.split(':')[0], add_help=False)
-    reader.add_argument('--smoke', action='store_true')
-    reader.add_argument('--growth', action='store_true')
-    reader.add_argument('--beside', action='append', default=[])
-    reader.add_argument('program', nargs='?')
+    usage, _, text = __doc__.partition(': ')
+    reader = argparse.ArgumentParser(usage=usage, description=text, add_help=False,
+                                     formatter_class=argparse.RawDescriptionHelpFormatter)
+    for option in ('--smoke', '--growth'):
+        reader.add_argument(option, action='store_true', help=argparse.SUPPRESS)
+    reader.add_argument('--help', action='help', help=argparse.SUPPRESS)
+    reader.add_argument('--only', default='', help=argparse.SUPPRESS)
+    reader.add_argument('--beside', action='append', default=[], help=argparse.SUPPRESS)
+    reader.add_argument('program', nargs='?', help=argparse.SUPPRESS)
     given = reader.parse_args()
     if not given.program:
         subprocess.run([os.path.join(TOP, 'trac'), '--help'], stdout=subprocess.DEVNULL, check=True)
-    program = given.program or BUILT
+    program = given.program or (PROVED if os.path.exists(PROVED) else IN_C)
     if given.smoke:
-        done = [checked(job, [program]) for job in jobs(True)]
+        done = [checked(job, [program]) for job in (*jobs(True), *repeated_jobs(True)) if given.only in job.name]
         print(f'bench.py: {len(done)} jobs printed what they should')
         return
     if given.growth:
         print_table(('job', 'length', 'instructions', 'of four times that', 'more', 'bound'),
                     growth(program))
         return
+    if given.beside:
+        with tempfile.TemporaryDirectory() as folder:
+            others = [built(path, folder) for path in given.beside]
+            columns = [word for path in others for word in (os.path.basename(path), 'ratio')]
+            print_table(('job', 'steps', 'instructions', *columns),
+                        (compared(job, program, others) for job in compared_jobs() if given.only in job.name))
+        return
     head = ('job', 'steps', 'best of 5', 'steps/s', 'cells moved/s', 'instructions', 'each step',
             'm4 best of 5', 'm4 instructions', 'beside the block')
-    with tempfile.TemporaryDirectory() as folder:
-        others = [built(path, folder) for path in given.beside]
-        print_table(head + tuple(map(os.path.basename, others)),
-                    (row(job, program, others) for job in jobs(False)))
+    print_table(head, (row(job, program) for job in jobs(False) if given.only in job.name))
 
 
 if __name__ == '__main__':

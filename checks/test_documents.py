@@ -1,4 +1,5 @@
-"""The documents: each link leads to a file and a heading that are there, and the words are spelt right."""
+"""The documents: each link leads to a file and a heading that are there, the words are spelt right, and the index of
+the checks names each file of checks/ once."""
 import glob
 import os
 import re
@@ -7,15 +8,17 @@ import unittest
 
 from trac import TOP
 
+CHECKS = os.path.join(TOP, 'checks')
 # Words that the list of misspellings takes for others: of the kit, functions, words of scripts and of code.
 WORDS = 'crate,bu,hel,nam,te,upto'
 BLOCK = re.compile(r'^```.*?^```', re.MULTILINE | re.DOTALL)
 LINK = re.compile(r'\]\(([^)#:\s]*)(#[^)]*)?\)')
+LISTED = re.compile(r'^\| `([^`]*)` \| \S', re.MULTILINE)
 HEADING = re.compile(r'^#+ (.*)$', re.MULTILINE)
 
 
 def documents():
-    places = '*.md', 'docs/*.md', 'hosts/*/*.md', 'examples/**/*.md', 'editors/*.md', 'conformance/*.md'
+    places = '*.md', 'docs/*.md', 'hosts/*/*.md', 'examples/**/*.md', 'editors/*.md', 'conformance/*.md', 'checks/*.md'
     return [path for where in places
             for path in glob.glob(os.path.join(TOP, where), recursive=True)]
 
@@ -50,3 +53,12 @@ class Documents(unittest.TestCase):
         code += glob.glob(os.path.join(TOP, 'hosts', '*', '*.js')) + [os.path.join(TOP, 'hosts', 'c', 'trac.h')]
         told = subprocess.run(['codespell', '-L', WORDS, *pages, *code], capture_output=True, text=True, check=False)
         self.assertEqual(told.stdout, '')
+
+    def test_the_index_of_the_checks(self):
+        found = subprocess.run(['git', 'ls-files', '-z', '--cached', '--others', '--exclude-standard'], text=True,
+                               cwd=CHECKS, capture_output=True, check=True).stdout.split('\0')
+        there = [name for name in found if name != 'README.md' and os.path.isfile(os.path.join(CHECKS, name))]
+        self.assertGreater(len(there), 80)
+        rows = LISTED.findall(read(os.path.join(CHECKS, 'README.md')))
+        self.assertEqual(len(rows), len(set(rows)))
+        self.assertEqual(set(rows), set(there))

@@ -1,0 +1,35 @@
+"""The two processors in C that docs/PERFORMANCE.md compares with: they compile without a warning, and print on each
+small job of bench.py what the program prints, in as many steps and with the same peak."""
+import os
+import platform
+import subprocess
+import tempfile
+import unittest
+
+from trac import PROGRAM, TOP
+from bench import jobs, repeated_jobs  # after trac, which says where it is
+
+STRICT = ['-std=c11', '-O2', '-Wall', '-Werror']
+CELLS, STEPS = '65536', '1000000'
+
+
+@unittest.skipUnless(platform.machine() == 'x86_64', 'bench/fast.c is for x86-64')
+class Processors(unittest.TestCase):
+    def test_they_do_what_the_program_does(self):
+        small = [*jobs(True), *repeated_jobs(True)]
+        for name in ('plain', 'fast'):
+            for compiler in ('gcc', 'clang'):
+                with self.subTest(name=name, compiler=compiler), tempfile.TemporaryDirectory() as folder:
+                    other, source = os.path.join(folder, name), os.path.join(TOP, 'bench', f'{name}.c')
+                    subprocess.run([compiler, *STRICT, '-o', other, source], check=True)
+                    for job in small:
+                        ours = subprocess.run([PROGRAM, '--cells', CELLS, '--steps', STEPS, '--report'],
+                                              input=job.script, capture_output=True, check=True)
+                        theirs = subprocess.run([other, CELLS, STEPS], input=job.script, capture_output=True,
+                                                env={**os.environ, 'REPORT': '1'}, check=True)
+                        self.assertEqual(theirs.stdout, job.printed, job.name)
+                        self.assertEqual((theirs.stdout, theirs.stderr), (ours.stdout, ours.stderr), job.name)
+
+
+if __name__ == '__main__':
+    unittest.main()
