@@ -4,7 +4,7 @@
  * and what compilers make of it (memcpy, memset) alone.
  *
  * Crates: trac_language trac_space trac_values trac_store trac_forms trac_devices trac_functions trac_laws trac_core trac_events trac_warnings trac_lent trac_views trac_checker trac_c
- * Sources: a476a580acb8583f28fa46c52d7b040269eb8efabcb0ba6b9c223d4a8745c051
+ * Sources: 1619cdd30b5c9f60dc6db7b5c148b8132e247ebc75c8795c9ebf7befc0695f26
  * Kit: rattle-kit-13f logic dac8208d650f15bf
  * Tools: wasm-opt version 108, wabt 1.0.32
  */
@@ -77,8 +77,8 @@ HELPER u8 *at(u64 address) { return (u8 *)(uintptr_t)address; }
 
 #define TABLES ((u64)(uintptr_t)tables)
 
-/* The numbers of the engine stand in memory with the lowest byte first. These take a number from this machine's order of
- * bytes to that one, and back. A compiler that doesn't tell the order leaves it to be seen when the program runs. */
+/* The numbers of the engine stand in memory with the lowest byte first. These take a number from this machine's order
+ * of bytes to that one, and back. A compiler that doesn't tell the order leaves it to be seen when the program runs. */
 #if defined(__BYTE_ORDER__) && defined(__ORDER_LITTLE_ENDIAN__) && __BYTE_ORDER__ == __ORDER_LITTLE_ENDIAN__
 HELPER u16 order16(u16 x) { return x; }
 HELPER u32 order32(u32 x) { return x; }
