@@ -136,10 +136,15 @@ class Steps(Page):
             self.assertTrue(any(words in each for each in said), words)
 
     def test_a_call_with_many_arguments_in_words(self):
-        self.run_script(f"#(dd{',x' * 150})'")
-        said = self.walk("find('rule-says').textContent")
-        end = 'the form “x”, the form “x”, the form “x”, the form “x” and the form “…”.'[-70:]
-        self.assertEqual([each[-70:] for each in said if 'performed: dd with 150 arguments. It removes' in each], [end])
+        for script, words in (
+                (f"#(dd{',x' * 150})'", 'There is no form of these 150 names, so nothing changes.'),
+                (''.join(f'#(ds,x{k},)' for k in range(120)) + f"#(dd{''.join(f',x{k}' for k in range(150))})'",
+                 'It removes the form “x0”, the form “x1”, the form “x2”, the form “x3”, the form “x4”, the form “x5”, '
+                 'the form “x6”, the form “x7” and more; of its other 30 names there is no form.')):
+            self.run_script(script)
+            self.go(self.steps()[1] - 11)
+            self.assertEqual(self.text('rule-says'),
+                             f'The innermost open call is performed: dd with 150 arguments. {words}')
 
     def test_a_call_that_the_allowance_does_not_reach(self):
         self.run_script("#(ps,a)'", '', 65536, 14)

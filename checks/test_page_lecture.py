@@ -441,16 +441,23 @@ class Steps(Lecture):
 
     def test_calls_in_words(self):
         for script, words in (
-                ("#(gr,3,2,x,y)'", '3 is greater than 2, so the value is the fourth argument.'),
-                ("#(gr,2,3,x,y)'", '2 is not greater than 3, so the value is the fifth argument.'),
-                ("#(gr,99999999999999999999,2,x)'", 'so the value is the fourth argument.'),
-                ("#(eq,a,b,x,y)'", '“a” and “b” are not the same, so the value is the fifth argument.'),
-                ("#(eq,a,b,x,x)'", 'The fourth and the fifth argument are the same'),
-                ("#(ss,f,a,b)'", 'each “a” becomes gap 1 and each “b” becomes gap 2'),
+                ("#(gr,3,2,x,y)'", '3 is greater than 2, so the value is the third argument.'),
+                ("#(gr,2,3,x,y)'", '2 is not greater than 3, so the value is the fourth argument.'),
+                ("#(gr,99999999999999999999,2,x)'", 'so the value is the third argument.'),
+                ("#(eq,a,b,x,y)'", '“a” and “b” are not the same, so the value is the fourth argument.'),
+                ("#(eq,a,b,x,x)'", 'The third and the fourth argument are the same'),
+                ("#(eq,a,b,x)'", 'are not the same, so the value is the fourth argument, which is null.'),
+                ("#(gr,12a,b,x,y)'", 'The number of “12a” is not greater than the number of “b”'),
+                ("#(ss,f,a,b)#(ds,f,ab)'", 'There is no form “f”, so the value is null and nothing changes.'),
+                ("##(ds,f,ab)#(ss,f,a,b)'", 'each “a” becomes gap 1 and each “b” becomes gap 2'),
+                ("#(cl,nope,a)'", 'There is no form “nope”, so the value is null.'),
+                ("##(ds,f,a)#(cl,f,a)'", 'It calls the form “f” from its pointer on; it has no gap 1 for “a”.'),
+                ("##(ds,f,abc)#(cn,f,-1,z)'", 'No character is there in the form “f”, so the value is the default'),
+                ("##(ds,f,abc)#(cn,f,2)#(cr,f)'", 'It takes the next 2 characters of the form “f”.'),
                 ("#(nosuch,f)'", 'No function has this name, so the value is null.')):
             with self.subTest(script=script):
                 self.through(script)
-                self.jump('name', script[2:script.index(',')])
+                self.jump('name', re.search(r'(?<!#)#\((\w+)', script)[1])
                 self.assertIn(words, self.text('rule-says'))
 
     def test_a_change_right_behind_a_call_that_changes_nothing(self):

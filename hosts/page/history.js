@@ -150,6 +150,14 @@ class Printings {
  * @property {string[]} words the first arguments of the call, the name of the function in front
  */
 
+/**
+ * What a step comes to.
+ * @typedef {object} Outcome
+ * @property {string} fate of the run behind it
+ * @property {Value | null} value
+ * @property {Session} session the machine behind it, until another outcome is asked for
+ */
+
 /** A run of a script, and the step that is looked at. */
 export class History {
     /**
@@ -198,6 +206,11 @@ export class History {
         this.performed = null;
         /** The step for which that is known. */
         this.noted = 0;
+        /**
+         * The forms that were read last, and at which step.
+         * @type {{step: number, forms: import('../js/trac.mjs').StoredForm[]} | null}
+         */
+        this.stored = null;
         shown.onPrinted = (text) => this.end || this.output.push(text);
         shown.onString = (place) => this.end || this.strings.push(place);
     }
@@ -341,10 +354,18 @@ export class History {
     /** Notes what the next step performs, if it is a call, and the forms that it may change. */
     notePerformed() {
         const call = this.coming();
+        const forms = call && changesForms(call.words[0]) ? this.forms() : null;
         this.noted = this.step + 1;
-        this.performed = call && {
-            ...call, forms: changesForms(call.words[0]) ? this.machine.forms() : null,
-        };
+        this.performed = call && { ...call, forms };
+    }
+
+    /** The forms at the step that is looked at, read anew only where they may be others than those read last. */
+    forms() {
+        const { step, stored } = this;
+        const isNext = stored?.step === step - 1 && this.noted === step && !this.performed?.forms;
+        const isKnown = stored && (stored.step === step || isNext);
+        this.stored = { step, forms: isKnown ? stored.forms : this.machine.forms() };
+        return this.stored.forms;
     }
 
     /**
@@ -370,11 +391,11 @@ export class History {
     }
 
     /**
-     * What the call gives that the next step performs: another machine makes that step. Null where
-     * there is no such machine, and where the step gives nothing.
-     * @returns {Value | null}
+     * What the next step comes to, which performs a call: another machine makes that step. Null where there is no
+     * such machine, and where there is no step any more.
+     * @returns {Outcome | null}
      */
-    comingValue() {
+    comingOutcome() {
         const { peeker, step } = this;
         if (!peeker || step >= this.end.step) return null;
         const isNear = (/** @type {number} */ from) => from <= step + 1 && step - from <= NEAREST;
@@ -383,7 +404,8 @@ export class History {
             peeker.restore(isNear(nearest.state.step) ? nearest : this.shown.save());
         }
         peeker.advance(step + 1 - peeker.state.step);
-        return this.value(this.coming(), peeker);
+        const { session, state: { fate } } = peeker;
+        return { fate, value: this.value(this.coming(), peeker), session };
     }
 
     /** The step that is looked at: so many steps are done. */

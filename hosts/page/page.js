@@ -257,9 +257,11 @@ class Page {
      * Lists what is suspicious in the script of a run.
      * @param {Run} run
      */
-    async lookAround({ texts, input, history }) {
+    async lookAround(run) {
+        const { texts, input, history } = run;
         try {
             await pause();
+            if (this.state.kind !== 'shown' || this.run !== run) return;
             await this.warnings.look(texts.script + texts.input, input, history);
         } catch {
             // a list that finds no memory is left away: the run itself is shown
