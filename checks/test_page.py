@@ -122,9 +122,16 @@ class Steps(Page):
             self.assertEqual(self.strings(), (neutral, active.rstrip('\n')))
 
     def test_output_so_far(self):
-        self.run_script("#(ps,one)#(ps,two)'")
+        self.run_script("#(ps,one)#(ps,é)#(ps,two)'")
+        self.assertEqual(list(dict.fromkeys(self.walk("find('output').textContent"))), ['', 'one', 'oneé', 'oneétwo'])
+        self.find('first').click()
+        self.find('show-all').click()
+        self.assertEqual(self.text('output'), 'oneétwo')
         late = self.walk("find('output').querySelector('.later')?.textContent ?? ''")
-        self.assertEqual(list(dict.fromkeys(late)), ['onetwo', 'two', ''])
+        self.assertEqual(list(dict.fromkeys(late)), ['oneétwo', 'étwo', 'two', ''])
+        self.find('first').click()
+        self.find('show-all').click()
+        self.assertEqual(self.text('output'), '')
 
     def test_calls_and_rules_in_words(self):
         self.run_script("#(ds,a,b)##(cl,a)),)'")
@@ -209,8 +216,8 @@ class Safety(Page):
     def test_text_stays_text(self):
         scripts = self.script('return document.scripts.length')
         self.run_script(f"#(ds,{self.EVIL},{self.EVIL})#(ps,{self.EVIL})'")
-        self.find('first').click()
         self.assertEqual(self.text('output'), self.EVIL)
+        self.find('first').click()
         last = self.steps()[1]
         for step in range(0, last, 17):
             self.go(step)
@@ -315,12 +322,12 @@ class Hands(Page):
         self.script("document.getElementById('settings').open = true")
         self.find('example').send_keys(Keys.TAB)
         met = []
-        for _ in range(34):
+        for _ in range(35):
             at = browser.switch_to.active_element
             met.append(at.get_attribute('id') or at.tag_name)
             at.send_keys(Keys.TAB)
         wanted = ['script', 'summary', 'through', 'run', 'summary', 'cells', 'steps', 'link', 'open', 'save',
-                  'output', 'save-output', 'save-trace', 'summary', 'summary', 'slider', 'first', 'call-back', 'back',
+                  'show-all', 'output', 'save-output', 'save-trace', 'summary', 'summary', 'slider', 'first', 'call-back', 'back',
                   'step', 'call-step', 'last', 'neutral', 'active', 'forms', 'calls', 'jump', 'jump-go', 'play',
                   'speed', 'pace', 'stop-at', 'summary', 'summary']
         self.assertEqual(met[:len(wanted)], wanted)
