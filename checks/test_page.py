@@ -315,6 +315,38 @@ class Hands(Page):
         self.find('script').send_keys(Keys.HOME, Keys.ARROW_LEFT)
         self.assertEqual(self.steps()[0], 1)
 
+    def test_keys_of_debuggers(self):
+        self.put('script', "#(ds,f,(#(ps,x)))#(ps,#(ad,1,2))#(cl,f)'")
+        self.find('script').send_keys(Keys.CONTROL, Keys.SHIFT, Keys.ENTER)
+        self.wait(lambda: self.script('return document.activeElement.id') == 'step')
+        self.assertEqual(self.steps()[0], 0)
+        at = browser.switch_to.active_element
+        at.send_keys('sss')
+        self.assertEqual(self.steps()[0], 3)
+        self.go(9)
+        for gave, rule in (('ds gave the null text.', 'active call'), ('ps gave the null text.', 'active call'),
+                           ('cl gave “#(ps,x)”: active, to be scanned again.', 'active call'),
+                           ('ps gave the null text.', 'end of call')):
+            at.send_keys('n')
+            self.wait(self.is_at_rest)
+            self.assertEqual((self.text('gave'), self.rule()), (gave, rule))
+        self.go(self.steps()[1] - 30)
+        at.send_keys('f')
+        self.wait(self.is_at_rest)
+        self.assertEqual(self.rule(), 'end of call')
+        self.find('script').send_keys('snf')
+        self.assertIn('snf', self.find('script').get_property('value'))
+
+    def test_over_a_call_that_is_never_performed(self):
+        self.run_script("#(ps,(a'#(ps,b)'")
+        self.go(9)
+        self.find('over').click()
+        self.wait(self.is_at_rest)
+        self.assertEqual((self.steps()[0], self.text('jump-told')), (9, 'This call is never performed.'))
+        self.go(12)
+        self.find('over').click()
+        self.assertEqual(self.steps()[0], 13)
+
     def test_order_of_tab(self):
         self.run_script("#(ps,a)'")
         self.wait_for_calls()
@@ -322,13 +354,13 @@ class Hands(Page):
         self.script("document.getElementById('settings').open = true")
         self.find('example').send_keys(Keys.TAB)
         met = []
-        for _ in range(35):
+        for _ in range(36):
             at = browser.switch_to.active_element
             met.append(at.get_attribute('id') or at.tag_name)
             at.send_keys(Keys.TAB)
-        wanted = ['script', 'summary', 'through', 'run', 'summary', 'cells', 'steps', 'link', 'open', 'save',
+        wanted = ['script', 'through', 'run', 'summary', 'summary', 'cells', 'steps', 'link', 'open', 'save',
                   'show-all', 'output', 'save-output', 'save-trace', 'summary', 'summary', 'slider', 'first', 'call-back', 'back',
-                  'step', 'call-step', 'last', 'neutral', 'active', 'forms', 'calls', 'jump', 'jump-go', 'play',
+                  'step', 'over', 'call-step', 'last', 'neutral', 'active', 'forms', 'calls', 'jump', 'jump-go', 'play',
                   'speed', 'pace', 'stop-at', 'summary', 'summary']
         self.assertEqual(met[:len(wanted)], wanted)
 

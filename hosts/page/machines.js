@@ -43,6 +43,8 @@ export class Walker {
         this.input = input;
         /** @type {Progress} */
         this.state = { step: 0, consumed: 0, printed: 0, peak: 0, fate: 'going' };
+        /** How often it came upon an empty active string on its way to a call. */
+        this.emptied = 0;
         /**
          * Called with each text that is printed.
          * @type {(text: Uint8Array) => void}
@@ -84,6 +86,7 @@ export class Walker {
         if (steps) this.advance(steps);
         if (steps === most || this.isOver) return false;
         if (this.session.rule() === 'end of call') return true;
+        this.emptied += 1;
         this.advance(1);
         return false;
     }

@@ -205,6 +205,13 @@ class Page {
         }
     }
 
+    /** Steps through the script of the boxes, with the focus on Step unless it was moved meanwhile. */
+    async startThrough() {
+        const at = document.activeElement;
+        await this.start(0);
+        if (this.run && document.activeElement === at) find('step').focus({ preventScroll: true });
+    }
+
     /** Leaves the run that is shown. */
     leave() {
         this.stepper.close();
@@ -374,7 +381,8 @@ class Page {
     onKey(event) {
         if (event.key === 'Enter' && (event.ctrlKey || event.metaKey)) {
             event.preventDefault();
-            this.start(event.shiftKey ? 0 : null);
+            if (event.shiftKey) this.startThrough();
+            else this.start(null);
             return;
         }
         if (event.key === 'Escape') this.stepper.stopSearch();
@@ -386,6 +394,9 @@ class Page {
             ArrowRight: event.shiftKey ? 'call-step' : 'step',
             Home: 'first',
             End: 'last',
+            s: 'step',
+            n: 'over',
+            f: 'finish',
         }[event.key];
         if (move) {
             event.preventDefault();

@@ -8,7 +8,7 @@ import { find } from './dom.js';
 import { MOST_LISTED } from './history.js';
 import { pause } from './machines.js';
 import {
-    callBefore, endOfCall, nextCall, nextChange, nextNamed, nextPrinting,
+    callBefore, endOfCall, endOfOpened, nextCall, nextChange, nextNamed, nextPrinting, opensCall,
 } from './search.js';
 
 /** @typedef {import('./history.js').History} History */
@@ -61,6 +61,8 @@ export class Stepper {
             back: () => this.go(this.at - 1),
             step: () => this.go(this.at + 1),
             last: () => this.go(this.history.end.step),
+            over: () => this.goOver(),
+            finish: () => this.search(JUMPS.end.find, JUMPS.end.none),
             'call-back': () => this.goCallBack(),
             'call-step': () => this.goNextCall(),
         };
@@ -68,7 +70,7 @@ export class Stepper {
     }
 
     listen() {
-        for (const id of Object.keys(this.moves)) find(id).addEventListener('click', () => this.press(id));
+        for (const id of Object.keys(this.moves)) find(id)?.addEventListener('click', () => this.press(id));
         find('slider').addEventListener('input', () => this.press('slider'));
         find('calls').addEventListener('input', () => this.press('calls'));
         for (const id of ['jump', 'stop-at']) find(id).addEventListener('change', () => this.showFields());
@@ -132,7 +134,7 @@ export class Stepper {
      * @param {string} id
      */
     press(id) {
-        if (!this.history || isOff(id)) return;
+        if (!this.history || (find(id) && isOff(id))) return;
         this.halt();
         if (id === 'slider') this.go(Number(find('slider').value));
         else if (id === 'calls') this.go(this.history.calls.at(Number(find('calls').value)));
@@ -206,7 +208,7 @@ export class Stepper {
         slider.value = String(at);
         slider.setAttribute('aria-valuetext', `step ${counted(at)} of ${counted(end.step)}`);
         for (const id of ['first', 'back']) turnOff(id, at === 0);
-        for (const id of ['step', 'last']) turnOff(id, at === end.step);
+        for (const id of ['step', 'over', 'last']) turnOff(id, at === end.step);
         this.showCall();
         if (this.timer && (at === end.step || this.isStop())) this.halt();
         this.onStep();
@@ -241,6 +243,12 @@ export class Stepper {
         const count = calls.upTo(this.at);
         if (count < calls.length) this.go(calls.at(count) + beyond);
         else this.search((history, signal) => nextCall(history, () => true, signal), 'No call comes any more.', beyond);
+    }
+
+    /** Goes over the call that the next step opens, to its value, or makes a step that opens none. */
+    goOver() {
+        if (opensCall(this.history)) this.search(endOfOpened, 'This call is never performed.', 1);
+        else this.go(this.at + 1);
     }
 
     /** Shows the fields that what is chosen needs. */
