@@ -581,6 +581,36 @@ class Files(Saving):
         browser.find_element(By.TAG_NAME, 'body').send_keys(Keys.ARROW_RIGHT)
         self.assertEqual(self.steps()[0], 13)
 
+    def test_a_link_to_a_part_of_the_lesson(self):
+        self.open(f'{PLACE}?lesson=4')
+        self.assertEqual(self.value('example'), '4. Active and neutral')
+        self.type('typed')
+        text = self.value('script')
+        self.open(f'{PLACE}?lesson=10', keeps=True)
+        self.assertEqual(self.value('example'), '10. What memory is')
+        self.find('bring-back').click()
+        self.assertEqual(self.value('script'), text)
+        self.open(f'{PLACE}?lesson=10', keeps=True)
+        self.assertEqual(self.value('script'), text)
+        self.open(f'{PLACE}?lesson=11')
+        self.assertEqual(self.value('example'), '1. A call prints')
+        self.open(f'{PLACE}?lesson=4#script=YQ')
+        self.assertEqual(self.value('script'), 'a')
+
+    def test_a_link_alone_runs_no_trillion_steps(self):
+        packed = base64.urlsafe_b64encode(ENDLESS.encode()).decode().rstrip('=')
+        for end in ('', '?embed'):
+            self.open(f'{PLACE}{end}#script={packed}&cells=1000&steps=1000000000000&step=12')
+            self.wait(lambda: self.is_shown('machine') and self.is_at_rest())
+            self.assertEqual(self.steps(), (12, 10000000))
+            self.assertIn('a link alone runs no further', self.text('fate').lower())
+            self.press('last')
+            self.assertTrue(self.text('rule-says').endswith('a link alone runs no further.'))
+        self.script("document.getElementById('run').click()")
+        self.wait(lambda: self.text('fate').startswith('Running') and '1,' in self.text('fate'))
+        self.script("document.getElementById('stop').click()")
+        self.wait(lambda: self.text('fate').startswith('Stopped by you.'))
+
     def test_a_long_link(self):
         self.put('script', "#(ps,({}))'".format('long ' * 4000))
         self.script("document.getElementById('settings').open = true")

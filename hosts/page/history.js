@@ -191,6 +191,8 @@ export class History {
         this.strings = new Strings();
         this.printings = new Printings();
         this.kept = new Kept(shown.save(), limits.cells);
+        /** After how many steps a run is stopped that nobody asked for. */
+        this.most = Infinity;
         /** How many steps were made before the page did its other work for the first time. */
         this.early = 0;
         /** @type {ReturnType<Walker['save']>[]} */
@@ -215,6 +217,11 @@ export class History {
         shown.onString = (place) => this.end || this.strings.push(place);
     }
 
+    /** Whether the run was stopped because nobody asked for more of it. */
+    get isCut() {
+        return this.end.fate === 'going' && this.end.step >= this.most;
+    }
+
     /**
      * Runs to the end, or until it is stopped.
      * @param {AbortSignal} signal
@@ -222,9 +229,10 @@ export class History {
      */
     async run(signal, onStep) {
         const { shown } = this;
-        while (!signal.aborted && !shown.isOver) {
+        const isDone = () => shown.isOver || shown.state.step >= this.most;
+        while (!signal.aborted && !isDone()) {
             const until = performance.now() + SLICE;
-            while (performance.now() < until && !shown.isOver) this.runSome(until);
+            while (performance.now() < until && !isDone()) this.runSome(until);
             this.early ||= shown.state.step;
             onStep(shown.state.step);
             await pause();
@@ -239,7 +247,7 @@ export class History {
     runSome(until) {
         const { shown, kept } = this;
         const { due } = kept;
-        this.pace.advance(shown, due, until);
+        this.pace.advance(shown, Math.min(due, this.most), until);
         this.printings.note(shown.state.step, shown.state.printed);
         if (shown.state.step === due && !shown.isOver) kept.add(shown.save());
     }

@@ -65,6 +65,17 @@ export class Lessons {
         return this.lesson[0].name;
     }
 
+    /**
+     * Opens the part of the lesson that the address names, if it names one.
+     * @returns {boolean} whether it does
+     */
+    fromAddress() {
+        const part = new URLSearchParams(window.location.search).get('lesson');
+        const found = this.lesson.find(({ name }) => name.startsWith(`${part}. `));
+        if (found) this.choose(found.name);
+        return Boolean(found);
+    }
+
     addChoices() {
         /** @type {[string, Example[]][]} */
         const groups = [['A lesson', this.lesson], ['Larger scripts', this.examples]];

@@ -18,6 +18,8 @@ import { View, isFault } from './view.js';
 import { Warnings } from './warnings.js';
 
 const MOST_STEPS = 1000000000000;
+/** How many steps a script makes that comes by a link, before anyone asks for its run. */
+const MOST_UNASKED = 10000000;
 const LOOK = 'trac-t64-look';
 /** @type {Record<string, (limits: {cells: number, steps: number}) => string>} */
 const FATES = {
@@ -185,8 +187,9 @@ class Page {
     /**
      * Runs the script of the boxes.
      * @param {number | null} step the one to show then; the last, where there is none
+     * @param {number} [most] after how many steps it is stopped
      */
-    async start(step) {
+    async start(step, most = Infinity) {
         if (this.state.kind === 'running' || find('run').disabled) return;
         const limits = limitsIn();
         if (!limits) return;
@@ -196,7 +199,7 @@ class Page {
         this.become({ kind: 'running', stopping });
         find('fate').textContent = 'Running …';
         try {
-            await this.make(limits, stopping.signal, step);
+            await this.make(limits, stopping.signal, step, most);
         } catch (error) {
             this.become({ kind: 'idle' });
             this.view.output.forget();
@@ -227,12 +230,14 @@ class Page {
      * @param {{cells: number, steps: number}} limits
      * @param {AbortSignal} signal
      * @param {number | null} step
+     * @param {number} most
      */
-    async make(limits, signal, step) {
+    async make(limits, signal, step, most) {
         const { texts } = this.boxes;
         const input = bytesOfText(texts.script + texts.input);
         await this.unpacked;
         const history = await History.of(input, limits);
+        history.most = most;
         await history.run(signal, (done) => {
             find('fate').textContent = `Running: ${several(done, 'step')} …`;
         });
@@ -290,7 +295,7 @@ class Page {
         const { fate, step, peak, consumed } = history.end;
         find('fate').className = isFault(fate) ? 'fault' : '';
         find('fate').replaceChildren(
-            FATES[fate](history.limits),
+            history.isCut ? 'Stopped: a link alone runs no further. Run makes all steps.' : FATES[fate](history.limits),
             element('small', '', `${several(step, 'step')}, peak ${several(peak, 'cell')}, ${
                 counted(consumed)} of ${several(input.length, 'byte')} read`));
         const last = isFault(fate) ? placeWords(run) : '';
@@ -346,7 +351,7 @@ class Page {
             this.boxes.fill(link.texts);
             for (const [id, value] of Object.entries(link.limits)) find(id).value = value;
             tell('The script is from the link. Run runs it.');
-            if (link.step !== null) this.start(link.step);
+            if (link.step !== null) this.start(link.step, MOST_UNASKED);
         } catch {
             tell('The script of this link can’t be read.');
         }
@@ -450,8 +455,8 @@ class Page {
         const isEmbedded = new URLSearchParams(window.location.search).has('embed');
         document.documentElement.classList.toggle('embed', isEmbedded);
         if (this.boxes.load()) this.lessons.recognise(this.boxes.texts);
-        else if (!this.fromLink()) this.lessons.choose(this.lessons.first);
-        if (isEmbedded) this.start(readLink()?.step ?? 0);
+        else if (!this.fromLink() && !this.lessons.fromAddress()) this.lessons.choose(this.lessons.first);
+        if (isEmbedded) this.start(readLink()?.step ?? 0, MOST_UNASKED);
     }
 }
 

@@ -72,8 +72,9 @@ function valueWords(value) {
  * The words in front of the rule where the run is over.
  * @param {History} history
  */
-function overWords({ step, end }) {
+function overWords({ step, end, isCut }) {
     if (step < end.step) return '';
+    if (isCut) return 'The run was stopped here: a link alone runs no further.';
     return {
         halted: 'The run is over: the script called hl.',
         'input ended': 'The run is over: there is no more input.',
