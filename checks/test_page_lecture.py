@@ -625,7 +625,7 @@ class Study(Lecture):
         self.assertIn('The comma is part of it.', self.text('task-words'))
         self.put('script', "#(ps,Hello)'")
         self.run_it()
-        self.assertEqual(self.text('verdict'), 'Not yet: line 1 of the output is another one.')
+        self.assertEqual(self.text('verdict'), 'Not yet: yours lacks “, world!” at the end of line 1, column 6.')
         names = self.script("return [...document.getElementById('exercise').options].slice(1)"
                             '.map(({ text }) => text)')
         self.assertEqual(len(names), 20)
@@ -640,6 +640,37 @@ class Study(Lecture):
                 self.put('script', solution[:len(solution) - len(given)])
                 self.run_it()
                 self.assertEqual(self.text('verdict'), 'Done: this prints what is wanted.')
+
+    def test_differences(self):
+        for name, printed, words, yours, wanted in (
+                ('1. A greeting', 'Hello, world! ', 'has a blank more at the end of line 1, column 14', ' ', ''),
+                ('1. A greeting', 'Hello,  world!', 'has a blank more in line 1, column 8', ' ', ''),
+                ('1. A greeting', 'Hallo, world!', 'has “a” in place of “e” in line 1, column 2', 'a', 'e'),
+                ('1. A greeting', '\n\nHello,\tworld!', 'has “\\t” in place of a blank in line 3, column 7', '\\t', ' '),
+                ('1. A greeting', 'Hello, world!\n\nx', 'has more lines than are wanted, from line 2 on', '', ''),
+                ('1. A greeting', '', 'prints nothing', '', 'Hello, world!'),
+                ('2. Parentheses and lines', 'f(x), g(y)', 'ends behind line 1, and another line is wanted', '', 'h(z)'),
+                ('2. Parentheses and lines', 'f(x), g(y) h(z)', 'has “ h(z)” more at the end of line 1, column 11',
+                 ' h(z)', '')):
+            with self.subTest(printed=printed):
+                self.choose(name, 'exercise')
+                self.put('script', f"#(ps,({printed}))'")
+                self.run_it()
+                self.assertEqual(self.text('verdict'), f'Not yet: yours {words}.')
+                self.assertTrue(self.is_shown('difference'))
+                for part, text in (('yours', yours), ('wanted', wanted)):
+                    self.assertEqual(self.script(
+                        "return document.querySelector(`#${arguments[0]} mark`)?.textContent ?? ''", part), text)
+                    # each blank is drawn
+                    self.assertEqual(*self.script(
+                        'const box = document.getElementById(arguments[0]);'
+                        "return [box.querySelectorAll('.blank').length,"
+                        "box.querySelector('.nothing') ? 0 : box.textContent.split(' ').length - 1]", part))
+        self.assertTrue(self.text('wanted').endswith('↵'))
+        self.put('script', "#(ps,(f(x), g(y)\nh(z)))'")
+        self.run_it()
+        self.assertEqual(self.text('verdict'), 'Done: this prints what is wanted.')
+        self.assertFalse(self.is_shown('difference'))
 
     def test_functions(self):
         rows = browser.find_elements(By.CSS_SELECTOR, '#functions tr')

@@ -47,7 +47,7 @@ export function button(words, act) {
  * A blank that is drawn.
  * @returns {Node | string}
  */
-function blank() {
+export function blank() {
     const made = element('span', 'blank', ' ');
     made.setAttribute('role', 'img');
     made.setAttribute('aria-label', 'blank');

@@ -221,7 +221,7 @@ class Page {
         this.tree.close();
         this.warnings.close();
         this.boxes.mark(null);
-        find('verdict').textContent = '';
+        this.lessons.forgetVerdict();
         find('place').hidden = true;
         find('fate').className = '';
     }
