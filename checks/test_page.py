@@ -121,6 +121,35 @@ class Steps(Page):
             self.go(number)
             self.assertEqual(self.strings(), (neutral, active.rstrip('\n')))
 
+    def test_the_reading_of_a_string_is_one_step(self):
+        self.run_script("#(ps,one)'\n#(ps,two)'")
+        rules = self.walk("[find('rule-name').textContent, find('rule-says').textContent, find('count').textContent]")
+        folded = [(number, words) for number, (_, words, _) in enumerate(rules) if 'the string is read' in words]
+        self.assertEqual([number for number, _ in folded], [0, 10, 21])
+        self.assertTrue(folded[2][1].endswith('there is no more input.'))
+        self.assertEqual([rule for rule, _, _ in rules].count('idling.'), 3)
+        for _ in rules[1:]:
+            self.find('back').click()
+        self.assertEqual(self.steps()[0], 0)
+        self.find('fold').click()
+        self.assertEqual(len(self.walk('0')), self.steps()[1] + 1)
+        self.assertEqual(len(rules), self.steps()[1] + 1 - 3 * 8)
+        self.find('back').click()
+        self.assertEqual(self.steps()[0], self.steps()[1] - 1)
+        self.find('through').click()
+        self.wait(self.is_at_rest)
+        self.assertEqual(self.steps()[0], 0)
+
+    def test_a_step_through_begins_at_the_script(self):
+        self.put('script', "#(ps,one)'")
+        self.find('through').click()
+        self.wait(self.is_at_rest)
+        self.assertEqual(self.strings(), ('<#>ps<,>', '#(ps,one))'))
+        self.find('back').click()
+        self.assertEqual(self.steps()[0], 0)
+        self.find('step').click()
+        self.assertEqual(self.steps()[0], 9)
+
     def test_output_so_far(self):
         self.run_script("#(ps,one)#(ps,é)#(ps,two)'")
         self.assertEqual(list(dict.fromkeys(self.walk("find('output').textContent"))), ['', 'one', 'oneé', 'oneétwo'])
@@ -303,6 +332,7 @@ class Hands(Page):
         self.wait(lambda: self.text('output') == 'a')
         self.wait_for_calls()
         last = self.steps()[1]
+        self.find('fold').click()
         at = self.find('output')
         for keys, step in ((Keys.HOME, 0), (Keys.ARROW_RIGHT, 1), (Keys.ARROW_RIGHT, 2),
                            (Keys.ARROW_LEFT, 1), (Keys.SHIFT + Keys.ARROW_RIGHT, 8),
@@ -319,10 +349,10 @@ class Hands(Page):
         self.put('script', "#(ds,f,(#(ps,x)))#(ps,#(ad,1,2))#(cl,f)'")
         self.find('script').send_keys(Keys.CONTROL, Keys.SHIFT, Keys.ENTER)
         self.wait(lambda: self.script('return document.activeElement.id') == 'step')
-        self.assertEqual(self.steps()[0], 0)
+        self.assertEqual(self.steps()[0], 9)
         at = browser.switch_to.active_element
         at.send_keys('sss')
-        self.assertEqual(self.steps()[0], 3)
+        self.assertEqual(self.steps()[0], 12)
         self.go(9)
         for gave, rule in (('ds gave the null text.', 'active call'), ('ps gave the null text.', 'active call'),
                            ('cl gave “#(ps,x)”: active, to be scanned again.', 'active call'),
@@ -354,14 +384,14 @@ class Hands(Page):
         self.script("document.getElementById('settings').open = true")
         self.find('example').send_keys(Keys.TAB)
         met = []
-        for _ in range(36):
+        for _ in range(37):
             at = browser.switch_to.active_element
             met.append(at.get_attribute('id') or at.tag_name)
             at.send_keys(Keys.TAB)
         wanted = ['script', 'through', 'run', 'summary', 'summary', 'cells', 'steps', 'link', 'open', 'save',
-                  'show-all', 'output', 'save-output', 'save-trace', 'summary', 'summary', 'slider', 'first', 'call-back', 'back',
-                  'step', 'over', 'call-step', 'last', 'neutral', 'active', 'forms', 'calls', 'jump', 'jump-go', 'play',
-                  'speed', 'pace', 'stop-at', 'summary', 'summary']
+                  'show-all', 'output', 'save-output', 'save-trace', 'summary', 'summary', 'slider', 'first', 'call-back',
+                  'back', 'step', 'over', 'call-step', 'last', 'neutral', 'active', 'forms', 'calls', 'jump', 'jump-go',
+                  'fold', 'play', 'speed', 'pace', 'stop-at', 'summary', 'summary']
         self.assertEqual(met[:len(wanted)], wanted)
 
     def test_names(self):

@@ -397,7 +397,7 @@ class Steps(Lecture):
     def test_step_through(self):
         self.find('through').click()
         self.wait(self.is_at_rest)
-        self.assertEqual(self.steps()[0], 0)
+        self.assertEqual(self.steps()[0], 9)
         printed = next(step for step, text in enumerate(self.walk("find('output').textContent")) if text)
         read = next(step for step, text in enumerate(self.walk("find('script-marks').querySelector('mark') ? 1 : 0"))
                     if text)
@@ -646,10 +646,12 @@ class Study(Lecture):
                 ('1. A greeting', 'Hello, world! ', 'has a blank more at the end of line 1, column 14', ' ', ''),
                 ('1. A greeting', 'Hello,  world!', 'has a blank more in line 1, column 8', ' ', ''),
                 ('1. A greeting', 'Hallo, world!', 'has “a” in place of “e” in line 1, column 2', 'a', 'e'),
-                ('1. A greeting', '\n\nHello,\tworld!', 'has “\\t” in place of a blank in line 3, column 7', '\\t', ' '),
+                ('1. A greeting', '\n\nHello,\tworld!', 'has “\\t” in place of a blank in line 3, column 7',
+                 '\\t', ' '),
                 ('1. A greeting', 'Hello, world!\n\nx', 'has more lines than are wanted, from line 2 on', '', ''),
                 ('1. A greeting', '', 'prints nothing', '', 'Hello, world!'),
-                ('2. Parentheses and lines', 'f(x), g(y)', 'ends behind line 1, and another line is wanted', '', 'h(z)'),
+                ('2. Parentheses and lines', 'f(x), g(y)', 'ends behind line 1, and another line is wanted',
+                 '', 'h(z)'),
                 ('2. Parentheses and lines', 'f(x), g(y) h(z)', 'has “ h(z)” more at the end of line 1, column 11',
                  ' h(z)', '')):
             with self.subTest(printed=printed):

@@ -64,6 +64,7 @@ WALK = """
         }
         find('through').click();
         await rest();
+        find('first').click();
         while (find('calls').dataset.listed !== 'all') await new Promise((resolve) => setTimeout(resolve));
         while (found.length < most && find('step').ariaDisabled !== 'true') {
             if (find('rule-name').textContent !== 'end of call.') {

@@ -9,7 +9,7 @@ import { Session } from '../js/trac.mjs';
 import { ACTIVE_CALL, FRONT_OF_LINE, callAhead } from './codes.js';
 import { changesForms } from './functions.js';
 import {
-    Kept, Pace, SLICE, Walker, pause,
+    Kept, Pace, SLICE, STEPS_OF_READING, Walker, pause,
 } from './machines.js';
 
 /** Of how many steps at most the calls are listed. Later ones are looked for when they are wanted. */
@@ -350,6 +350,24 @@ export class History {
         if (saved.bytes > NEAR_BYTES) return;
         this.near.push(saved);
         if (this.near.length > MOST_NEAR) this.near.shift();
+    }
+
+    /**
+     * The step behind which the idling procedure has read, or found no more input, where it begins at a step; or null.
+     * @param {number} step
+     */
+    readFrom(step) {
+        const read = this.strings.after(step) ?? (this.shown.endsIdling ? this.end.step : null);
+        return read === step + STEPS_OF_READING ? read : null;
+    }
+
+    /**
+     * The step at which the idling procedure began that has read, or found no more input, at a step; or null.
+     * @param {number} step
+     */
+    readUpTo(step) {
+        const isEnd = step === this.end.step && this.shown.endsIdling;
+        return isEnd || this.strings.at(step)?.step === step ? step - STEPS_OF_READING : null;
     }
 
     /** The call that the next step performs, or null. */

@@ -186,7 +186,7 @@ class Page {
 
     /**
      * Runs the script of the boxes.
-     * @param {number | null} step the one to show then; the last, where there is none
+     * @param {number | null} step the one to show then, or the last one in front of it; null for the script's begin
      * @param {number} [most] after how many steps it is stopped
      */
     async start(step, most = Infinity) {
@@ -211,7 +211,7 @@ class Page {
     /** Steps through the script of the boxes, with the focus on Step unless it was moved meanwhile. */
     async startThrough() {
         const at = document.activeElement;
-        await this.start(0);
+        await this.start(null);
         if (this.run && document.activeElement === at) find('step').focus({ preventScroll: true });
     }
 
@@ -258,8 +258,8 @@ class Page {
         this.view.open(run.history, run.output);
         this.tree.open(run.history, run.input);
         this.marked = '';
-        this.stepper.open(run.history, step ?? run.history.end.step);
-        if (step !== null) this.bringMachine();
+        this.stepper.open(run.history, step);
+        if (step !== Infinity) this.bringMachine();
         this.showFate(run);
         this.lessons.check(plainText(run.output));
         if (isSame) this.lookAround(run);
@@ -387,7 +387,7 @@ class Page {
         if (event.key === 'Enter' && (event.ctrlKey || event.metaKey)) {
             event.preventDefault();
             if (event.shiftKey) this.startThrough();
-            else this.start(null);
+            else this.start(Infinity);
             return;
         }
         if (event.key === 'Escape') this.stepper.stopSearch();
@@ -413,8 +413,8 @@ class Page {
     listen() {
         /** @type {Record<string, () => void>} */
         const acts = {
-            run: () => this.start(null),
-            through: () => this.start(0),
+            run: () => this.start(Infinity),
+            through: () => this.start(null),
             stop: () => this.state.kind === 'running' && this.state.stopping.abort(),
             link: () => this.link(),
             place: () => this.selectPlace(),
@@ -456,7 +456,7 @@ class Page {
         document.documentElement.classList.toggle('embed', isEmbedded);
         if (this.boxes.load()) this.lessons.recognise(this.boxes.texts);
         else if (!this.fromLink() && !this.lessons.fromAddress()) this.lessons.choose(this.lessons.first);
-        if (isEmbedded) this.start(readLink()?.step ?? 0, MOST_UNASKED);
+        if (isEmbedded) this.start(readLink()?.step ?? null, MOST_UNASKED);
     }
 }
 

@@ -10,6 +10,7 @@ import { pause } from './machines.js';
 import {
     callBefore, endOfCall, endOfOpened, nextCall, nextChange, nextNamed, nextPrinting, opensCall,
 } from './search.js';
+import { stepRead } from './view.js';
 
 /** @typedef {import('./history.js').History} History */
 /** @typedef {(history: History, signal: AbortSignal) => number | null | Promise<number | null>} Search */
@@ -58,8 +59,8 @@ export class Stepper {
         /** @type {Record<string, () => void>} */
         this.moves = {
             first: () => this.go(0),
-            back: () => this.go(this.at - 1),
-            step: () => this.go(this.at + 1),
+            back: () => this.goBack(),
+            step: () => this.goOn(),
             last: () => this.go(this.history.end.step),
             over: () => this.goOver(),
             finish: () => this.search(JUMPS.end.find, JUMPS.end.none),
@@ -80,6 +81,7 @@ export class Stepper {
                 if (event.key === 'Enter' && !event.ctrlKey && !event.metaKey) this.jump();
             });
         }
+        find('fold').addEventListener('change', () => this.history && this.show());
         find('play').addEventListener('click', () => (this.timer ? this.halt() : this.play()));
         this.showFields();
     }
@@ -87,14 +89,14 @@ export class Stepper {
     /**
      * Shows a run from a step on.
      * @param {History} history
-     * @param {number} step
+     * @param {number | null} step null for the first character of the script
      */
     open(history, step) {
         this.close();
         this.history = history;
         find('slider').max = String(history.end.step);
         this.list(this.leaving.signal);
-        this.go(step);
+        this.go(step ?? ((find('fold').checked && history.readFrom(0)) || 0));
     }
 
     /** Leaves the run. */
@@ -150,11 +152,23 @@ export class Stepper {
         this.searching.abort();
         this.at = Math.max(0, Math.min(step, history.end.step));
         if (history.approach(this.at)) this.show();
-        else this.goOn(this.at);
+        else this.goFar(this.at);
+    }
+
+    /** Goes a step on, or where the steps of the idling procedure are one, behind the string that it reads. */
+    goOn() {
+        const isThere = this.history.step === this.at;
+        this.go((isThere ? stepRead(this.history) : null) ?? this.at + 1);
+    }
+
+    /** Goes a step back, or to the begin of a reading that is one step. */
+    goBack() {
+        const begin = find('fold').checked ? this.history.readUpTo(this.at) : null;
+        this.go(begin ?? this.at - 1);
     }
 
     /** @param {number} step */
-    async goOn(step) {
+    async goFar(step) {
         const { signal } = this.begin(`Going to step ${counted(step)} …`);
         const { history } = this;
         let isThere = false;
@@ -248,7 +262,7 @@ export class Stepper {
     /** Goes over the call that the next step opens, to its value, or makes a step that opens none. */
     goOver() {
         if (opensCall(this.history)) this.search(endOfOpened, 'This call is never performed.', 1);
-        else this.go(this.at + 1);
+        else this.goOn();
     }
 
     /** Shows the fields that what is chosen needs. */
@@ -294,7 +308,7 @@ export class Stepper {
     tick() {
         if (find('machine').getAttribute('aria-busy') === 'true') return;
         if (find('pace').value === 'calls') this.goNextCall(1);
-        else this.go(this.at + 1);
+        else this.goOn();
     }
 
     /** Whether the last step is one to stop at. */

@@ -27,12 +27,26 @@ export function isFault(fate) {
 }
 
 /**
+ * The step behind the string that the next step reads, where the steps of the idling procedure are folded into one.
+ * @param {History} history
+ */
+export function stepRead(history) {
+    const isFolded = find('fold').checked && history.machine.rule() === 'idling';
+    return isFolded ? history.readFrom(history.step) : null;
+}
+
+/**
  * What the next step does, in words.
  * @param {History} history
  * @param {string} rule
  */
 function ruleWords(history, rule) {
-    const { machine } = history;
+    const { machine, end } = history;
+    const read = stepRead(history);
+    if (read !== null) {
+        return `The active string is empty, so the string is read: the idling procedure #(ps,#(rs)) is loaded, and ${
+            read === end.step && end.fate === 'input ended' ? 'there is no more input' : 'its rs reads the input'}.`;
+    }
     if (rule === 'end of call') return performedWords(history);
     if (rule === 'argument' && !machine.callCount()) return 'No call is open: the comma is deleted.';
     if (machine.drops()) return 'The parenthesis has no matching one: the active string becomes empty.';
