@@ -384,13 +384,13 @@ class Hands(Page):
         self.script("document.getElementById('settings').open = true")
         self.find('example').send_keys(Keys.TAB)
         met = []
-        for _ in range(37):
+        for _ in range(38):
             at = browser.switch_to.active_element
             met.append(at.get_attribute('id') or at.tag_name)
             at.send_keys(Keys.TAB)
-        wanted = ['script', 'through', 'run', 'summary', 'summary', 'cells', 'steps', 'link', 'open', 'save',
-                  'show-all', 'output', 'save-output', 'save-trace', 'summary', 'summary', 'slider', 'first', 'call-back',
-                  'back', 'step', 'over', 'call-step', 'last', 'neutral', 'active', 'forms', 'calls', 'jump', 'jump-go',
+        wanted = ['script', 'through', 'run', 'summary', 'summary', 'cells', 'steps', 'link', 'embed', 'open', 'save',
+                  'show-all', 'output', 'save-output', 'save-trace', 'summary', 'summary', 'slider', 'first',
+                  'call-back', 'back', 'step', 'over', 'call-step', 'last', 'neutral', 'active', 'forms', 'calls', 'jump', 'jump-go',
                   'fold', 'play', 'speed', 'pace', 'stop-at', 'summary', 'summary']
         self.assertEqual(met[:len(wanted)], wanted)
 

@@ -581,6 +581,21 @@ class Files(Saving):
         browser.find_element(By.TAG_NAME, 'body').send_keys(Keys.ARROW_RIGHT)
         self.assertEqual(self.steps()[0], 13)
 
+    def test_code_to_embed(self):
+        self.run_script("#(ps,a&b<\"c)'")
+        self.go(12)
+        self.script("""
+            Object.defineProperty(navigator, 'clipboard', { value: { writeText: async (text) => {
+                document.body.insertAdjacentHTML('beforeend', text);
+            } } });
+            document.getElementById('embed').click();
+        """)
+        self.wait(lambda: 'copied' in self.text('told'))
+        self.open(self.script("return document.querySelector('iframe').src"))
+        self.wait(self.is_at_rest)
+        self.assertEqual((self.value('script'), self.steps()[0]), ("#(ps,a&b<\"c)'", 12))
+        self.assertFalse(self.is_shown('script'))
+
     def test_a_link_to_a_part_of_the_lesson(self):
         self.open(f'{PLACE}?lesson=4')
         self.assertEqual(self.value('example'), '4. Active and neutral')
@@ -645,6 +660,8 @@ class Study(Lecture):
         for name, printed, words, yours, wanted in (
                 ('1. A greeting', 'Hello, world! ', 'has a blank more at the end of line 1, column 14', ' ', ''),
                 ('1. A greeting', 'Hello,  world!', 'has a blank more in line 1, column 8', ' ', ''),
+                ('1. A greeting', 'Hello,  world! ', 'has a blank more in line 1, column 8', ' ', ''),
+                ('1. A greeting', 'Hello,world', 'lacks a blank in line 1, column 7', '', ' '),
                 ('1. A greeting', 'Hallo, world!', 'has “a” in place of “e” in line 1, column 2', 'a', 'e'),
                 ('1. A greeting', '\n\nHello,\tworld!', 'has “\\t” in place of a blank in line 3, column 7',
                  '\\t', ' '),

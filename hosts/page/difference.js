@@ -42,8 +42,32 @@ export function differenceOf(output, wanted) {
 }
 
 /**
- * A line parted where it differs from another: the part that both begin with, the one that differs, and the one that
- * both end with.
+ * The place behind the blanks that a line has more than another at a place, or null where it hasn't just blanks more.
+ * @param {string[]} one
+ * @param {string[]} two
+ * @param {number} from
+ */
+function onlyBlanks(one, two, from) {
+    let to = from;
+    while (one[to] === ' ') to += 1;
+    return to > from && one[to] === two[from] ? to : null;
+}
+
+/**
+ * How many characters at the end of two lines are the same, behind a place.
+ * @param {string[]} one
+ * @param {string[]} two
+ * @param {number} from
+ */
+function sameEnd(one, two, from) {
+    const most = Math.min(one.length, two.length) - from;
+    let left = 0;
+    while (left < most && one[one.length - 1 - left] === two[two.length - 1 - left]) left += 1;
+    return left;
+}
+
+/**
+ * A line parted where it differs first from another: the part that both begin with, the one that differs, and the rest.
  * @param {string} line
  * @param {string} other
  */
@@ -52,9 +76,7 @@ function parted(line, other) {
     const most = Math.min(one.length, two.length);
     let from = 0;
     while (from < most && one[from] === two[from]) from += 1;
-    let left = 0;
-    while (left < most - from && one[one.length - 1 - left] === two[two.length - 1 - left]) left += 1;
-    const to = one.length - left;
+    const to = onlyBlanks(one, two, from) ?? (onlyBlanks(two, one, from) ? from : one.length - sameEnd(one, two, from));
     return { from, front: one.slice(0, from).join(''), own: one.slice(from, to).join(''), end: one.slice(to).join('') };
 }
 

@@ -5,7 +5,7 @@
  */
 
 import { differenceOf, differenceWords, showDifference } from './difference.js';
-import { element, find } from './dom.js';
+import { element, find, withBlanks } from './dom.js';
 
 /**
  * @typedef {{name: string, says?: string, script: string}} Example
@@ -142,7 +142,8 @@ export class Lessons {
         this.forgetVerdict();
         if (!this.exercise) return;
         const difference = differenceOf(output, this.exercise.output);
-        find('verdict').textContent = difference ? differenceWords(difference) : 'Done: this prints what is wanted.';
+        find('verdict').replaceChildren(...withBlanks(difference ? differenceWords(difference)
+            : 'Done: this prints what is wanted.'));
         showDifference(difference);
     }
 

@@ -9,7 +9,9 @@ import { counted, plainText, several } from './codes.js';
 import { element, find } from './dom.js';
 import { History } from './history.js';
 import { Lessons } from './lessons.js';
-import { makeLink, openFile, readLink, saveFile } from './links.js';
+import {
+    embedCode, makeLink, openFile, readLink, saveFile,
+} from './links.js';
 import { pause } from './machines.js';
 import { Stepper } from './stepper.js';
 import { traceOf } from './trace.js';
@@ -359,8 +361,17 @@ class Page {
     }
 
     async link() {
-        tell(await makeLink(this.boxes.texts, this.state.kind === 'shown' ? this.stepper.at : null));
+        tell(await makeLink(this.boxes.texts, this.shownStep));
         this.boxes.save();
+    }
+
+    async embed() {
+        tell(await embedCode(this.boxes.texts, this.shownStep));
+    }
+
+    /** The step that is shown of the script of the boxes, or null. */
+    get shownStep() {
+        return this.state.kind === 'shown' ? this.stepper.at : null;
     }
 
     /** Opens the file that was chosen. */
@@ -417,6 +428,7 @@ class Page {
             through: () => this.start(null),
             stop: () => this.state.kind === 'running' && this.state.stopping.abort(),
             link: () => this.link(),
+            embed: () => this.embed(),
             place: () => this.selectPlace(),
             open: () => find('file').click(),
             save: () => saveFile('script.trac', bytesOfText(this.boxes.texts.script)),

@@ -71,6 +71,7 @@ export class Stepper {
     }
 
     listen() {
+        // to finish a call there is a key alone
         for (const id of Object.keys(this.moves)) find(id)?.addEventListener('click', () => this.press(id));
         find('slider').addEventListener('input', () => this.press('slider'));
         find('calls').addEventListener('input', () => this.press('calls'));
