@@ -390,8 +390,8 @@ class Hands(Page):
             at.send_keys(Keys.TAB)
         wanted = ['script', 'through', 'run', 'summary', 'summary', 'cells', 'steps', 'link', 'embed', 'open', 'save',
                   'show-all', 'output', 'save-output', 'save-trace', 'summary', 'summary', 'slider', 'first',
-                  'call-back', 'back', 'step', 'over', 'call-step', 'last', 'neutral', 'active', 'forms', 'calls', 'jump', 'jump-go',
-                  'fold', 'play', 'speed', 'pace', 'stop-at', 'summary', 'summary']
+                  'call-back', 'back', 'step', 'over', 'call-step', 'last', 'neutral', 'active', 'forms', 'calls',
+                  'jump', 'jump-go', 'fold', 'play', 'speed', 'pace', 'stop-at', 'summary', 'summary']
         self.assertEqual(met[:len(wanted)], wanted)
 
     def test_names(self):

@@ -265,6 +265,22 @@ class Maker:
         return f"#(ds,f,aXbYa)#(ss,f,X,Y)#(ds,g,(b,(a)))#(ds,{self.name()},a)" + ''.join(calls) + end + "'"
 
 
+class LargeBlocks(Lecture):
+    def test_what_a_call_comes_to_is_left_open(self):
+        calls = '#(cs,f)#(cc,f,z)#(cn,f,1)#(in,f,b,z)#(gr,1,2,x)#(ad,1,2)#(dd,f,g)#(rs)'
+        self.run_script(f"#(ds,f,aXbcd)#(ss,f,X,Q){calls}'", cells=2 ** 20 + 1)
+        said = self.walk("find('rule-name').textContent === 'end of call.' ? find('rule-says').textContent : ''")
+        for words in ('In the form “f”, each “X” and “Q” that is found becomes a gap.',
+                      'up to the next gap, or to its end.',
+                      'It takes the next character of the form “f”, or else its default.',
+                      'as many as “1” says, or else its default.',
+                      'up to the next “b”, or else its default.',
+                      'It chooses between its third argument and its fourth.',
+                      'It adds “1” and “2”, or else gives its default.',
+                      'It removes the form “f”; of its other name there is no form.'):
+            self.assertTrue(any(words in each for each in said), words)
+
+
 class Names(Lecture):
     def test_blanks_of_names(self):
         self.through("#( ps,hi)#(x  y)#(ds,a )##(cl, f  g)'")

@@ -166,7 +166,7 @@ function segmentedWords(doing, found, name) {
         return found.pointer ? `It sets the pointer of ${name} to the start.`
             : `The pointer of ${name} stays at the start.`;
     }
-    if (!later) return `In ${name}, each ${listed(further.map(quoted))} becomes a gap.`;
+    if (!later) return `In ${name}, each ${listed(further.map(quoted))} that is found becomes a gap.`;
     const isMade = further.map((_, index) => gapsIn(later, index + 1) > gapsIn(found, index + 1));
     const made = further.map((text, index) => (isMade[index] ? `each ${quoted(text)} becomes gap ${index + 1}` : ''));
     const missed = further.filter((text, index) => text && !isMade[index]).map(quoted);
@@ -176,12 +176,24 @@ function segmentedWords(doing, found, name) {
     return `In ${name}, ${listed([...made, isLost].filter(Boolean))}${end}.`;
 }
 
+/**
+ * The forms that a call of dd removes.
+ * @param {Doing} doing
+ */
+function removedForms({ machine, words, forms, outcome }) {
+    if (outcome) {
+        const left = new Set(outcome.session.forms().map(({ name }) => nameKey(name)));
+        return forms.filter(({ name }) => !left.has(nameKey(name)));
+    }
+    const named = new Set(words.slice(1).map((_, index) => nameKey(machine.argument(index + 1))));
+    return forms.filter(({ name }) => named.has(nameKey(name)));
+}
+
 /** @type {Says} */
-function removedWords({ given, words, forms, outcome }) {
+function removedWords(doing) {
+    const { given, words } = doing;
     if (!given) return 'It names no form, so nothing changes.';
-    if (!outcome) return `It removes ${listed(words.slice(1).map((name) => `the ${form(name)}`))}.`;
-    const left = new Set(outcome.session.forms().map(({ name }) => nameKey(name)));
-    const removed = forms.filter(({ name }) => !left.has(nameKey(name)));
+    const removed = removedForms(doing);
     const missing = given - removed.length;
     if (!removed.length) {
         return given === 1 ? `There is no ${form(words[1])}, so nothing changes.`
