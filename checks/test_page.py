@@ -121,10 +121,46 @@ class Steps(Page):
             self.go(number)
             self.assertEqual(self.strings(), (neutral, active.rstrip('\n')))
 
+    def test_the_reading_of_a_string_is_one_step(self):
+        self.run_script("#(ps,one)'\n#(ps,two)'")
+        rules = self.walk("[find('rule-name').textContent, find('rule-says').textContent, find('count').textContent]")
+        folded = [(number, words) for number, (_, words, _) in enumerate(rules) if 'the string is read' in words]
+        self.assertEqual([number for number, _ in folded], [0, 10, 21])
+        self.assertTrue(folded[2][1].endswith('there is no more input.'))
+        self.assertEqual([rule for rule, _, _ in rules].count('idling.'), 3)
+        for _ in rules[1:]:
+            self.find('back').click()
+        self.assertEqual(self.steps()[0], 0)
+        self.find('fold').click()
+        self.assertEqual(len(self.walk('0')), self.steps()[1] + 1)
+        self.assertEqual(len(rules), self.steps()[1] + 1 - 3 * 8)
+        self.find('back').click()
+        self.assertEqual(self.steps()[0], self.steps()[1] - 1)
+        self.find('through').click()
+        self.wait(self.is_at_rest)
+        self.assertEqual(self.steps()[0], 0)
+
+    def test_a_step_through_begins_at_the_script(self):
+        self.put('script', "#(ps,one)'")
+        self.find('through').click()
+        self.wait(self.is_at_rest)
+        self.assertEqual(self.strings(), ('<#>ps<,>', '#(ps,one))'))
+        self.find('back').click()
+        self.assertEqual(self.steps()[0], 0)
+        self.find('step').click()
+        self.assertEqual(self.steps()[0], 9)
+
     def test_output_so_far(self):
-        self.run_script("#(ps,one)#(ps,two)'")
+        self.run_script("#(ps,one)#(ps,é)#(ps,two)'")
+        self.assertEqual(list(dict.fromkeys(self.walk("find('output').textContent"))), ['', 'one', 'oneé', 'oneétwo'])
+        self.find('first').click()
+        self.find('show-all').click()
+        self.assertEqual(self.text('output'), 'oneétwo')
         late = self.walk("find('output').querySelector('.later')?.textContent ?? ''")
-        self.assertEqual(list(dict.fromkeys(late)), ['onetwo', 'two', ''])
+        self.assertEqual(list(dict.fromkeys(late)), ['oneétwo', 'étwo', 'two', ''])
+        self.find('first').click()
+        self.find('show-all').click()
+        self.assertEqual(self.text('output'), '')
 
     def test_calls_and_rules_in_words(self):
         self.run_script("#(ds,a,b)##(cl,a)),)'")
@@ -136,10 +172,15 @@ class Steps(Page):
             self.assertTrue(any(words in each for each in said), words)
 
     def test_a_call_with_many_arguments_in_words(self):
-        self.run_script(f"#(dd{',x' * 150})'")
-        said = self.walk("find('rule-says').textContent")
-        end = 'the form “x”, the form “x”, the form “x”, the form “x” and the form “…”.'[-70:]
-        self.assertEqual([each[-70:] for each in said if 'performed: dd with 150 arguments. It removes' in each], [end])
+        for script, words in (
+                (f"#(dd{',x' * 150})'", 'There is no form of these 150 names, so nothing changes.'),
+                (''.join(f'#(ds,x{k},)' for k in range(120)) + f"#(dd{''.join(f',x{k}' for k in range(150))})'",
+                 'It removes the form “x0”, the form “x1”, the form “x2”, the form “x3”, the form “x4”, the form “x5”, '
+                 'the form “x6”, the form “x7” and more; of its other 30 names there is no form.')):
+            self.run_script(script)
+            self.go(self.steps()[1] - 11)
+            self.assertEqual(self.text('rule-says'),
+                             f'The innermost open call is performed: dd with 150 arguments. {words}')
 
     def test_a_call_that_the_allowance_does_not_reach(self):
         self.run_script("#(ps,a)'", '', 65536, 14)
@@ -204,8 +245,8 @@ class Safety(Page):
     def test_text_stays_text(self):
         scripts = self.script('return document.scripts.length')
         self.run_script(f"#(ds,{self.EVIL},{self.EVIL})#(ps,{self.EVIL})'")
-        self.find('first').click()
         self.assertEqual(self.text('output'), self.EVIL)
+        self.find('first').click()
         last = self.steps()[1]
         for step in range(0, last, 17):
             self.go(step)
@@ -291,6 +332,7 @@ class Hands(Page):
         self.wait(lambda: self.text('output') == 'a')
         self.wait_for_calls()
         last = self.steps()[1]
+        self.find('fold').click()
         at = self.find('output')
         for keys, step in ((Keys.HOME, 0), (Keys.ARROW_RIGHT, 1), (Keys.ARROW_RIGHT, 2),
                            (Keys.ARROW_LEFT, 1), (Keys.SHIFT + Keys.ARROW_RIGHT, 8),
@@ -303,6 +345,38 @@ class Hands(Page):
         self.find('script').send_keys(Keys.HOME, Keys.ARROW_LEFT)
         self.assertEqual(self.steps()[0], 1)
 
+    def test_keys_of_debuggers(self):
+        self.put('script', "#(ds,f,(#(ps,x)))#(ps,#(ad,1,2))#(cl,f)'")
+        self.find('script').send_keys(Keys.CONTROL, Keys.SHIFT, Keys.ENTER)
+        self.wait(lambda: self.script('return document.activeElement.id') == 'step')
+        self.assertEqual(self.steps()[0], 9)
+        at = browser.switch_to.active_element
+        at.send_keys('sss')
+        self.assertEqual(self.steps()[0], 12)
+        self.go(9)
+        for gave, rule in (('ds gave the null text.', 'active call'), ('ps gave the null text.', 'active call'),
+                           ('cl gave “#(ps,x)”: active, to be scanned again.', 'active call'),
+                           ('ps gave the null text.', 'end of call')):
+            at.send_keys('n')
+            self.wait(self.is_at_rest)
+            self.assertEqual((self.text('gave'), self.rule()), (gave, rule))
+        self.go(self.steps()[1] - 30)
+        at.send_keys('f')
+        self.wait(self.is_at_rest)
+        self.assertEqual(self.rule(), 'end of call')
+        self.find('script').send_keys('snf')
+        self.assertIn('snf', self.find('script').get_property('value'))
+
+    def test_over_a_call_that_is_never_performed(self):
+        self.run_script("#(ps,(a'#(ps,b)'")
+        self.go(9)
+        self.find('over').click()
+        self.wait(self.is_at_rest)
+        self.assertEqual((self.steps()[0], self.text('jump-told')), (9, 'This call is never performed.'))
+        self.go(12)
+        self.find('over').click()
+        self.assertEqual(self.steps()[0], 13)
+
     def test_order_of_tab(self):
         self.run_script("#(ps,a)'")
         self.wait_for_calls()
@@ -310,14 +384,14 @@ class Hands(Page):
         self.script("document.getElementById('settings').open = true")
         self.find('example').send_keys(Keys.TAB)
         met = []
-        for _ in range(34):
+        for _ in range(38):
             at = browser.switch_to.active_element
             met.append(at.get_attribute('id') or at.tag_name)
             at.send_keys(Keys.TAB)
-        wanted = ['script', 'summary', 'through', 'run', 'summary', 'cells', 'steps', 'link', 'open', 'save',
-                  'output', 'save-output', 'save-trace', 'summary', 'summary', 'slider', 'first', 'call-back', 'back',
-                  'step', 'call-step', 'last', 'neutral', 'active', 'forms', 'calls', 'jump', 'jump-go', 'play',
-                  'speed', 'pace', 'stop-at', 'summary', 'summary']
+        wanted = ['script', 'through', 'run', 'summary', 'summary', 'cells', 'steps', 'link', 'embed', 'open', 'save',
+                  'show-all', 'output', 'save-output', 'save-trace', 'summary', 'summary', 'slider', 'first',
+                  'call-back', 'back', 'step', 'over', 'call-step', 'last', 'neutral', 'active', 'forms', 'calls',
+                  'jump', 'jump-go', 'fold', 'play', 'speed', 'pace', 'stop-at', 'summary', 'summary']
         self.assertEqual(met[:len(wanted)], wanted)
 
     def test_names(self):

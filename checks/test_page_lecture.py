@@ -397,9 +397,8 @@ class Steps(Lecture):
     def test_step_through(self):
         self.find('through').click()
         self.wait(self.is_at_rest)
-        self.assertEqual(self.steps()[0], 0)
-        late = self.walk("find('output').querySelector('.later')?.textContent ?? ''")
-        printed = next(step for step, text in enumerate(late) if not text)
+        self.assertEqual(self.steps()[0], 9)
+        printed = next(step for step, text in enumerate(self.walk("find('output').textContent")) if text)
         read = next(step for step, text in enumerate(self.walk("find('script-marks').querySelector('mark') ? 1 : 0"))
                     if text)
         self.assertLessEqual(printed - read, 10)
@@ -441,16 +440,23 @@ class Steps(Lecture):
 
     def test_calls_in_words(self):
         for script, words in (
-                ("#(gr,3,2,x,y)'", '3 is greater than 2, so the value is the fourth argument.'),
-                ("#(gr,2,3,x,y)'", '2 is not greater than 3, so the value is the fifth argument.'),
-                ("#(gr,99999999999999999999,2,x)'", 'so the value is the fourth argument.'),
-                ("#(eq,a,b,x,y)'", '“a” and “b” are not the same, so the value is the fifth argument.'),
-                ("#(eq,a,b,x,x)'", 'The fourth and the fifth argument are the same'),
-                ("#(ss,f,a,b)'", 'each “a” becomes gap 1 and each “b” becomes gap 2'),
+                ("#(gr,3,2,x,y)'", '3 is greater than 2, so the value is the third argument.'),
+                ("#(gr,2,3,x,y)'", '2 is not greater than 3, so the value is the fourth argument.'),
+                ("#(gr,99999999999999999999,2,x)'", 'so the value is the third argument.'),
+                ("#(eq,a,b,x,y)'", '“a” and “b” are not the same, so the value is the fourth argument.'),
+                ("#(eq,a,b,x,x)'", 'The third and the fourth argument are the same'),
+                ("#(eq,a,b,x)'", 'are not the same, so the value is the fourth argument, which is null.'),
+                ("#(gr,12a,b,x,y)'", 'The number of “12a” is not greater than the number of “b”'),
+                ("#(ss,f,a,b)#(ds,f,ab)'", 'There is no form “f”, so the value is null and nothing changes.'),
+                ("##(ds,f,ab)#(ss,f,a,b)'", 'each “a” becomes gap 1 and each “b” becomes gap 2'),
+                ("#(cl,nope,a)'", 'There is no form “nope”, so the value is null.'),
+                ("##(ds,f,a)#(cl,f,a)'", 'It calls the form “f” from its pointer on; it has no gap 1 for “a”.'),
+                ("##(ds,f,abc)#(cn,f,-1,z)'", 'No character is there in the form “f”, so the value is the default'),
+                ("##(ds,f,abc)#(cn,f,2)#(cr,f)'", 'It takes the next 2 characters of the form “f”.'),
                 ("#(nosuch,f)'", 'No function has this name, so the value is null.')):
             with self.subTest(script=script):
                 self.through(script)
-                self.jump('name', script[2:script.index(',')])
+                self.jump('name', re.search(r'(?<!#)#\((\w+)', script)[1])
                 self.assertIn(words, self.text('rule-says'))
 
     def test_a_change_right_behind_a_call_that_changes_nothing(self):
@@ -575,6 +581,51 @@ class Files(Saving):
         browser.find_element(By.TAG_NAME, 'body').send_keys(Keys.ARROW_RIGHT)
         self.assertEqual(self.steps()[0], 13)
 
+    def test_code_to_embed(self):
+        self.run_script("#(ps,a&b<\"c)'")
+        self.go(12)
+        self.script("""
+            Object.defineProperty(navigator, 'clipboard', { value: { writeText: async (text) => {
+                document.body.insertAdjacentHTML('beforeend', text);
+            } } });
+            document.getElementById('embed').click();
+        """)
+        self.wait(lambda: 'copied' in self.text('told'))
+        self.open(self.script("return document.querySelector('iframe').src"))
+        self.wait(self.is_at_rest)
+        self.assertEqual((self.value('script'), self.steps()[0]), ("#(ps,a&b<\"c)'", 12))
+        self.assertFalse(self.is_shown('script'))
+
+    def test_a_link_to_a_part_of_the_lesson(self):
+        self.open(f'{PLACE}?lesson=4')
+        self.assertEqual(self.value('example'), '4. Active and neutral')
+        self.type('typed')
+        text = self.value('script')
+        self.open(f'{PLACE}?lesson=10', keeps=True)
+        self.assertEqual(self.value('example'), '10. What memory is')
+        self.find('bring-back').click()
+        self.assertEqual(self.value('script'), text)
+        self.open(f'{PLACE}?lesson=10', keeps=True)
+        self.assertEqual(self.value('script'), text)
+        self.open(f'{PLACE}?lesson=11')
+        self.assertEqual(self.value('example'), '1. A call prints')
+        self.open(f'{PLACE}?lesson=4#script=YQ')
+        self.assertEqual(self.value('script'), 'a')
+
+    def test_a_link_alone_runs_no_trillion_steps(self):
+        packed = base64.urlsafe_b64encode(ENDLESS.encode()).decode().rstrip('=')
+        for end in ('', '?embed'):
+            self.open(f'{PLACE}{end}#script={packed}&cells=1000&steps=1000000000000&step=12')
+            self.wait(lambda: self.is_shown('machine') and self.is_at_rest())
+            self.assertEqual(self.steps(), (12, 10000000))
+            self.assertIn('a link alone runs no further', self.text('fate').lower())
+            self.press('last')
+            self.assertTrue(self.text('rule-says').endswith('a link alone runs no further.'))
+        self.script("document.getElementById('run').click()")
+        self.wait(lambda: self.text('fate').startswith('Running') and '1,' in self.text('fate'))
+        self.script("document.getElementById('stop').click()")
+        self.wait(lambda: self.text('fate').startswith('Stopped by you.'))
+
     def test_a_long_link(self):
         self.put('script', "#(ps,({}))'".format('long ' * 4000))
         self.script("document.getElementById('settings').open = true")
@@ -589,7 +640,7 @@ class Study(Lecture):
         self.assertIn('The comma is part of it.', self.text('task-words'))
         self.put('script', "#(ps,Hello)'")
         self.run_it()
-        self.assertEqual(self.text('verdict'), 'Not yet: line 1 of the output is another one.')
+        self.assertEqual(self.text('verdict'), 'Not yet: yours lacks “, world!” at the end of line 1, column 6.')
         names = self.script("return [...document.getElementById('exercise').options].slice(1)"
                             '.map(({ text }) => text)')
         self.assertEqual(len(names), 20)
@@ -604,6 +655,41 @@ class Study(Lecture):
                 self.put('script', solution[:len(solution) - len(given)])
                 self.run_it()
                 self.assertEqual(self.text('verdict'), 'Done: this prints what is wanted.')
+
+    def test_differences(self):
+        for name, printed, words, yours, wanted in (
+                ('1. A greeting', 'Hello, world! ', 'has a blank more at the end of line 1, column 14', ' ', ''),
+                ('1. A greeting', 'Hello,  world!', 'has a blank more in line 1, column 8', ' ', ''),
+                ('1. A greeting', 'Hello,  world! ', 'has a blank more in line 1, column 8', ' ', ''),
+                ('1. A greeting', 'Hello,world', 'lacks a blank in line 1, column 7', '', ' '),
+                ('1. A greeting', 'Hallo, world!', 'has “a” in place of “e” in line 1, column 2', 'a', 'e'),
+                ('1. A greeting', '\n\nHello,\tworld!', 'has “\\t” in place of a blank in line 3, column 7',
+                 '\\t', ' '),
+                ('1. A greeting', 'Hello, world!\n\nx', 'has more lines than are wanted, from line 2 on', '', ''),
+                ('1. A greeting', '', 'prints nothing', '', 'Hello, world!'),
+                ('2. Parentheses and lines', 'f(x), g(y)', 'ends behind line 1, and another line is wanted',
+                 '', 'h(z)'),
+                ('2. Parentheses and lines', 'f(x), g(y) h(z)', 'has “ h(z)” more at the end of line 1, column 11',
+                 ' h(z)', '')):
+            with self.subTest(printed=printed):
+                self.choose(name, 'exercise')
+                self.put('script', f"#(ps,({printed}))'")
+                self.run_it()
+                self.assertEqual(self.text('verdict'), f'Not yet: yours {words}.')
+                self.assertTrue(self.is_shown('difference'))
+                for part, text in (('yours', yours), ('wanted', wanted)):
+                    self.assertEqual(self.script(
+                        "return document.querySelector(`#${arguments[0]} mark`)?.textContent ?? ''", part), text)
+                    # each blank is drawn
+                    self.assertEqual(*self.script(
+                        'const box = document.getElementById(arguments[0]);'
+                        "return [box.querySelectorAll('.blank').length,"
+                        "box.querySelector('.nothing') ? 0 : box.textContent.split(' ').length - 1]", part))
+        self.assertTrue(self.text('wanted').endswith('↵'))
+        self.put('script', "#(ps,(f(x), g(y)\nh(z)))'")
+        self.run_it()
+        self.assertEqual(self.text('verdict'), 'Done: this prints what is wanted.')
+        self.assertFalse(self.is_shown('difference'))
 
     def test_functions(self):
         rows = browser.find_elements(By.CSS_SELECTOR, '#functions tr')

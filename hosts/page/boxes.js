@@ -302,7 +302,7 @@ export class Boxes {
         const isTyped = texts.script !== filled.script || texts.input !== filled.input;
         try {
             window.localStorage.setItem(STORE, JSON.stringify(
-                { texts, isTyped, aside, cells, steps, hash: window.location.hash }));
+                { texts, isTyped, aside, cells, steps, hash: address() }));
         } catch {
             // without a place in the browser nothing is kept
         }
@@ -317,7 +317,7 @@ export class Boxes {
         const kept = stored();
         if (!kept) return false;
         this.aside = kept.aside;
-        if (kept.hash !== window.location.hash) {
+        if (kept.hash !== address()) {
             if (kept.isTyped) this.putAside(kept.texts);
             return false;
         }
@@ -357,6 +357,11 @@ export class Boxes {
         box.setSelectionRange(isScript ? from : from - first, isScript ? Math.min(to, first) : to - first);
         box.scrollIntoView({ block: 'nearest' });
     }
+}
+
+/** What the address says beside the place of the page. */
+function address() {
+    return window.location.search + window.location.hash;
 }
 
 /** What was kept in the browser, or null where that is nothing of this page. */

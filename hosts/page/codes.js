@@ -31,11 +31,12 @@ export const MOST_IN_LINE = 400;
 /** The front of a row of codes that a line shows, and one code more where there are more. */
 export const FRONT_OF_LINE = MOST_IN_LINE + 1;
 /** Of how many arguments of a call the words are read at most: each is looked for from the first one on. */
-const MOST_ARGUMENTS = 100;
+export const MOST_ARGUMENTS = 100;
 const NAMED = new Map([[9, '\\t'], [10, '\\n'], [13, '\\r']]);
 const HIDDEN = /[\p{Cc}\p{Cf}\p{Co}\p{Cn}\p{Cs}\p{Zl}\p{Zp}]/u;
 const NUMBERS = new Intl.NumberFormat('en-US');
 const decoder = new TextDecoder('utf-8', { fatal: true, ignoreBOM: true });
+const letters = new TextDecoder('latin1');
 
 /**
  * How many bytes the character has that begins with this byte in UTF-8, or 1 where none does.
@@ -170,6 +171,25 @@ export function callAhead(machine) {
         (_, which) => lineOf(machine.argument(which, FRONT_OF_LINE)));
     if (count > MOST_ARGUMENTS) words.push('…');
     return { mark, place, given: count - 1, words };
+}
+
+/**
+ * Whether two rows have the same codes.
+ * @param {Codes} one
+ * @param {Codes} other
+ */
+export function isSameRow(one, other) {
+    let at = 0;
+    while (at < one.length && one[at] === other[at]) at += 1;
+    return at === one.length && at === other.length;
+}
+
+/**
+ * The name of a form as a text that no other name has.
+ * @param {Uint8Array} name
+ */
+export function nameKey(name) {
+    return letters.decode(name);
 }
 
 /**

@@ -6,6 +6,8 @@
 import { byDepth, piecesOf } from './codes.js';
 
 const COLOURS = 6;
+/** Blanks that one wouldn't see: at the ends of a line or of a quoted text, and several in a row. */
+const BLANKS = /((?<=^|“) +| +(?=$|”)| {2,})/m;
 
 /**
  * The element with this id.
@@ -39,6 +41,25 @@ export function button(words, act) {
     made.type = 'button';
     made.addEventListener('click', act);
     return made;
+}
+
+/**
+ * A blank that is drawn.
+ * @returns {Node | string}
+ */
+export function blank() {
+    const made = element('span', 'blank', ' ');
+    made.setAttribute('role', 'img');
+    made.setAttribute('aria-label', 'blank');
+    return made;
+}
+
+/**
+ * The nodes of a text, with the blanks drawn that one wouldn't see.
+ * @param {string} text
+ */
+export function withBlanks(text) {
+    return text.split(BLANKS).flatMap((part, index) => (index % 2 ? Array.from(part, blank) : [part]));
 }
 
 /**

@@ -4,13 +4,14 @@
  * @module
  */
 
-import { counted, piecesOf, several } from './codes.js';
+import {
+    counted, isSameRow, nameKey, piecesOf, several,
+} from './codes.js';
 import { button, element, find, nodes, nodesOf, reveal } from './dom.js';
 
 /** How many forms are shown at once. */
 const MOST_SHOWN = 50;
 const MOST_ITEMS = 1200;
-const letters = new TextDecoder('latin1');
 
 /** @typedef {import('../js/trac.mjs').StoredForm} StoredForm */
 
@@ -54,25 +55,15 @@ function isSame(one, other) {
 }
 
 /**
- * @param {import('./codes.js').Codes} one
- * @param {import('./codes.js').Codes} other
- */
-function isSameRow(one, other) {
-    let at = 0;
-    while (at < one.length && one[at] === other[at]) at += 1;
-    return at === one.length && at === other.length;
-}
-
-/**
  * Which forms aren't as before, by their places.
  * @param {StoredForm[]} before
  * @param {StoredForm[]} forms
  */
 export function changedForms(before, forms) {
-    const known = new Map(before.map((form) => [letters.decode(form.name), form]));
+    const known = new Map(before.map((form) => [nameKey(form.name), form]));
     const changed = new Set();
     forms.forEach((form, place) => {
-        const old = known.get(letters.decode(form.name));
+        const old = known.get(nameKey(form.name));
         if (!old || !isSame(old, form)) changed.add(place);
     });
     return changed;
@@ -94,6 +85,11 @@ export class FormsView {
         find('forms-before').addEventListener('click', () => this.turn(-MOST_SHOWN));
         find('forms-after').addEventListener('click', () => this.turn(MOST_SHOWN));
         find('forms-find').addEventListener('input', () => this.seek(find('forms-find').value));
+    }
+
+    /** Begins with the first form again. */
+    open() {
+        this.from = 0;
     }
 
     /**

@@ -9,7 +9,7 @@ import { Session } from '../js/trac.mjs';
 import { ACTIVE_CALL, FRONT_OF_LINE, callAhead } from './codes.js';
 import { changesForms } from './functions.js';
 import {
-    Kept, Pace, SLICE, Walker, pause,
+    Kept, Pace, SLICE, STEPS_OF_READING, Walker, pause,
 } from './machines.js';
 
 /** Of how many steps at most the calls are listed. Later ones are looked for when they are wanted. */
@@ -150,6 +150,14 @@ class Printings {
  * @property {string[]} words the first arguments of the call, the name of the function in front
  */
 
+/**
+ * What a step comes to.
+ * @typedef {object} Outcome
+ * @property {string} fate of the run behind it
+ * @property {Value | null} value
+ * @property {Session} session the machine behind it, until another outcome is asked for
+ */
+
 /** A run of a script, and the step that is looked at. */
 export class History {
     /**
@@ -183,6 +191,8 @@ export class History {
         this.strings = new Strings();
         this.printings = new Printings();
         this.kept = new Kept(shown.save(), limits.cells);
+        /** After how many steps a run is stopped that nobody asked for. */
+        this.most = Infinity;
         /** How many steps were made before the page did its other work for the first time. */
         this.early = 0;
         /** @type {ReturnType<Walker['save']>[]} */
@@ -198,8 +208,18 @@ export class History {
         this.performed = null;
         /** The step for which that is known. */
         this.noted = 0;
+        /**
+         * The forms that were read last, and at which step.
+         * @type {{step: number, forms: import('../js/trac.mjs').StoredForm[]} | null}
+         */
+        this.stored = null;
         shown.onPrinted = (text) => this.end || this.output.push(text);
         shown.onString = (place) => this.end || this.strings.push(place);
+    }
+
+    /** Whether the run was stopped because nobody asked for more of it. */
+    get isCut() {
+        return this.end.fate === 'going' && this.end.step >= this.most;
     }
 
     /**
@@ -209,9 +229,10 @@ export class History {
      */
     async run(signal, onStep) {
         const { shown } = this;
-        while (!signal.aborted && !shown.isOver) {
+        const isDone = () => shown.isOver || shown.state.step >= this.most;
+        while (!signal.aborted && !isDone()) {
             const until = performance.now() + SLICE;
-            while (performance.now() < until && !shown.isOver) this.runSome(until);
+            while (performance.now() < until && !isDone()) this.runSome(until);
             this.early ||= shown.state.step;
             onStep(shown.state.step);
             await pause();
@@ -226,7 +247,7 @@ export class History {
     runSome(until) {
         const { shown, kept } = this;
         const { due } = kept;
-        this.pace.advance(shown, due, until);
+        this.pace.advance(shown, Math.min(due, this.most), until);
         this.printings.note(shown.state.step, shown.state.printed);
         if (shown.state.step === due && !shown.isOver) kept.add(shown.save());
     }
@@ -331,6 +352,24 @@ export class History {
         if (this.near.length > MOST_NEAR) this.near.shift();
     }
 
+    /**
+     * The step behind which the idling procedure has read, or found no more input, where it begins at a step; or null.
+     * @param {number} step
+     */
+    readFrom(step) {
+        const read = this.strings.after(step) ?? (this.shown.endsIdling ? this.end.step : null);
+        return read === step + STEPS_OF_READING ? read : null;
+    }
+
+    /**
+     * The step at which the idling procedure began that has read, or found no more input, at a step; or null.
+     * @param {number} step
+     */
+    readUpTo(step) {
+        const isEnd = step === this.end.step && this.shown.endsIdling;
+        return isEnd || this.strings.at(step)?.step === step ? step - STEPS_OF_READING : null;
+    }
+
     /** The call that the next step performs, or null. */
     coming() {
         const { machine } = this;
@@ -341,10 +380,18 @@ export class History {
     /** Notes what the next step performs, if it is a call, and the forms that it may change. */
     notePerformed() {
         const call = this.coming();
+        const forms = call && changesForms(call.words[0]) ? this.forms() : null;
         this.noted = this.step + 1;
-        this.performed = call && {
-            ...call, forms: changesForms(call.words[0]) ? this.machine.forms() : null,
-        };
+        this.performed = call && { ...call, forms };
+    }
+
+    /** The forms at the step that is looked at, read anew only where they may be others than those read last. */
+    forms() {
+        const { step, stored } = this;
+        const isNext = stored?.step === step - 1 && this.noted === step && !this.performed?.forms;
+        const isKnown = stored && (stored.step === step || isNext);
+        this.stored = { step, forms: isKnown ? stored.forms : this.machine.forms() };
+        return this.stored.forms;
     }
 
     /**
@@ -370,11 +417,11 @@ export class History {
     }
 
     /**
-     * What the call gives that the next step performs: another machine makes that step. Null where
-     * there is no such machine, and where the step gives nothing.
-     * @returns {Value | null}
+     * What the next step comes to, which performs a call: another machine makes that step. Null where there is no
+     * such machine, and where there is no step any more.
+     * @returns {Outcome | null}
      */
-    comingValue() {
+    comingOutcome() {
         const { peeker, step } = this;
         if (!peeker || step >= this.end.step) return null;
         const isNear = (/** @type {number} */ from) => from <= step + 1 && step - from <= NEAREST;
@@ -383,7 +430,8 @@ export class History {
             peeker.restore(isNear(nearest.state.step) ? nearest : this.shown.save());
         }
         peeker.advance(step + 1 - peeker.state.step);
-        return this.value(this.coming(), peeker);
+        const { session, state: { fate } } = peeker;
+        return { fate, value: this.value(this.coming(), peeker), session };
     }
 
     /** The step that is looked at: so many steps are done. */

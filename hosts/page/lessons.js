@@ -4,7 +4,8 @@
  * @module
  */
 
-import { element, find } from './dom.js';
+import { differenceOf, differenceWords, showDifference } from './difference.js';
+import { element, find, withBlanks } from './dom.js';
 
 /**
  * @typedef {{name: string, says?: string, script: string}} Example
@@ -18,26 +19,6 @@ import { element, find } from './dom.js';
  */
 function withCode(text) {
     return text.split('`').map((part, index) => (index % 2 ? element('code', '', part) : part));
-}
-
-/**
- * An output without line feeds at its ends, which have no meaning.
- * @param {string} text
- */
-function trimmed(text) {
-    return text.replace(/^\n+|\n+$/g, '');
-}
-
-/**
- * What is said of an output, beside the one that is wanted.
- * @param {string} output
- * @param {string} wanted
- */
-function comparedWords(output, wanted) {
-    const [lines, others] = [trimmed(output).split('\n'), trimmed(wanted).split('\n')];
-    const at = others.findIndex((line, index) => line !== lines[index]);
-    if (at < 0 && lines.length === others.length) return 'Done: this prints what is wanted.';
-    return `Not yet: line ${(at < 0 ? others.length : at) + 1} of the output is another one.`;
 }
 
 /** The examples, the exercises and the functions. */
@@ -63,6 +44,17 @@ export class Lessons {
     /** The script to begin with. */
     get first() {
         return this.lesson[0].name;
+    }
+
+    /**
+     * Opens the part of the lesson that the address names, if it names one.
+     * @returns {boolean} whether it does
+     */
+    fromAddress() {
+        const part = new URLSearchParams(window.location.search).get('lesson');
+        const found = this.lesson.find(({ name }) => name.startsWith(`${part}. `));
+        if (found) this.choose(found.name);
+        return Boolean(found);
     }
 
     addChoices() {
@@ -130,7 +122,7 @@ export class Lessons {
         this.exercise = this.exercises.find((exercise) => exercise.name === name) ?? null;
         find('exercise').value = name;
         find('task').hidden = !this.exercise;
-        find('verdict').textContent = '';
+        this.forgetVerdict();
         if (!this.exercise) return;
         const { task, input, output } = this.exercise;
         find('task-words').replaceChildren(...task.map((part) => (part.startsWith('#(')
@@ -143,10 +135,21 @@ export class Lessons {
     }
 
     /**
-     * Says whether a run prints what the exercise wants.
+     * Says whether a run prints what the exercise wants, and where it doesn't.
      * @param {string} output
      */
     check(output) {
-        find('verdict').textContent = this.exercise ? comparedWords(output, this.exercise.output) : '';
+        this.forgetVerdict();
+        if (!this.exercise) return;
+        const difference = differenceOf(output, this.exercise.output);
+        find('verdict').replaceChildren(...withBlanks(difference ? differenceWords(difference)
+            : 'Done: this prints what is wanted.'));
+        showDifference(difference);
+    }
+
+    /** Says nothing of a run any more. */
+    forgetVerdict() {
+        find('verdict').textContent = '';
+        showDifference(null);
     }
 }

@@ -48,16 +48,45 @@ export function readLink() {
 }
 
 /**
+ * What an address carries.
+ * @param {{script: string, input: string}} texts
+ * @param {number | null} step
+ */
+function carried({ script, input }, step) {
+    const words = new URLSearchParams({ script: packed(bytesOfText(script)) });
+    if (input) words.set('input', packed(bytesOfText(input)));
+    for (const name of ['cells', 'steps']) words.set(name, find(name).value);
+    if (step !== null) words.set('step', String(step));
+    return words;
+}
+
+/**
+ * Copies the code that shows the steps of a script within another page.
+ * @param {{script: string, input: string}} texts
+ * @param {number | null} step
+ * @returns {Promise<string>} what is to be said of it
+ */
+export async function embedCode(texts, step) {
+    const place = new URL('?embed', window.location.href);
+    place.hash = String(carried(texts, step));
+    const code = `<iframe src="${place.href.replaceAll('&', '&amp;')}" title="A TRAC T-64 script, step by step" `
+        + 'width="100%" height="800"></iframe>';
+    try {
+        await navigator.clipboard.writeText(code);
+        return 'The code is copied. Put it into a page that can reach this one.';
+    } catch {
+        return `The browser lets nothing be copied. The code is: ${code}`;
+    }
+}
+
+/**
  * Puts script, input, limits and step into the address, and copies that.
  * @param {{script: string, input: string}} texts
  * @param {number | null} step
  * @returns {Promise<string>} what is to be said of it
  */
-export async function makeLink({ script, input }, step) {
-    const words = new URLSearchParams({ script: packed(bytesOfText(script)) });
-    if (input) words.set('input', packed(bytesOfText(input)));
-    for (const name of ['cells', 'steps']) words.set(name, find(name).value);
-    if (step !== null) words.set('step', String(step));
+export async function makeLink(texts, step) {
+    const words = carried(texts, step);
     window.history.replaceState(null, '', `#${words}`);
     const { href } = window.location;
     const carries = step === null ? 'It carries the script.' : 'It carries the script and the step.';

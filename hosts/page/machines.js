@@ -24,6 +24,8 @@ const MOST_AT_ONCE = 1024;
 const NOTHING = new Uint8Array(0);
 // The neutral string where the idling procedure reads: #(ps,#(rs
 const READING = [256, 112, 115, 258, 256, 114, 115];
+/** How many steps the idling procedure takes to read: one loads it, one makes each code, and one reads. */
+export const STEPS_OF_READING = READING.length + 2;
 
 /**
  * How far a walker has come.
@@ -43,6 +45,10 @@ export class Walker {
         this.input = input;
         /** @type {Progress} */
         this.state = { step: 0, consumed: 0, printed: 0, peak: 0, fate: 'going' };
+        /** Whether the run ends because the idling procedure finds no more input. */
+        this.endsIdling = false;
+        /** How often it came upon an empty active string on its way to a call. */
+        this.emptied = 0;
         /**
          * Called with each text that is printed.
          * @type {(text: Uint8Array) => void}
@@ -84,6 +90,7 @@ export class Walker {
         if (steps) this.advance(steps);
         if (steps === most || this.isOver) return false;
         if (this.session.rule() === 'end of call') return true;
+        this.emptied += 1;
         this.advance(1);
         return false;
     }
@@ -101,6 +108,7 @@ export class Walker {
         if (idles && this.state.fate === 'going') {
             this.onString({ step: this.state.step, from: consumed, to: this.state.consumed });
         }
+        if (idles && this.state.fate === 'input ended') this.endsIdling = true;
     }
 
     /** Whether the next step reads a string for the idling procedure. */

@@ -14,7 +14,7 @@ TOP = os.path.dirname(os.path.dirname(FOLDER))
 # Each file's imports name only files that stand before it here.
 CODE = ['hosts/js/trac.mjs'] + [f'hosts/page/{name}.js' for name in (
     'codes', 'functions', 'machines', 'history', 'dom', 'block', 'strings', 'forms', 'output', 'boxes', 'search',
-    'view', 'stepper', 'tree', 'trace', 'lessons', 'links', 'warnings', 'page')]
+    'view', 'stepper', 'tree', 'trace', 'difference', 'lessons', 'links', 'warnings', 'page')]
 IMPORT = re.compile(r"^import [^;]*? from '\.{1,2}/[^']*';\n", re.MULTILINE | re.DOTALL)
 NAME = re.compile(r'^(?:export )?(?:async )?(?:function\*?|class|const|let) (\w+)', re.MULTILINE)
 PART = re.compile('@([A-Z]+)@')

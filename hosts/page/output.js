@@ -1,5 +1,6 @@
 /**
- * Draws the output: the part around what was printed last, by pieces that are decoded once.
+ * Draws the output up to the step that is looked at, or where it is asked for all of it: the part around what was
+ * printed last, by pieces that are decoded once.
  * @module
  */
 
@@ -23,6 +24,10 @@ export class OutputView {
         this.pieces = [];
         find('output-before').addEventListener('click', () => this.turn(-MOST_PIECES));
         find('output-after').addEventListener('click', () => this.turn(MOST_PIECES));
+        find('show-all').addEventListener('change', () => {
+            this.draw();
+            this.reveal();
+        });
         this.forget();
     }
 
@@ -40,6 +45,11 @@ export class OutputView {
         this.show(bytes.length);
     }
 
+    /** How many bytes may be shown. */
+    get length() {
+        return find('show-all').checked ? this.bytes.length : this.printed;
+    }
+
     /**
      * Where a piece ends: not within a character.
      * @param {number} index
@@ -51,7 +61,7 @@ export class OutputView {
     }
 
     /**
-     * Shows which bytes are printed only later.
+     * Shows what is printed at a step.
      * @param {number} printed how many are printed so far
      * @returns {void}
      */
@@ -68,23 +78,24 @@ export class OutputView {
 
     /** @param {number} by how many pieces to go on, or back */
     turn(by) {
-        this.from = Math.max(0, Math.min(this.from + by, Math.floor((this.bytes.length - 1) / PIECE)));
+        this.from = Math.max(0, Math.min(this.from + by, Math.floor(Math.max(0, this.length - 1) / PIECE)));
         this.draw();
         this.box.scrollTop = by < 0 ? this.box.scrollHeight : 0;
     }
 
     draw() {
         const start = this.from && !this.isWhole ? this.endOf(this.from - 1) : 0;
-        const end = this.isWhole ? this.bytes.length : this.endOf(this.from + MOST_PIECES - 1);
+        const { length } = this;
+        const end = this.isWhole ? length : Math.min(length, this.endOf(this.from + MOST_PIECES - 1));
         const now = Math.max(start, Math.min(this.printed, end));
         const done = this.nodes(start, now);
         const later = element('span', 'later', ...this.nodes(now, end));
         this.box.replaceChildren(...done, ...(now < end ? [later] : []));
-        find('output-turn').hidden = !start && end === this.bytes.length;
+        find('output-turn').hidden = !start && end === length;
         find('output-where').textContent = `${several(start, 'byte')} before, ${
-            several(this.bytes.length - end, 'byte')} after`;
+            several(length - end, 'byte')} after`;
         find('output-before').setAttribute('aria-disabled', String(!start));
-        find('output-after').setAttribute('aria-disabled', String(end === this.bytes.length));
+        find('output-after').setAttribute('aria-disabled', String(end === length));
     }
 
     /**

@@ -9,7 +9,9 @@ import { counted, plainText, several } from './codes.js';
 import { element, find } from './dom.js';
 import { History } from './history.js';
 import { Lessons } from './lessons.js';
-import { makeLink, openFile, readLink, saveFile } from './links.js';
+import {
+    embedCode, makeLink, openFile, readLink, saveFile,
+} from './links.js';
 import { pause } from './machines.js';
 import { Stepper } from './stepper.js';
 import { traceOf } from './trace.js';
@@ -18,6 +20,8 @@ import { View, isFault } from './view.js';
 import { Warnings } from './warnings.js';
 
 const MOST_STEPS = 1000000000000;
+/** How many steps a script makes that comes by a link, before anyone asks for its run. */
+const MOST_UNASKED = 10000000;
 const LOOK = 'trac-t64-look';
 /** @type {Record<string, (limits: {cells: number, steps: number}) => string>} */
 const FATES = {
@@ -184,9 +188,10 @@ class Page {
 
     /**
      * Runs the script of the boxes.
-     * @param {number | null} step the one to show then; the last, where there is none
+     * @param {number | null} step the one to show then, or the last one in front of it; null for the script's begin
+     * @param {number} [most] after how many steps it is stopped
      */
-    async start(step) {
+    async start(step, most = Infinity) {
         if (this.state.kind === 'running' || find('run').disabled) return;
         const limits = limitsIn();
         if (!limits) return;
@@ -196,7 +201,7 @@ class Page {
         this.become({ kind: 'running', stopping });
         find('fate').textContent = 'Running …';
         try {
-            await this.make(limits, stopping.signal, step);
+            await this.make(limits, stopping.signal, step, most);
         } catch (error) {
             this.become({ kind: 'idle' });
             this.view.output.forget();
@@ -205,13 +210,20 @@ class Page {
         }
     }
 
+    /** Steps through the script of the boxes, with the focus on Step unless it was moved meanwhile. */
+    async startThrough() {
+        const at = document.activeElement;
+        await this.start(null);
+        if (this.run && document.activeElement === at) find('step').focus({ preventScroll: true });
+    }
+
     /** Leaves the run that is shown. */
     leave() {
         this.stepper.close();
         this.tree.close();
         this.warnings.close();
         this.boxes.mark(null);
-        find('verdict').textContent = '';
+        this.lessons.forgetVerdict();
         find('place').hidden = true;
         find('fate').className = '';
     }
@@ -220,12 +232,14 @@ class Page {
      * @param {{cells: number, steps: number}} limits
      * @param {AbortSignal} signal
      * @param {number | null} step
+     * @param {number} most
      */
-    async make(limits, signal, step) {
+    async make(limits, signal, step, most) {
         const { texts } = this.boxes;
         const input = bytesOfText(texts.script + texts.input);
         await this.unpacked;
         const history = await History.of(input, limits);
+        history.most = most;
         await history.run(signal, (done) => {
             find('fate').textContent = `Running: ${several(done, 'step')} …`;
         });
@@ -246,8 +260,8 @@ class Page {
         this.view.open(run.history, run.output);
         this.tree.open(run.history, run.input);
         this.marked = '';
-        this.stepper.open(run.history, step ?? run.history.end.step);
-        if (step !== null) this.bringMachine();
+        this.stepper.open(run.history, step);
+        if (step !== Infinity) this.bringMachine();
         this.showFate(run);
         this.lessons.check(plainText(run.output));
         if (isSame) this.lookAround(run);
@@ -257,9 +271,11 @@ class Page {
      * Lists what is suspicious in the script of a run.
      * @param {Run} run
      */
-    async lookAround({ texts, input, history }) {
+    async lookAround(run) {
+        const { texts, input, history } = run;
         try {
             await pause();
+            if (this.state.kind !== 'shown' || this.run !== run) return;
             await this.warnings.look(texts.script + texts.input, input, history);
         } catch {
             // a list that finds no memory is left away: the run itself is shown
@@ -281,7 +297,7 @@ class Page {
         const { fate, step, peak, consumed } = history.end;
         find('fate').className = isFault(fate) ? 'fault' : '';
         find('fate').replaceChildren(
-            FATES[fate](history.limits),
+            history.isCut ? 'Stopped: a link alone runs no further. Run makes all steps.' : FATES[fate](history.limits),
             element('small', '', `${several(step, 'step')}, peak ${several(peak, 'cell')}, ${
                 counted(consumed)} of ${several(input.length, 'byte')} read`));
         const last = isFault(fate) ? placeWords(run) : '';
@@ -337,7 +353,7 @@ class Page {
             this.boxes.fill(link.texts);
             for (const [id, value] of Object.entries(link.limits)) find(id).value = value;
             tell('The script is from the link. Run runs it.');
-            if (link.step !== null) this.start(link.step);
+            if (link.step !== null) this.start(link.step, MOST_UNASKED);
         } catch {
             tell('The script of this link can’t be read.');
         }
@@ -345,8 +361,17 @@ class Page {
     }
 
     async link() {
-        tell(await makeLink(this.boxes.texts, this.state.kind === 'shown' ? this.stepper.at : null));
+        tell(await makeLink(this.boxes.texts, this.shownStep));
         this.boxes.save();
+    }
+
+    async embed() {
+        tell(await embedCode(this.boxes.texts, this.shownStep));
+    }
+
+    /** The step that is shown of the script of the boxes, or null. */
+    get shownStep() {
+        return this.state.kind === 'shown' ? this.stepper.at : null;
     }
 
     /** Opens the file that was chosen. */
@@ -372,7 +397,8 @@ class Page {
     onKey(event) {
         if (event.key === 'Enter' && (event.ctrlKey || event.metaKey)) {
             event.preventDefault();
-            this.start(event.shiftKey ? 0 : null);
+            if (event.shiftKey) this.startThrough();
+            else this.start(Infinity);
             return;
         }
         if (event.key === 'Escape') this.stepper.stopSearch();
@@ -384,6 +410,9 @@ class Page {
             ArrowRight: event.shiftKey ? 'call-step' : 'step',
             Home: 'first',
             End: 'last',
+            s: 'step',
+            n: 'over',
+            f: 'finish',
         }[event.key];
         if (move) {
             event.preventDefault();
@@ -395,10 +424,11 @@ class Page {
     listen() {
         /** @type {Record<string, () => void>} */
         const acts = {
-            run: () => this.start(null),
-            through: () => this.start(0),
+            run: () => this.start(Infinity),
+            through: () => this.start(null),
             stop: () => this.state.kind === 'running' && this.state.stopping.abort(),
             link: () => this.link(),
+            embed: () => this.embed(),
             place: () => this.selectPlace(),
             open: () => find('file').click(),
             save: () => saveFile('script.trac', bytesOfText(this.boxes.texts.script)),
@@ -437,8 +467,8 @@ class Page {
         const isEmbedded = new URLSearchParams(window.location.search).has('embed');
         document.documentElement.classList.toggle('embed', isEmbedded);
         if (this.boxes.load()) this.lessons.recognise(this.boxes.texts);
-        else if (!this.fromLink()) this.lessons.choose(this.lessons.first);
-        if (isEmbedded) this.start(readLink()?.step ?? 0);
+        else if (!this.fromLink() && !this.lessons.fromAddress()) this.lessons.choose(this.lessons.first);
+        if (isEmbedded) this.start(readLink()?.step ?? null, MOST_UNASKED);
     }
 }
 

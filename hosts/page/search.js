@@ -97,16 +97,44 @@ export function nextNamed(history, name, signal) {
 }
 
 /**
+ * The end of the call that is the innermost one when so many are open, unless the string is over before.
+ * @param {History} history
+ * @param {number} depth
+ * @param {AbortSignal} signal
+ */
+async function endAt(history, depth, signal) {
+    const { machine, shown } = history;
+    const { emptied } = shown;
+    if (depth < 1 || machine.rule() === 'idling') return null;
+    const found = await nextCall(history, () => shown.emptied > emptied || machine.callCount() <= depth, signal);
+    return found !== null && shown.emptied === emptied && machine.callCount() === depth ? found : null;
+}
+
+/**
  * The end of the innermost call that is open, or where that is the next step, of the one around it.
  * @param {History} history
  * @param {AbortSignal} signal
  */
-export async function endOfCall(history, signal) {
+export function endOfCall(history, signal) {
     const isEnd = history.machine.rule() === 'end of call';
-    const depth = history.machine.callCount() - (isEnd ? 1 : 0);
-    if (depth < 1) return null;
-    const found = await nextCall(history, ({ machine }) => machine.callCount() <= depth, signal);
-    return found !== null && history.machine.callCount() === depth ? found : null;
+    return endAt(history, history.machine.callCount() - (isEnd ? 1 : 0), signal);
+}
+
+/**
+ * Whether the next step opens a call.
+ * @param {History} history
+ */
+export function opensCall({ machine }) {
+    return ['active call', 'neutral call'].includes(machine.rule());
+}
+
+/**
+ * The end of the call that the next step opens.
+ * @param {History} history
+ * @param {AbortSignal} signal
+ */
+export function endOfOpened(history, signal) {
+    return endAt(history, history.machine.callCount() + 1, signal);
 }
 
 /**

@@ -8,8 +8,9 @@ import { find } from './dom.js';
 import { MOST_LISTED } from './history.js';
 import { pause } from './machines.js';
 import {
-    callBefore, endOfCall, nextCall, nextChange, nextNamed, nextPrinting,
+    callBefore, endOfCall, endOfOpened, nextCall, nextChange, nextNamed, nextPrinting, opensCall,
 } from './search.js';
+import { stepRead } from './view.js';
 
 /** @typedef {import('./history.js').History} History */
 /** @typedef {(history: History, signal: AbortSignal) => number | null | Promise<number | null>} Search */
@@ -58,9 +59,11 @@ export class Stepper {
         /** @type {Record<string, () => void>} */
         this.moves = {
             first: () => this.go(0),
-            back: () => this.go(this.at - 1),
-            step: () => this.go(this.at + 1),
+            back: () => this.goBack(),
+            step: () => this.goOn(),
             last: () => this.go(this.history.end.step),
+            over: () => this.goOver(),
+            finish: () => this.search(JUMPS.end.find, JUMPS.end.none),
             'call-back': () => this.goCallBack(),
             'call-step': () => this.goNextCall(),
         };
@@ -68,7 +71,8 @@ export class Stepper {
     }
 
     listen() {
-        for (const id of Object.keys(this.moves)) find(id).addEventListener('click', () => this.press(id));
+        // to finish a call there is a key alone
+        for (const id of Object.keys(this.moves)) find(id)?.addEventListener('click', () => this.press(id));
         find('slider').addEventListener('input', () => this.press('slider'));
         find('calls').addEventListener('input', () => this.press('calls'));
         for (const id of ['jump', 'stop-at']) find(id).addEventListener('change', () => this.showFields());
@@ -78,6 +82,7 @@ export class Stepper {
                 if (event.key === 'Enter' && !event.ctrlKey && !event.metaKey) this.jump();
             });
         }
+        find('fold').addEventListener('change', () => this.history && this.show());
         find('play').addEventListener('click', () => (this.timer ? this.halt() : this.play()));
         this.showFields();
     }
@@ -85,14 +90,14 @@ export class Stepper {
     /**
      * Shows a run from a step on.
      * @param {History} history
-     * @param {number} step
+     * @param {number | null} step null for the first character of the script
      */
     open(history, step) {
         this.close();
         this.history = history;
         find('slider').max = String(history.end.step);
         this.list(this.leaving.signal);
-        this.go(step);
+        this.go(step ?? ((find('fold').checked && history.readFrom(0)) || 0));
     }
 
     /** Leaves the run. */
@@ -132,7 +137,7 @@ export class Stepper {
      * @param {string} id
      */
     press(id) {
-        if (!this.history || isOff(id)) return;
+        if (!this.history || (find(id) && isOff(id))) return;
         this.halt();
         if (id === 'slider') this.go(Number(find('slider').value));
         else if (id === 'calls') this.go(this.history.calls.at(Number(find('calls').value)));
@@ -148,11 +153,23 @@ export class Stepper {
         this.searching.abort();
         this.at = Math.max(0, Math.min(step, history.end.step));
         if (history.approach(this.at)) this.show();
-        else this.goOn(this.at);
+        else this.goFar(this.at);
+    }
+
+    /** Goes a step on, or where the steps of the idling procedure are one, behind the string that it reads. */
+    goOn() {
+        const isThere = this.history.step === this.at;
+        this.go((isThere ? stepRead(this.history) : null) ?? this.at + 1);
+    }
+
+    /** Goes a step back, or to the begin of a reading that is one step. */
+    goBack() {
+        const begin = find('fold').checked ? this.history.readUpTo(this.at) : null;
+        this.go(begin ?? this.at - 1);
     }
 
     /** @param {number} step */
-    async goOn(step) {
+    async goFar(step) {
         const { signal } = this.begin(`Going to step ${counted(step)} …`);
         const { history } = this;
         let isThere = false;
@@ -206,7 +223,7 @@ export class Stepper {
         slider.value = String(at);
         slider.setAttribute('aria-valuetext', `step ${counted(at)} of ${counted(end.step)}`);
         for (const id of ['first', 'back']) turnOff(id, at === 0);
-        for (const id of ['step', 'last']) turnOff(id, at === end.step);
+        for (const id of ['step', 'over', 'last']) turnOff(id, at === end.step);
         this.showCall();
         if (this.timer && (at === end.step || this.isStop())) this.halt();
         this.onStep();
@@ -241,6 +258,12 @@ export class Stepper {
         const count = calls.upTo(this.at);
         if (count < calls.length) this.go(calls.at(count) + beyond);
         else this.search((history, signal) => nextCall(history, () => true, signal), 'No call comes any more.', beyond);
+    }
+
+    /** Goes over the call that the next step opens, to its value, or makes a step that opens none. */
+    goOver() {
+        if (opensCall(this.history)) this.search(endOfOpened, 'This call is never performed.', 1);
+        else this.goOn();
     }
 
     /** Shows the fields that what is chosen needs. */
@@ -286,7 +309,7 @@ export class Stepper {
     tick() {
         if (find('machine').getAttribute('aria-busy') === 'true') return;
         if (find('pace').value === 'calls') this.goNextCall(1);
-        else this.go(this.at + 1);
+        else this.goOn();
     }
 
     /** Whether the last step is one to stop at. */

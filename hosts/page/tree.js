@@ -95,7 +95,10 @@ export class CallTree {
         const { history } = this;
         const from = Math.max(0, index - AROUND);
         const to = Math.min(history.calls.length, index + AROUND);
-        this.walker ??= new Walker(await Session.open(history.limits), this.input);
+        const { input } = this;
+        const session = this.walker?.session ?? await Session.open(history.limits);
+        if (signal.aborted) return;
+        this.walker ??= new Walker(session, input);
         const steps = Array.from({ length: to - from }, (_, at) => history.calls.at(from + at));
         await this.read(steps, signal);
         if (signal.aborted) return;

@@ -5,12 +5,12 @@
  */
 
 import {
-    RULES, callAhead, counted, lineOf, several, shortName,
+    RULES, counted, lineOf, several, shortName,
 } from './codes.js';
 import { showBlock } from './block.js';
-import { find } from './dom.js';
+import { find, withBlanks } from './dom.js';
 import { FormsView, changedForms } from './forms.js';
-import { callWords } from './functions.js';
+import { callWords, nameWords } from './functions.js';
 import { OutputView } from './output.js';
 import { MOST_ACTIVE, NeutralView, showActive } from './strings.js';
 
@@ -27,12 +27,26 @@ export function isFault(fate) {
 }
 
 /**
+ * The step behind the string that the next step reads, where the steps of the idling procedure are folded into one.
+ * @param {History} history
+ */
+export function stepRead(history) {
+    const isFolded = find('fold').checked && history.machine.rule() === 'idling';
+    return isFolded ? history.readFrom(history.step) : null;
+}
+
+/**
  * What the next step does, in words.
  * @param {History} history
  * @param {string} rule
  */
 function ruleWords(history, rule) {
-    const { machine } = history;
+    const { machine, end } = history;
+    const read = stepRead(history);
+    if (read !== null) {
+        return `The active string is empty, so the string is read: the idling procedure #(ps,#(rs)) is loaded, and ${
+            read === end.step && end.fate === 'input ended' ? 'there is no more input' : 'its rs reads the input'}.`;
+    }
     if (rule === 'end of call') return performedWords(history);
     if (rule === 'argument' && !machine.callCount()) return 'No call is open: the comma is deleted.';
     if (machine.drops()) return 'The parenthesis has no matching one: the active string becomes empty.';
@@ -45,16 +59,13 @@ function ruleWords(history, rule) {
  */
 function performedWords(history) {
     const { machine } = history;
-    const call = callAhead(machine);
+    const call = history.coming();
     // the allowance is used up, so there is no next step
     if (!call && machine.callCount()) return RULES['end of call'];
     if (!call) return 'No call is open: the right parenthesis is deleted.';
     const { given } = call;
-    const name = call.words[0] === '' ? 'a call without a name' : shortName(call.words[0]);
-    const value = history.comingValue();
-    return `The innermost open call is performed: ${name}${
-        given ? ` with ${several(given, 'argument')}` : ''}. ${
-        callWords(call.words, value && lineOf(value.front))}`;
+    return `The innermost open call is performed: ${nameWords(call.words[0], 'a call without a name')}${
+        given ? ` with ${several(given, 'argument')}` : ''}. ${callWords(history, call)}`;
 }
 
 /**
@@ -63,7 +74,7 @@ function performedWords(history) {
  */
 function valueWords(value) {
     if (!value) return '';
-    const name = value.words[0] ? shortName(value.words[0]) : 'The call';
+    const name = nameWords(value.words[0], 'The call');
     if (!value.length) return `${name} gave the null text.`;
     const text = shortName(lineOf(value.front));
     return value.isActive
@@ -75,8 +86,9 @@ function valueWords(value) {
  * The words in front of the rule where the run is over.
  * @param {History} history
  */
-function overWords({ step, end }) {
+function overWords({ step, end, isCut }) {
     if (step < end.step) return '';
+    if (isCut) return 'The run was stopped here: a link alone runs no further.';
     return {
         halted: 'The run is over: the script called hl.',
         'input ended': 'The run is over: there is no more input.',
@@ -92,9 +104,6 @@ export class View {
         this.neutral = new NeutralView();
         this.forms = new FormsView();
         this.output = new OutputView();
-        /** @type {import('../js/trac.mjs').StoredForm[]} */
-        this.stored = [];
-        this.storedAt = -1;
     }
 
     /**
@@ -103,7 +112,7 @@ export class View {
      */
     open(history, output) {
         this.history = history;
-        this.storedAt = -1;
+        this.forms.open();
         this.output.open(output);
     }
 
@@ -127,18 +136,15 @@ export class View {
         this.showWords(rule, ruleWords(history, rule), valueWords(value));
     }
 
-    /** Shows the forms, read anew only where they may be others than those that are shown. */
+    /** Shows the forms, and which of them the last step changed. */
     showForms() {
         const { history } = this;
-        const { step, performed, machine } = history;
-        const isNext = this.storedAt === step - 1;
-        const before = isNext && performed?.forms ? this.stored : performed?.forms;
-        if (!(isNext && !performed?.forms) && this.storedAt !== step) this.stored = machine.forms();
-        this.storedAt = step;
-        const changed = before ? changedForms(before, this.stored) : new Set();
-        this.changes = before ? changed.size > 0 || before.length !== this.stored.length : false;
-        this.forms.show(this.stored, changed);
-        const { meta } = machine;
+        const forms = history.forms();
+        const before = history.performed?.forms;
+        const changed = before ? changedForms(before, forms) : new Set();
+        this.changes = before ? changed.size > 0 || before.length !== forms.length : false;
+        this.forms.show(forms, changed);
+        const { meta } = history.machine;
         find('meta').textContent = meta > 32 && meta < 127
             ? `meta character ${String.fromCharCode(meta)}` : `meta character is byte ${meta}`;
     }
@@ -154,9 +160,9 @@ export class View {
         const isDone = over && (fate === 'halted' || fate === 'input ended');
         find('rule-name').textContent = isDone ? '' : `${rule}.`;
         find('rule-name').hidden = isDone;
-        find('rule-says').textContent = isDone ? over : [words, over].filter(Boolean).join(' ');
+        find('rule-says').replaceChildren(...withBlanks(isDone ? over : [words, over].filter(Boolean).join(' ')));
         find('rule-says').className = over && isFault(fate) ? 'late' : '';
-        find('gave').textContent = gave;
+        find('gave').replaceChildren(...withBlanks(gave));
         find('count').textContent = `${counted(this.history.step)} of ${several(step, 'step')} done`;
     }
 }

@@ -5,7 +5,9 @@
 
 import { check } from '../js/trac.mjs';
 import { several } from './codes.js';
-import { button, element, find } from './dom.js';
+import {
+    button, element, find, withBlanks,
+} from './dom.js';
 
 /**
  * So many steps are looked at, or a sixteenth of those that the run made before the page did its other work, where
@@ -15,6 +17,9 @@ const MOST_CHECKED = 50000;
 /** The cells of the largest block that is looked at: to clear a larger one takes long. */
 const MOST_CLEARED = 2 ** 20;
 const MOST_PLACES = 200;
+/** What stands in a line of the engine as the script has it: a name, or an argument. */
+const AS_WRITTEN = new RegExp('((?<=^in the value of ).*?(?=, column \\d)|(?<=(?:has the name|leaves out the function'
+    + '|no notice of the argument|given, of the form|in the name of a call:) ).*$)', 's');
 
 /**
  * Where a place stands in a text, in the units of a string.
@@ -37,11 +42,14 @@ export class Warnings {
         this.onPlace = onPlace;
         /** Which look is the last that was asked for. */
         this.looks = 0;
+        /** Whether the texts aren't those any more that are looked at. */
+        this.isOutdated = false;
     }
 
     /** Shows nothing. */
     close() {
         this.looks += 1;
+        this.isOutdated = false;
         find('suspicions').hidden = true;
         find('warnings').replaceChildren();
     }
@@ -65,6 +73,7 @@ export class Warnings {
             found.warnings.length > MOST_PLACES && `The first ${MOST_PLACES} of ${found.warnings.length}.`,
             isPart && `The first ${several(most, 'step')} were looked at.`,
         ].filter(Boolean).join(' ');
+        if (this.isOutdated) this.outdate();
         find('suspicions').hidden = false;
     }
 
@@ -73,13 +82,16 @@ export class Warnings {
      * @param {import('../js/trac.mjs').Warning} warning
      */
     item(text, { line, column, text: words }) {
+        const parts = words.split(AS_WRITTEN)
+            .map((part, index) => (index % 2 ? element('q', '', ...withBlanks(part)) : part));
         return element('li', '', button(`Line ${line}, column ${column}`, () => {
             this.onPlace(placeIn(text, line, column));
-        }), ` ${words}`);
+        }), ' ', ...parts);
     }
 
-    /** Takes the buttons away, where the texts aren't those any more that were looked at. */
+    /** Takes the buttons away: the texts aren't those any more that are looked at. */
     outdate() {
+        this.isOutdated = true;
         for (const each of find('warnings').querySelectorAll('button')) {
             each.replaceWith(element('span', '', each.textContent ?? ''));
         }
