@@ -47,9 +47,11 @@ class Lesson(unittest.TestCase):
         self.assertEqual(sum(int(minutes) for minutes, _ in rows), 90)
         self.assertEqual([part for _, part in rows if part], re.findall(r'^## (.*)$', text, re.MULTILINE))
 
-    def test_the_buttons_that_it_names_are_on_the_page(self):
+    def test_the_buttons_and_switches_that_it_names_are_on_the_page(self):
         with open(os.path.join(TOP, 'hosts', 'page', 'index.html'), encoding='utf-8') as page:
-            buttons = re.findall(r'<button[^>]*>(.*?)</button>', page.read())
+            source = page.read()
+        buttons = re.findall(r'<button[^>]*>(.*?)</button>', source)
+        buttons += re.findall(r'<label class="choice">.*?<span>(.*?)</span>', source)
         named = set(re.findall(r'\*\*(.*?)\*\*', read('LESSON.md')))
         self.assertGreaterEqual(len(named), 6)
         self.assertLessEqual(named, set(buttons))

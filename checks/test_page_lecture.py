@@ -637,7 +637,7 @@ class Study(Lecture):
     def test_exercises(self):
         self.choose('1. A greeting', 'exercise')
         self.assertEqual(self.value('script'), '')
-        self.assertIn('The comma is part of it.', self.text('task-words'))
+        self.assertIn('The comma is part of the line.', self.text('task-words'))
         self.put('script', "#(ps,Hello)'")
         self.run_it()
         self.assertEqual(self.text('verdict'), 'Not yet: yours lacks “, world!” at the end of line 1, column 6.')
