@@ -43,6 +43,7 @@ class Steps(Page):
         self.wait_for_calls()
         self.assertEqual(self.text('listed'), f'{len(calls):,}')
         last = len(lines)
+        self.find('fold').click()
         for name, step in (('first', 0), ('step', 1), ('step', 2), ('back', 1),
                            ('call-step', calls[0]), ('call-step', calls[1]), ('call-back', calls[0]),
                            ('last', last), ('back', last - 1), ('call-back', calls[-2])):
@@ -81,6 +82,7 @@ class Traces(Saving):
         script = "#(ds,a,x)'#(ps,one)#(cl,a)'#(ds,a,y)#(ps,two)#(ds,a,y)'"
         lines = traced(whole_trace(script.encode())[0])
         self.through(script)
+        self.find('show-all').click()
         self.jump('change')
         self.assertEqual(self.rule(), 'end of call')
         self.assertEqual(self.text('gave'), 'ds gave the null text.')
