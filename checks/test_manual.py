@@ -1,5 +1,5 @@
-"""Each script of the manual, of the idioms and of the lesson, through the built program: it writes what the page
-prints after it."""
+"""Each script of the manual, of the idioms, of the lesson and of the page on old listings, through the built program:
+it writes what the page prints after it."""
 import os
 import re
 import subprocess
@@ -20,7 +20,7 @@ def read(page='LANGUAGE.md'):
 
 
 # The pages, and the least number of scripts on them whose output is shown.
-PAGES = {'LANGUAGE.md': 41, 'IDIOMS.md': 8, 'LESSON.md': 10}
+PAGES = {'LANGUAGE.md': 41, 'IDIOMS.md': 8, 'LESSON.md': 10, 'LISTINGS.md': 4}
 
 
 class Manual(unittest.TestCase):
