@@ -197,7 +197,7 @@ class Launcher(unittest.TestCase):
         self.assertEqual(started.wait(timeout=60), 3)
         os.close(writing)
         self.assertEqual(os.read(reading, 1000).decode(),
-                         'trac: building the program in C, once, in some four seconds ..\r\n')
+                         'trac: building the program in C, once, in some three seconds ..\r\n')
         os.close(reading)
 
     def test_a_proved_program_that_is_newest(self):
