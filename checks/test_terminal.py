@@ -348,6 +348,23 @@ class AtATerminal(unittest.TestCase):
             self.assertEqual(typist.wait('\n> '), "#(eq,##(cl,A),,none,b)'\nnone\n> ")
             self.end(typist)
 
+    def test_a_check_is_stopped(self):
+        with tempfile.TemporaryDirectory() as folder:
+            script = os.path.join(folder, 'script')
+            with open(script, 'w', encoding='utf-8') as file:
+                file.write("#(ds,A,(#(cl,A)))#(cl,A)'")
+            typist = self.begin('--steps', '1000000000000')
+            typist.type("#(ds,A,b)'\n")
+            typist.wait('\n> ')
+            typist.type(f':check {script}\n')
+            typist.wait('script\n')
+            time.sleep(0.5)
+            typist.type('\x03')
+            typist.wait('> ')
+            typist.type("##(cl,A)'\n")
+            self.assertEqual(typist.wait('\n> '), "##(cl,A)'\nb\n> ")
+            self.end(typist)
+
 
 class Edited(Room):
     """Where lines are edited by libedit: the screens of sessions, as they look."""

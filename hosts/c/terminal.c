@@ -5,6 +5,7 @@
 
 #include <fcntl.h>
 #include <locale.h>
+#include <sys/wait.h>
 
 /* The bytes of a read; the room beside a print, to measure it once; the longest end of a line that is kept in mind. */
 enum { CHUNK = 8192, MORE = 16, LONGEST_END = 4000 };
@@ -136,15 +137,21 @@ static void note_place(source *from) {
     from->string_column = column;
 }
 
-/* Tells what is suspicious in a file, which is run over a block of its own. */
+/* Tells what is suspicious in a file. Another process does it, over a block of its own, which ^C ends. */
 static void check_one(char *name) {
     const size_t cells = (size_t)options[CELLS].number;
-    trac_cell *const block = (trac_cell *)calloc(cells, sizeof *block);
+    const pid_t child = fork();
+    trac_cell *const block = child ? NULL : (trac_cell *)calloc(cells, sizeof *block);
+    if (child == 0)
+        (void)signal(SIGINT, SIG_DFL);
     if (block)
         (void)check_files(&name, 1, block, cells, options[ALLOWANCE].number);
-    else
+    else if (child <= 0)
         (void)say_line(DONE, "trac_terminal: no memory to check a file\n");
-    free(block);
+    if (child == 0)
+        _exit(DONE);
+    while (waitpid(child, NULL, 0) < 0 && errno == EINTR)
+        continue;
     is_interrupted = 0;
 }
 
