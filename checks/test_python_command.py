@@ -1,5 +1,6 @@
 """python -m trac_t64: cases of conformance/ and the rows of the program, places in files, devices that fail, and a
 session at a terminal."""
+import glob
 import os
 import pty
 import re
@@ -15,6 +16,7 @@ import pytest
 import python_package
 from test_program import REFUSED, ROWS
 from test_python import CASES, HELLO
+from trac import TOP
 
 LINES = re.compile(rb'(?:<stdin>: (\d+) steps, peak (\d+) cells\n)?(?:<stdin>:\d+:\d+: (.*)\n)?')
 LOOP = "#(ds,L,(#(cl,L)))#(cl,L)'"
@@ -113,6 +115,25 @@ def test_words_that_are_refused(forked, command, python_site):
         done = subprocess.run([sys.executable, '-m', 'trac_t64', '--unknown'], stderr=full, check=False,
                               env=python_package.environment(python_site))
     assert done.returncode == 2
+
+
+def test_a_check(command, written):
+    """The same lines and statuses as those of `trac_terminal --check`."""
+    terminal = os.path.join(TOP, 'build', 'trac_terminal')
+    broken = sorted(glob.glob(os.path.join(TOP, 'examples', 'broken', '*.trac')))
+    written(headed="#!/usr/bin/env x'\n#(pss,a)'\n#(ps,never)'", fine="#(ps,a)'", endless=LOOP)
+    for words in ([*broken, '--steps', '100000'], ['headed'], ['fine'], ['fine', 'headed', 'nowhere'],
+                  ['headed', 'endless'], ['headed', '--cells', '10']):
+        done = subprocess.run([terminal, '--check', *words], capture_output=True, check=False)
+        output, lines, status = command('--check', *words)
+        assert (output, status) == (done.stdout, done.returncode), words
+        assert lines.replace('trac_t64', 'trac_terminal') == done.stderr.decode(), words
+    assert command('--check', '-e', "#(pss,a)'") == (b'-e: line 1, column 1: no function has the name pss\n', '', 7)
+    assert command('--check', script=b"#(pss,a)'")[::2] == (
+        b'<stdin>: line 1, column 1: no function has the name pss\n', 7)
+    for word in ('-i', '--report'):
+        output, lines, status = command('--check', word, 'fine')
+        assert (output, status) == (b'', 2) and f'--check cannot be used with {word}' in lines
 
 
 def test_help(command):

@@ -105,6 +105,18 @@ def test_a_table_of_steps(kernel):
     assert table.splitlines()[-1].split()[:3] == ['27', 'end', 'of'] and 'a\\\\' in table
 
 
+def test_what_is_suspicious(kernel):
+    run(kernel, "%reset\n#(ds,A,kept)'")
+    seen, status = run(kernel, "%check\n#(ps,never)'\n#(pss,a)#(ds,A,lost)'")
+    assert (seen, status) == ([('table', 'line  column  what is suspicious\n'
+                                         '3     1       no function has the name pss')], 'ok')
+    assert run(kernel, "%check\n#(ps,a)'") == ([('stream', 'nothing is suspicious\n')], 'ok')
+    assert run(kernel, '%steps 9\n%check\n' + FOREVER) == (
+        [('stream', 'allowance used up: 9 steps, peak 32 cells\n')], 'ok')
+    run(kernel, '%steps 1000000')
+    assert run(kernel, "#(ps,#(cl,A))'") == ([('stream', 'kept')], 'ok')
+
+
 def test_an_interrupt(kernel):
     manager, client = kernel
     run(kernel, "%reset\n%steps 1000000000000\n#(ds,A,kept)'")
@@ -131,7 +143,7 @@ def test_what_can_stand_at_the_cursor(kernel, trac_t64):
     assert matches('\u20ac##(', 'x') == (sorted(functions), 4)
     assert matches('#(cl,n') == (['nine', 'north'], 5) and matches('#(DD,s') == (['south'], 5)
     assert matches('#(ps,n') == ([], 6) and matches('#(cl,north,n') == ([], 12) and matches('n') == ([], 1)
-    assert matches('%t') == (['%trace'], 0)
+    assert matches('%t') == (['%trace'], 0) and matches('%c') == (['%cells', '%check'], 0)
     told = client.inspect('#(ps,#(cl,north))', 9, reply=True, timeout=10)['content']
     assert told['data'] == {'text/plain': '#(cl,N,X1,X2,..): call'}
     for code, status in (("#(ps,a)'", 'complete'), ("#(ps,a)'\n", 'complete'), ('#(ps,a)', 'incomplete'),

@@ -1,4 +1,5 @@
-"""python -m trac_t64: runs scripts, with the words, the lines and the statuses of `trac`."""
+"""python -m trac_t64: runs scripts, with the words, the lines and the statuses of `trac`, or checks them, with those
+of `trac_terminal --check`."""
 from __future__ import annotations
 
 import argparse
@@ -13,12 +14,12 @@ from typing import Any, NamedTuple, NoReturn
 
 from ._engine import MOST_CELLS
 from .reading import Reading, fault_words, is_idle
-from .session import DEFAULT_CELLS, DEFAULT_STEPS, Fate, Session, shown_name
+from .session import DEFAULT_CELLS, DEFAULT_STEPS, Fate, Session, check, shown_name
 
 PROGRAM = 'trac_t64'
 MOST_STEPS = 1000000000000
 CHUNK = 65536
-DONE, WORKSPACE, USAGE, STEPS, INPUT_FAILED, OUTPUT_FAILED, NO_MEMORY = range(7)
+DONE, WORKSPACE, USAGE, STEPS, INPUT_FAILED, OUTPUT_FAILED, NO_MEMORY, SUSPICIOUS = range(8)
 STATUS = {Fate.WORKSPACE: WORKSPACE, Fate.STEPS: STEPS}
 
 
@@ -62,6 +63,8 @@ def parser() -> Parser:
                       help='a script; a first line that begins with #! is passed over')
     made.add_argument('-e', metavar='SCRIPT', dest='scripts', action='append', default=[], help='a script, given here')
     made.add_argument('-i', dest='stays', action='store_true', help='stay in a session behind them')
+    made.add_argument('--check', action=Once, nargs=0,
+                      help='tell what is suspicious in each script, which is run by itself')
     made.add_argument('--cells', metavar='N', action=Once, type=number_to(MOST_CELLS),
                       help=f'cells of the workspace, 1 to {MOST_CELLS} [default: {DEFAULT_CELLS}]')
     made.add_argument('--steps', metavar='N', action=Once, type=number_to(MOST_STEPS),
@@ -185,6 +188,45 @@ def run_all(session: Session, given: argparse.Namespace) -> int:
     return status
 
 
+# ---- A check.
+
+
+def script_in(file: io.BufferedReader) -> bytes:
+    """The script in a file. Of a first line that begins with `#!` the end stays, so that the others keep their
+    numbers."""
+    return re.sub(rb'\A#![^\n]*', b'', file.read())
+
+
+def check_script(name: str, script: bytes, cells: int, steps: int) -> int:
+    """Tells on standard output what is suspicious in a script, and gives the status."""
+    found = check(script, cells, steps)
+    lines = [f'line {each.line}, column {each.column}: {each.text}' for each in found.suspicions]
+    lines += [found.fault] if found.fault else []
+    write_all(1, ''.join(f'{shown_name(name)}: {line}\n' for line in lines).encode(errors='surrogateescape'))
+    return STATUS.get(found.fate, SUSPICIOUS if lines else DONE)
+
+
+def check_file(name: str, cells: int, steps: int) -> int:
+    """Checks the script in a file, and gives the status."""
+    try:
+        with open(name, 'rb') as file:
+            script = script_in(file)
+    except OSError as error:
+        say(f"{PROGRAM}: can't read {shown_name(name)}: {error.strerror}")
+        return INPUT_FAILED
+    return check_script(name, script, cells, steps)
+
+
+def check_all(given: argparse.Namespace, cells: int, steps: int) -> int:
+    """Checks the scripts, each by itself, and gives the worst status: any other is worse than that something is
+    suspicious."""
+    statuses = [check_file(name, cells, steps) for name in given.files]
+    statuses += [check_script('-e', os.fsencode(script), cells, steps) for script in given.scripts]
+    if not statuses:
+        statuses.append(check_script('<stdin>', sys.stdin.buffer.read() if sys.stdin else b'', cells, steps))
+    return max(statuses, key=lambda status: (status != DONE, status != SUSPICIOUS, status))
+
+
 # ---- A session at a terminal.
 
 
@@ -277,9 +319,11 @@ def converse(session: Session) -> int:
 
 def perform(given: argparse.Namespace) -> int:
     """Does what the words ask for, and gives the status."""
-    cells = given.cells or DEFAULT_CELLS
+    cells, steps = given.cells or DEFAULT_CELLS, given.steps or DEFAULT_STEPS
     try:
-        with Session(cells, given.steps or DEFAULT_STEPS) as session:
+        if given.check:
+            return check_all(given, cells, steps)
+        with Session(cells, steps) as session:
             status = run_all(session, given)
             return converse(session) if given.stays else status
     except MemoryError:
@@ -291,6 +335,8 @@ def main(words: Sequence[str] | None = None) -> int:
     """Runs the program with these words, and gives its status."""
     made = parser()
     given = made.parse_intermixed_args(words)
+    if given.check and (given.stays or given.report):
+        made.error(f'argument --check cannot be used with {"-i" if given.stays else "--report"}')
     try:
         if not given.help:
             return perform(given)

@@ -20,7 +20,7 @@ from typing import Any
 from ._engine import MOST_CELLS, VERSION
 from .functions import FUNCTIONS, names_a_form
 from .reading import Reading, fault_words, is_idle
-from .session import DEFAULT_CELLS, DEFAULT_STEPS, MOST_STEPS, Fate, Session, shown
+from .session import DEFAULT_CELLS, DEFAULT_STEPS, MOST_STEPS, Fate, Session, check, shown
 
 try:
     from IPython.core.error import StdinNotImplementedError
@@ -39,6 +39,7 @@ COMMANDS = {
     '%steps N': 'so many steps are allowed to each cell',
     '%reset': 'a new session, without forms',
     '%trace [N]': 'a table of the first N steps of the script below',
+    '%check': 'a table of what is suspicious in the script below, which is run by itself, without forms',
     '%help': 'these commands, and the functions',
 }
 STYLE = '<style>.trac th, .trac td { text-align: left !important; white-space: pre }</style>'
@@ -141,6 +142,8 @@ class TracKernel(Kernel):
         # the steps that a cell shows in a table, and how many it shows at the most
         self._rows: list[Sequence[str]] = []
         self._most_rows = 0
+        # whether a cell's script is checked
+        self._is_checked = False
 
     # ---- What is shown.
 
@@ -176,6 +179,8 @@ class TracKernel(Kernel):
             self._steps = number_of(command, words, MOST_STEPS)
         elif command == '%trace':
             self._most_rows = number_of(command, words or [str(ROWS)], MOST_STEPS)
+        elif command == '%check' and not words:
+            self._is_checked = True
         elif command == '%reset' and not words:
             self._open(self._session.cells)
         elif command == '%forms' and not words:
@@ -224,12 +229,24 @@ class TracKernel(Kernel):
             at = 'line {}, column {}'.format(*reading.place(session))
             raise Fault(session.fate.value, f'{at}: {words}')
 
+    def _check_script(self, script: str, line: int) -> None:
+        """Shows what is suspicious in a script that begins in this line of its cell."""
+        found = check(script.encode(errors='replace'), self._session.cells, self._steps)
+        rows = [(str(each.line + line - 1), str(each.column), each.text) for each in found.suspicions]
+        if rows:
+            self._send_table(('line', 'column', 'what is suspicious'), rows)
+        if found.fault or not rows:
+            self._send_text((found.fault or 'nothing is suspicious') + '\n')
+
     def _run_cell(self, code: str) -> None:
-        """Runs the commands and the script of a cell, and shows the steps that it asked for."""
-        self._rows, self._most_rows = [], 0
+        """Runs the commands and the script of a cell, or checks the script, and shows what it asked for."""
+        self._rows, self._most_rows, self._is_checked = [], 0, False
         commands, line, script = parted(code)
         for command in commands:
             self._command(command)
+        if self._is_checked:
+            self._check_script(script, line)
+            return
         printer = Printer(self._send_text)
         try:
             if script.strip():

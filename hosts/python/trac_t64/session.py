@@ -8,7 +8,7 @@ import re
 import threading
 from collections.abc import Callable, Iterable, Iterator
 from concurrent.futures import Future
-from dataclasses import dataclass
+from dataclasses import dataclass, field
 from types import TracebackType
 from typing import NamedTuple, ParamSpec, SupportsIndex, TypeAlias, TypeVar
 
@@ -85,7 +85,7 @@ class Suspicion(NamedTuple):
 
 @dataclass(frozen=True)
 class Check:
-    """What a check of a script came to."""
+    """What a check of a script came to. It is true where nothing is suspicious."""
 
     suspicions: list[Suspicion]
     """What is suspicious, in the order of the places."""
@@ -95,6 +95,11 @@ class Check:
     """The steps that were made."""
     peak: int
     """The greatest need of a step, in cells."""
+    fault: str = field(default='', compare=False)
+    """The fault that ended the run, in words; empty where none did."""
+
+    def __bool__(self) -> bool:
+        return not self.suspicions
 
 
 class Step(NamedTuple):
@@ -236,8 +241,10 @@ def check(script: Text, cells: SupportsIndex = DEFAULT_CELLS, steps: SupportsInd
     fate, made, peak, lines = _awaited(
         _engine.check, _bytes_of('script', script), _whole('cells', cells, 1, MOST_CELLS),
         _whole('steps', steps, 1, MOST_STEPS))
-    found = map(_SUSPICION.fullmatch, lines.decode(errors='replace').split('\n'))
-    return Check([Suspicion(int(each[1]), int(each[2]), each[3]) for each in found if each], Fate(fate), made, peak)
+    said = lines.decode(errors='replace').split('\n')
+    found = [_SUSPICION.fullmatch(line) for line in said]
+    return Check([Suspicion(int(each[1]), int(each[2]), each[3]) for each in found if each], Fate(fate), made, peak,
+                 ''.join(line for line, each in zip(said, found) if not each))
 
 
 class Session:
