@@ -16,7 +16,8 @@ export TRAC_TO=$(DESTDIR)$(PREFIX)
 # Debian's own Python has Debian's packages of pytest and Selenium. The page needs any Python.
 PYTHON != command -v /usr/bin/python3 || echo python3
 VERSION != cat VERSION
-SOURCES != find crates.txt crates -name out -prune -o -type f \( -name '*.rt' -o -name '*.antt' -o -name crates.txt \) -print
+SOURCES != find crates.txt crates -name out -prune -o -type f \( -name '*.rt' -o -name '*.antt' -o \
+    -name crates.txt \) -print
 PAGE != find hosts/page hosts/js examples docs/EXERCISES.md docs/LANGUAGE.md docs/LESSON.md -type f ! -name '*.pyc'
 # The crates of which `make edits` tries the edits that the gate leaves out.
 CRATES != ls further-edits
@@ -125,7 +126,7 @@ rust:
 # What the kit makes of dist/, where the kit is.
 PROVED != ! command -v rt >/dev/null || echo programs dist/libtrac.a
 
-## make dist       what is handed out, in dist/, of which the kit makes what is proved (what make check needs; 25 minutes)
+## make dist       what is handed out, in dist/; the kit makes what is proved (what make check needs; 25 minutes)
 dist: $(PROVED) all build/libtrac.a $(SHARED) page npm dist/trac_t64-$(VERSION).tar.gz dist/trac.pdf
 	rm -rf dist/trac dist/trac_trace dist/doc dist/npm
 	cp docs/*.[0-9] hosts/c/trac.h hosts/c/trac.c hosts/c/words.h hosts/c/trac_engine.c build/trac.html dist

@@ -161,7 +161,7 @@ class Screen(Typist):
             self.stream.feed(self.read(lambda: '\n'.join([f'not shown: {wanted}', *self.lines()])))
 
 
-class AtATerminal(unittest.TestCase):
+class AtATerminal(Room):
     """Where lines are edited as the terminal does it."""
 
     def begin(self, *words, **env):
@@ -306,64 +306,52 @@ class AtATerminal(unittest.TestCase):
             self.end(typist)
             self.assertEqual(piped("##(cl,A)'", saved), ('b\n', '', 0))
 
+    def shows(self, typist, line, shown):
+        """Types a line, behind which this is shown, and then the prompt."""
+        typist.type(line + '\n')
+        self.assertEqual(typist.wait('\n> '), f'{line}\n{shown}> ')
+
     def test_files_are_loaded_between_strings(self):
-        with tempfile.TemporaryDirectory() as folder:
-            script, saved = (os.path.join(folder, name) for name in ('script', 'saved'))
-            with open(script, 'w', encoding='utf-8') as file:
-                file.write("#(ps,(a word))#(ds,A,(#(ps,B)))#(ss,A,B)'#(hl)'#(ps,(never seen))'")
-            typist = self.begin()
-            for line, shown in ((f':load {script}', 'a word\n'), ("#(cl,A,b)'", 'b\n'), (f':save {saved}', ''),
-                                ("#(ds,A,c)#(ds,D,d)'", ''), (f':load {saved}', ''),
-                                ("#(cl,A,e)#(ps,##(cl,D))'", 'ed\n')):
-                typist.type(line + '\n')
-                self.assertEqual(typist.wait('\n> '), f'{line}\n{shown}> ')
-            self.end(typist)
+        script = self.put('script', "#(ps,(a word))#(ds,A,(#(ps,B)))#(ss,A,B)'#(hl)'#(ps,(never seen))'")
+        saved = self.path('saved')
+        typist = self.begin()
+        for line, shown in ((f':load {script}', 'a word\n'), ("#(cl,A,b)'", 'b\n'), (f':save {saved}', ''),
+                            ("#(ds,A,c)#(ds,D,d)'", ''), (f':load {saved}', ''),
+                            ("#(cl,A,e)#(ps,##(cl,D))'", 'ed\n')):
+            self.shows(typist, line, shown)
+        self.end(typist)
 
     def test_what_is_not_loaded_changes_nothing(self):
-        with tempfile.TemporaryDirectory() as folder:
-            saved = os.path.join(folder, 'saved')
-            typist = self.begin()
-            for line in ("#(ds,A,b)'", f':save {saved}', "#(ds,A,c)'"):
-                typist.type(line + '\n')
-                typist.wait('\n> ')
-            with open(saved, 'r+b') as file:
-                file.truncate(os.path.getsize(saved) - 1)
-            for name, why in ((saved, f'{saved}: the saved session is cut or damaged; nothing of it is defined'),
-                              (folder, f"can't read {folder}: Is a directory")):
-                typist.type(f':load {name}\n')
-                self.assertEqual(typist.wait('\n> '), f':load {name}\ntrac_terminal: {why}\n> ')
-            typist.type("##(cl,A)'\n")
-            self.assertEqual(typist.wait('\n> '), "##(cl,A)'\nc\n> ")
-            self.end(typist)
+        saved = self.path('saved')
+        typist = self.begin()
+        for line in ("#(ds,A,b)'", f':save {saved}', "#(ds,A,c)'"):
+            self.shows(typist, line, '')
+        self.put('saved', self.got('saved')[:-1])
+        for name, why in ((saved, f'{saved}: the saved session is cut or damaged; nothing of it is defined'),
+                          (self.folder, f"can't read {self.folder}: Is a directory")):
+            self.shows(typist, f':load {name}', f'trac_terminal: {why}\n')
+        self.shows(typist, "##(cl,A)'", 'c\n')
+        self.end(typist)
 
     def test_a_file_is_checked_between_strings(self):
-        with tempfile.TemporaryDirectory() as folder:
-            script = os.path.join(folder, 'script')
-            with open(script, 'w', encoding='utf-8') as file:
-                file.write("#(ds,A,b)#(ps,(not seen))#(xy,A)'")
-            typist = self.begin()
-            typist.type(f':check {script}\n')
-            self.assertRegex(typist.wait('\n> '), rf'^:check {script}\n{script}: line 1, column \d+: .*xy.*\n> $')
-            typist.type("#(eq,##(cl,A),,none,b)'\n")
-            self.assertEqual(typist.wait('\n> '), "#(eq,##(cl,A),,none,b)'\nnone\n> ")
-            self.end(typist)
+        script = self.put('script', "#(ds,A,b)#(ps,(not seen))#(xy,A)'")
+        typist = self.begin()
+        typist.type(f':check {script}\n')
+        self.assertRegex(typist.wait('\n> '), rf'^:check {script}\n{script}: line 1, column \d+: .*xy.*\n> $')
+        self.shows(typist, "#(eq,##(cl,A),,none,b)'", 'none\n')
+        self.end(typist)
 
     def test_a_check_is_stopped(self):
-        with tempfile.TemporaryDirectory() as folder:
-            script = os.path.join(folder, 'script')
-            with open(script, 'w', encoding='utf-8') as file:
-                file.write("#(ds,A,(#(cl,A)))#(cl,A)'")
-            typist = self.begin('--steps', '1000000000000')
-            typist.type("#(ds,A,b)'\n")
-            typist.wait('\n> ')
-            typist.type(f':check {script}\n')
-            typist.wait('script\n')
-            time.sleep(0.5)
-            typist.type('\x03')
-            typist.wait('> ')
-            typist.type("##(cl,A)'\n")
-            self.assertEqual(typist.wait('\n> '), "##(cl,A)'\nb\n> ")
-            self.end(typist)
+        script = self.put('script', "#(ds,A,(#(cl,A)))#(cl,A)'")
+        typist = self.begin('--steps', FOREVER)
+        self.shows(typist, "#(ds,A,b)'", '')
+        typist.type(f':check {script}\n')
+        typist.wait('script\n')
+        time.sleep(0.5)
+        typist.type('\x03')
+        typist.wait('> ')
+        self.shows(typist, "##(cl,A)'", 'b\n')
+        self.end(typist)
 
 
 class Edited(Room):

@@ -4,7 +4,7 @@
  * and what compilers make of it (memcpy, memset) alone.
  *
  * Crates: trac_language trac_space trac_values trac_store trac_forms trac_devices trac_functions trac_laws trac_core trac_events trac_warnings trac_lent trac_views trac_checker trac_c
- * Sources: 1619cdd30b5c9f60dc6db7b5c148b8132e247ebc75c8795c9ebf7befc0695f26
+ * Sources: 0e17fd0b319410421a8e2154acc847f28d5b20013233b00dcc85e7122a028a65
  * Kit: rattle-kit-13f logic dac8208d650f15bf
  * Tools: wasm-opt version 108, wabt 1.0.32
  */

@@ -11,8 +11,8 @@ use crate::report::{REFUSED, TracReport, refused};
 use crate::run::run_over;
 use trac_core::{Cell, Machine};
 
-/// Makes a machine as `trac_engine_open` does, over a block each byte of which is 0. That is what a cleared block holds,
-/// so nothing is written to it.
+/// Makes a machine as `trac_engine_open` does, over a block each byte of which is 0. That is what a cleared block
+/// holds, so nothing is written to it.
 #[unsafe(no_mangle)]
 pub unsafe extern "C" fn trac_engine_open_zeroed(
     machine: *mut u64,
