@@ -137,20 +137,26 @@ static void note_place(source *from) {
     from->string_column = column;
 }
 
-/* Tells what is suspicious in a file. Another process does it, over a block of its own, which ^C ends. */
-static void check_one(char *name) {
+/* Tells what is suspicious in a file, over a block of its own, and ends the process. */
+static void check_and_end(char *name) {
     const size_t cells = (size_t)options[CELLS].number;
-    const pid_t child = fork();
-    trac_cell *const block = child ? NULL : (trac_cell *)calloc(cells, sizeof *block);
-    if (child == 0)
-        (void)signal(SIGINT, SIG_DFL);
+    (void)signal(SIGINT, SIG_DFL);
+    trac_cell *const block = (trac_cell *)calloc(cells, sizeof *block);
     if (block)
         (void)check_files(&name, 1, block, cells, options[ALLOWANCE].number);
-    else if (child <= 0)
+    else
         (void)say_line(DONE, "trac_terminal: no memory to check a file\n");
+    _exit(DONE);
+}
+
+/* Has another process do that, which ^C ends, and waits for it. */
+static void check_one(char *name) {
+    const pid_t child = fork();
     if (child == 0)
-        _exit(DONE);
-    while (waitpid(child, NULL, 0) < 0 && errno == EINTR)
+        check_and_end(name);
+    if (child < 0)
+        (void)say_line(DONE, "trac_terminal: can't check a file: %s\n", strerror(errno));
+    while (child > 0 && waitpid(child, NULL, 0) < 0 && errno == EINTR)
         continue;
     is_interrupted = 0;
 }
