@@ -25,8 +25,9 @@ CRATES != ls further-edits
 RT = $(PYTHON) checks/progress.py
 PYTEST = $(PYTHON) -m pytest -q -n auto --dist loadfile
 
-TERMINAL = hosts/c/terminal.c hosts/c/calls.c hosts/c/loading.c hosts/c/replacing.c hosts/c/saving.c \
+TERMINAL = hosts/c/terminal.c hosts/c/calls.c hosts/c/listing.c hosts/c/loading.c hosts/c/replacing.c hosts/c/saving.c \
     hosts/c/suspicions.c hosts/c/texts.c hosts/c/typing.c
+TRACER = hosts/c/trace.c hosts/c/calls.c hosts/c/listing.c hosts/c/suspicions.c hosts/c/texts.c
 # Lines are edited by libedit, where it is there.
 EDITING = -DWITH_LIBEDIT -ledit
 # A file is made under another name, and renamed when it is whole and on the disk. So nothing takes for it what a kill,
@@ -36,7 +37,7 @@ DONE = sync $(NEW) && mv -f $(NEW) $@
 
 # The engine in units that take about as long to compile, and are compiled beside each other. A run needs the first.
 RUN_UNITS = build/units/1.o build/units/2.o build/units/3.o build/units/4.o
-CHECK_UNITS = build/units/5.o build/units/6.o
+CHECK_UNITS = build/units/5.o build/units/6.o build/units/7.o
 UNITS = $(RUN_UNITS) $(CHECK_UNITS)
 COMPILE = compile() { \
     file=build/units/$$1.o && $(CC) -std=c11 $(CPPFLAGS) $(CFLAGS) $$2 -fPIC -ffunction-sections -DTRAC_EXPORT \
@@ -49,19 +50,22 @@ CHECK_CFLAGS = -O1
 ABI != cut -d . -f 1,2 VERSION
 SHARED = build/libtrac.so.$(ABI)
 
-all: build/trac build/trac_terminal
+all: build/trac build/trac_terminal build/trac_trace
 
 # About how long each takes on four cores, where nothing is built or proved yet.
 help:
 	@sed -n 's/^## //p' Makefile
 
-## make            the programs in C, build/trac and build/trac_terminal (a C compiler; 5 seconds)
+## make            the programs in C, build/trac, build/trac_terminal and build/trac_trace (a C compiler; 6 seconds)
 build/trac: hosts/c/trac.c hosts/c/words.h $(RUN_UNITS)
 	$(CC) -std=c11 $(CPPFLAGS) $(CFLAGS) $(LDFLAGS) -o $(NEW) hosts/c/trac.c $(RUN_UNITS) && $(DONE)
 
 build/trac_terminal: $(TERMINAL) hosts/c/terminal.h hosts/c/words.h $(UNITS)
 	{ $(CC) -std=c11 $(CPPFLAGS) $(CFLAGS) $(LDFLAGS) -o $(NEW) $(TERMINAL) $(UNITS) $(EDITING) 2>/dev/null || \
 	    $(CC) -std=c11 $(CPPFLAGS) $(CFLAGS) $(LDFLAGS) -o $(NEW) $(TERMINAL) $(UNITS); } && $(DONE)
+
+build/trac_trace: $(TRACER) hosts/c/terminal.h hosts/c/words.h $(UNITS)
+	$(CC) -std=c11 $(CPPFLAGS) $(CFLAGS) $(LDFLAGS) -o $(NEW) $(TRACER) $(UNITS) && $(DONE)
 
 ## make prove      the proved program, crates/trac_cli/out/trac_cli (the Rattle kit; 12 minutes)
 prove: crates/trac_cli/out/trac_cli
@@ -115,6 +119,10 @@ edits:
 	        cp further-edits/$$crate/*.edit "$$copy/crates/$$crate/must-fail" || exit; \
 	    done && cd "$$copy" && printf '%s\n' $(CRATES) | xargs -n 1 -P "$$(nproc)" rt must-fail
 
+## make new-function  tries ARCHITECTURE's way to add a function, in a copy of the tree (the kit; 20 minutes)
+new-function: check-tools
+	$(PYTHON) checks/new_function.py
+
 ## make generate   hosts/c/trac_engine.c and hosts/wasm/trac.wasm anew (the kit, Python, binaryen, wabt; 15 minutes)
 generate:
 	hosts/c/generate
@@ -123,6 +131,10 @@ generate:
 rust:
 	hosts/rust/generate
 
+## make editors    the functions' names in editors/ and for the fuzzers, by the engine's table (a C compiler; 5 seconds)
+editors: $(SHARED)
+	$(PYTHON) checks/function_names.py $(SHARED)
+
 # What the kit makes of dist/, where the kit is.
 PROVED != ! command -v rt >/dev/null || echo programs dist/libtrac.a
 
@@ -130,12 +142,12 @@ PROVED != ! command -v rt >/dev/null || echo programs dist/libtrac.a
 dist: $(PROVED) all build/libtrac.a $(SHARED) page npm dist/trac_t64-$(VERSION).tar.gz dist/trac.pdf
 	rm -rf dist/trac dist/trac_trace dist/doc dist/npm
 	cp docs/*.[0-9] hosts/c/trac.h hosts/c/trac.c hosts/c/words.h hosts/c/trac_engine.c build/trac.html dist
-	cp -p build/trac_terminal dist && cp -R build/npm dist
+	cp -p build/trac_terminal build/trac_trace dist && cp -R build/npm dist
 	@if [ -n "$(PROVED)" ]; then \
 	    cp -p crates/trac_trace/out/trac_trace dist && cp -p crates/trac_cli/out/trac_cli dist/trac; \
 	else \
-	    rm -f dist/libtrac.a dist/trac_trace.1 && \
-	    echo 'dist: trac, trac_trace and libtrac.a are missing: they are proved and built by the Rattle kit' >&2; \
+	    rm -f dist/libtrac.a && \
+	    echo 'dist: trac and libtrac.a are missing: they are proved and built by the Rattle kit' >&2; \
 	fi
 	@stage=$$(mktemp -d) && trap 'rm -rf "$$stage"' EXIT && hosts/system/stage "$$stage/all" /usr/local lib && \
 	    cp -R "$$stage/all/share/doc/trac-t64" dist/doc
@@ -197,7 +209,7 @@ $(RUN_UNITS): hosts/c/trac_engine.c hosts/c/trac.h
 
 $(CHECK_UNITS): hosts/c/trac_engine.c hosts/c/trac.h
 	mkdir -p build/units
-	$(COMPILE); for unit in 5 6; do compile $$unit "$(CHECK_CFLAGS)" & started="$$started $$!"; done; $(WAIT)
+	$(COMPILE); for unit in 5 6 7; do compile $$unit "$(CHECK_CFLAGS)" & started="$$started $$!"; done; $(WAIT)
 
 # One object, in which what the units share is nobody else's any more.
 build/libtrac.a: $(UNITS)

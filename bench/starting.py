@@ -13,7 +13,7 @@ import time
 
 TOP = os.path.dirname(os.path.dirname(os.path.abspath(__file__)))
 HELLO = b"#(ps,hello)'"
-UNITS = range(1, 7)
+UNITS = range(1, 8)
 FLAGS = ['-std=c11', '-O2', '-fPIC', '-ffunction-sections', '-DTRAC_EXPORT']
 
 

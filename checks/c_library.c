@@ -69,7 +69,9 @@ static void run_on_stack(size_t bytes) {
 static int is_refused(trac_machine *machine) {
     trac_form form = TRAC_NO_FORM;
     uint32_t code;
+    trac_trace trace = TRAC_NO_TRACE;
     return trac_turn(machine, "", 0, 1, NULL, 0, 9).fate == TRAC_REFUSED && trac_again(machine, 9) == TRAC_REFUSED &&
+           trac_trace_step(machine, &trace, "", 0, 1, NULL, 0, NULL, 0, NULL, 0).fate == TRAC_REFUSED &&
            !trac_form_count(machine) && !trac_next_form(machine, &form) && !trac_neutral(machine, &code, 1) &&
            !trac_active(machine, &code, 1) && trac_rule(machine) == TRAC_REFUSED &&
            !trac_neutral_part(machine, 0, &code, 1) && !trac_active_part(machine, 0, &code, 1) &&
@@ -211,6 +213,60 @@ static int refusals(void) {
     return memcmp(&before, &machine, sizeof machine) || trac_form_count(&machine) != 1;
 }
 
+/* Steps that are shown, with memory of any size at any place, and with room for any part of their lines. */
+static int traces(void) {
+    static uint8_t memory[16384], lines[256];
+    static trac_cell cells[64];
+    static const char script[] = "#(ps,a)'", head[] = "  step  call\n";
+    const trac_trace fresh = {1, UINT64_MAX, 0, 0, 1, 0, 0, 0, 0, 0, 0, 0, 0, 0, 0};
+    trac_trace *const crooked = (trac_trace *)(void *)((char *)cells + 1);
+    trac_machine machine = TRAC_NO_MACHINE;
+    trac_trace trace = fresh;
+    trac_report told;
+    if (trac_open(&machine, cells, 64, 99) ||
+        trac_trace_step(&machine, NULL, script, 8, 1, NULL, 0, memory, 99, lines, 9).fate != TRAC_REFUSED ||
+        trac_trace_step(&machine, crooked, script, 8, 1, NULL, 0, memory, 99, lines, 9).fate != TRAC_REFUSED ||
+        trac_trace_step(&machine, &trace, NULL, 8, 1, NULL, 0, memory, 99, lines, 9).fate != TRAC_REFUSED ||
+        trac_trace_step(&machine, &trace, script, 8, 1, NULL, 9, memory, 99, lines, 9).fate != TRAC_REFUSED ||
+        trac_trace_step(&machine, &trace, script, 8, 1, NULL, 0, NULL, 99, lines, 9).fate != TRAC_REFUSED ||
+        trac_trace_step(&machine, &trace, script, 8, 1, NULL, 0, memory, 99, NULL, 9).fate != TRAC_REFUSED)
+        return 1;
+    /* Too little memory: nothing is done. */
+    for (size_t size = 0; size < 4096; size += 15) {
+        told = trac_trace_step(&machine, &trace, script, 8, 1, NULL, 0, size ? memory : NULL, size, lines, 9);
+        if (told.fate != TRAC_NO_MEMORY || told.steps || told.consumed || told.written || trace.lines || trace.begun)
+            return 2;
+    }
+    for (size_t from = 0; from < 33; from++) {
+        for (size_t room = 0; room < sizeof head + 1; room++) {
+            memset(lines, '.', sizeof lines);
+            trace = fresh;
+            if (trac_again(&machine, 99))
+                return 3;
+            told = trac_trace_step(&machine, &trace, script, 8, 1, NULL, 0, memory + from, sizeof memory - from, lines,
+                                   room);
+            const size_t some = room < sizeof head - 1 ? room : sizeof head - 1;
+            if (told.fate != TRAC_GOING || told.steps != 1 || told.peak != 11 || trace.lines != sizeof head - 1 ||
+                trace.shown || memcmp(lines, head, some) != 0 || lines[some] != '.')
+                return 4;
+        }
+    }
+    /* A step that waits for input has no lines; where reading fails it ends the run, and tells so again. */
+    for (int i = 0; i < 7; i++)
+        told = trac_trace_step(&machine, &trace, NULL, 0, 0, NULL, 0, memory, sizeof memory, lines, sizeof lines);
+    told = trac_trace_step(&machine, &trace, NULL, 0, 0, NULL, 0, memory, sizeof memory, lines, sizeof lines);
+    if (told.fate != TRAC_WANTS_INPUT || told.steps != 8 || trace.lines)
+        return 5;
+    for (int i = 0; i < 2; i++) {
+        static const char end[] = "input failed: 8 steps, peak 11 cells\n";
+        told = trac_trace_step(&machine, &trace, NULL, 0, TRAC_INPUT_FAILS, NULL, 0, memory, sizeof memory, lines,
+                               sizeof lines);
+        if (told.fate != TRAC_INPUT_FAILED || told.steps != 8 || memcmp(lines, end, sizeof end - 1) != 0)
+            return 6;
+    }
+    return trac_take_peak(&machine) != 0 || trace.peak != 11;
+}
+
 static int pointers(void) {
     trac_cell cells[64];
     uint8_t byte[4] = {'a', 'b', 'c', '\''};
@@ -259,6 +315,8 @@ static int pointers(void) {
         return 9;
     if (checks())
         return 10;
+    if (traces())
+        return 11;
     if (places() || moves() || refusals())
         return 11;
     return sizeof cells != 512 || !trac_abi(TRAC_VERSION_NUMBER, sizeof machine, sizeof(trac_report)) ||

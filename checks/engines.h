@@ -29,7 +29,10 @@ size_t c_trac_part(const trac_machine *, uint32_t);
 uint32_t c_trac_meta(const trac_machine *);
 uint32_t c_trac_awaits(const trac_machine *);
 
-enum { MOST_CELLS = 1024, MOST_OUTPUT = 4096 };
+#ifndef MOST_CELLS
+#define MOST_CELLS 1024
+#endif
+enum { MOST_OUTPUT = 4096 };
 
 /* What one engine works on. */
 typedef struct {

@@ -28,6 +28,8 @@ for (const [name, call] of Object.entries({
     stepsRange: () => Session.open({ steps: 2n ** 64n }),
     option: () => run('', { cell: 10 }),
     checked: () => check(12),
+    views: async () => (await Session.open()).trace({ last: 3 }),
+    viewsRange: async () => (await Session.open()).trace({ width: -1 }),
     bytes: () => provide('text'),
     input: async () => (await Session.open()).turn(null),
     how: async () => (await Session.open()).turn('', { end: true }),
@@ -147,6 +149,28 @@ for (let [given, fate] = ["#(ps,hello)'", 'going']; fate === 'going';) {
     needs.push(needing.takePeak());
 }
 
+/** The lines of a script's steps, by its view, with the input in pieces, and the account of the run. */
+const traces = {};
+for (const [name, views] of Object.entries({
+    steps: {},
+    calls: { calls: true, width: 8 },
+    forms: { forms: true, columns: 30 },
+    some: { from: 9, to: 20n, width: 0 },
+})) {
+    const session = await Session.open({ cells: 500 });
+    const trace = session.trace(views);
+    const script = "#(ds,A,\u00e9)#(ps,#(cl,A)##(cl,A))#(zz)'";
+    let [lines, given, told] = ['', '', {}];
+    for (let [at, fate] = [0, 'going']; fate === 'going' || fate === 'wants input';) {
+        if (fate === 'wants input') given += script[at++] ?? '';
+        told = trace.step(given, { ended: at > script.length });
+        ({ fate } = told);
+        lines += told.lines;
+        given = new TextDecoder().decode(new TextEncoder().encode(given).subarray(told.consumed));
+    }
+    traces[name] = [lines, told.fate, Number(told.steps), told.peak];
+}
+
 const long = 3000000;
 const hundred = `#(ds,a,${'x'.repeat(1000)})#(ds,b,(#(ps,${'##(cl,a)'.repeat(100)})))`;
 const large = await run(`${hundred}${'#(cl,b)'.repeat(long / 100000)}'`,
@@ -157,7 +181,8 @@ const other = await Session.open({ cells: 10 });
 other.turn('abc', { ended: true });
 before.restore(other.save());
 console.log(JSON.stringify({
-    errors, looks, longCalls, suspicions, endless, many: many.warnings.length, needs, failed, again, kept, buffer, mark,
+    errors, looks, longCalls, traces, suspicions, endless, many: many.warnings.length, needs, failed, again, kept, buffer,
+    mark,
     parts, large: large.output.length, json,
     shown: Object.keys(before),
 }));

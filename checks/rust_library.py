@@ -37,7 +37,7 @@ def erased(folder):
     with open(os.path.join(folder, 'lib.rs'), 'a', encoding='utf-8') as root:
         for path in sorted(glob.glob(os.path.join(TOP, 'crates', 'trac_c', 'src', '*.rt'))):
             name = os.path.basename(path)[:-3]
-            if name not in ('lib', 'check'):
+            if name not in ('lib', 'check', 'stepping', 'trace'):
                 root.write(f'mod {name};\n')
                 with open(path, encoding='utf-8') as source, \
                         open(os.path.join(folder, f'{name}.rs'), 'w', encoding='utf-8') as file:
@@ -45,8 +45,8 @@ def erased(folder):
 
 
 def library(folder):
-    """An object with the functions of trac.h over the crate, which takes no check of a script. A sum that is too
-    great ends the program, and so does a panic."""
+    """An object with the functions of trac.h over the crate, which takes no check of a script and shows no step. A sum
+    that is too great ends the program, and so does a panic."""
     place = os.path.join(folder, 'checks', 'rust_library')
     shutil.copytree(os.path.join(TOP, 'checks', 'rust_library'), place)
     shutil.copytree(CRATE, os.path.join(folder, 'hosts', 'rust'), ignore=shutil.ignore_patterns('target'))

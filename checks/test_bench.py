@@ -3,6 +3,7 @@ small job of bench.py what the program prints, in as many steps and with the sam
 import os
 import platform
 import subprocess
+import sys
 import tempfile
 import unittest
 
@@ -29,6 +30,16 @@ class Processors(unittest.TestCase):
                                                 env={**os.environ, 'REPORT': '1'}, check=True)
                         self.assertEqual(theirs.stdout, job.printed, job.name)
                         self.assertEqual((theirs.stdout, theirs.stderr), (ours.stdout, ours.stderr), job.name)
+
+
+class WorstScripts(unittest.TestCase):
+    def test_each_makes_its_steps(self):
+        done = subprocess.run([sys.executable, os.path.join(TOP, 'bench', 'worst.py'), '--smoke'], capture_output=True,
+                              text=True, check=True)
+        rows = done.stdout.splitlines()[1:]
+        self.assertEqual(len(rows), 26)
+        for row in rows:
+            self.assertRegex(row, r' +8,000 +-?\d+\.\d\d +-?\d+\.\d\d$')
 
 
 if __name__ == '__main__':

@@ -9,15 +9,12 @@ import unittest
 from tempfile import TemporaryDirectory
 
 from test_documents import documents
-from trac import IN_C, TOP
+from trac import IN_C, TOP, TRACER_IN_C
 
 KIT = 'needs the Rattle kit'
 SESSION = 'a session at a terminal, which the checks of that program have'
-TRACE = ('the tracer is proved before it is built; '
-         'proved/test_man_page.py, test_warnings.py and test_manual_traces.py run it')
 # The programs that are shown and not run here, and why.
-NO_PROGRAMS = {'rt': KIT, 'trac_trace': TRACE, './trac_trace': TRACE,
-               'trac_terminal': SESSION, './trac_terminal': SESSION}
+NO_PROGRAMS = {'rt': KIT, 'trac_terminal': SESSION, './trac_terminal': SESSION}
 # The other commands that are shown and not run, and why.
 NOT_RUN = {
     'make install PREFIX=/usr/local': 'writes outside of a temporary folder; test_install.py installs elsewhere',
@@ -102,16 +99,17 @@ def pages():
 
 
 def copied(to):
-    """A copy of the repository with the program in C built and current, where a reader begins."""
+    """A copy of the repository with the programs in C built and current, where a reader begins."""
     listed = subprocess.run(['git', 'ls-files', '-z'], cwd=TOP, capture_output=True, text=True, check=True).stdout
     for name in filter(None, listed.split('\0')):
         if os.path.lexists(os.path.join(TOP, name)):
             os.makedirs(os.path.dirname(os.path.join(to, name)), exist_ok=True)
             shutil.copy2(os.path.join(TOP, name), os.path.join(to, name), follow_symlinks=False)
     os.makedirs(os.path.join(to, 'build'))
-    shutil.copy2(IN_C, os.path.join(to, 'build', 'trac'))
     os.makedirs(os.path.join(to, 'bin'))
-    os.symlink('../build/trac', os.path.join(to, 'bin', 'trac'))
+    for name, program in (('trac', IN_C), ('trac_trace', TRACER_IN_C)):
+        shutil.copy2(program, os.path.join(to, 'build', name))
+        os.symlink(f'../build/{name}', os.path.join(to, 'bin', name))
     for name, text in {**GIVEN, 'build/same': ''}.items():
         put(to, name, text)
 
@@ -134,7 +132,8 @@ class Commands(unittest.TestCase):
         told = done.stdout + ('\n' if done.stdout and not done.stdout.endswith('\n') else '') + done.stderr
         if shown is not None:
             self.assertEqual(told, shown)
-        if shown is None or not done.stderr:
+        # The tracer says on standard output how a run ended.
+        if 'trac_trace' not in command and (shown is None or not done.stderr):
             self.assertEqual(done.returncode, 0, told)
 
     def follow(self, each, place):

@@ -11,7 +11,8 @@ import unittest
 from trac import PROGRAM, TERMINAL, TOP
 
 FOLDER = os.path.join(TOP, 'hosts', 'completion')
-SESSION = ['--batch', '--cells', '--check', '--help', '--quiet', '--save', '--steps', '--version']
+SESSION = ['--batch', '--cells', '--check', '--convert', '--help', '--quiet', '--save', '--steps', '--version',
+           '--with']
 BASH = """source {folder}/trac.bash
 COMP_WORDS=("$@") COMP_CWORD=$(($# - 1))
 _trac "$1" "${{@: -1}}" "${{@: -2:1}}"

@@ -2,16 +2,27 @@
 No editor runs here: the patterns are read as Python's."""
 import os
 import re
+import shutil
+import subprocess
+import sys
+import tempfile
 import unittest
 from xml.etree import ElementTree
 
+from function_names import ALTERNATIVES
 from test_cheat_sheet import column
+from test_install import SHARED
 from test_manual import read
 from trac import TOP
 
 FOLDER = os.path.join(TOP, 'editors')
 FILES = ['gtksourceview/trac.lang', 'nano/trac.nanorc', 'vim/syntax/trac.vim']
-ALTERNATIVES = re.compile(r'\b\w\w(?:\|\w\w)+\b')
+
+
+def made(place, *words):
+    """Has the names of a tree written anew, by the library of this one."""
+    return subprocess.run([sys.executable, 'checks/function_names.py', os.path.join(TOP, 'build', SHARED), *words], cwd=place,
+                          capture_output=True, text=True)
 
 
 def text_of(name):
@@ -28,6 +39,28 @@ class Editors(unittest.TestCase):
             with self.subTest(name=name):
                 [names] = ALTERNATIVES.findall(text_of(name))
                 self.assertEqual(sorted(names.split('|')), sorted(functions))
+
+    def test_their_functions_are_those_of_the_engine(self):
+        done = made(TOP, '--check')
+        self.assertEqual((done.returncode, done.stdout), (0, ''))
+
+    def test_a_name_that_no_function_has_is_told_and_goes(self):
+        with tempfile.TemporaryDirectory() as place:
+            for folder in ('editors', 'checks/fuzz'):
+                shutil.copytree(os.path.join(TOP, folder), os.path.join(place, folder))
+            shutil.copy(os.path.join(TOP, 'checks', 'function_names.py'), os.path.join(place, 'checks'))
+            for name in [*(f'editors/{name}' for name in FILES), 'checks/fuzz/words.dict']:
+                path = os.path.join(place, name)
+                with open(path, encoding='utf-8') as file:
+                    text = file.read()
+                with open(path, 'w', encoding='utf-8') as file:
+                    file.write(text.replace('|cl|', '|cx|').replace('"cl,"', '"cx,"'))
+                with self.subTest(name=name):
+                    done = made(place, '--check')
+                    self.assertEqual((done.returncode, done.stdout.partition(':')[0]), (1, name))
+                    self.assertEqual(made(place).returncode, 0)
+                    with open(path, encoding='utf-8') as file:
+                        self.assertEqual(file.read(), text)
 
     def test_each_file_is_named_where_it_goes(self):
         found = [os.path.relpath(os.path.join(folder, name), FOLDER)

@@ -21,6 +21,7 @@ from trac import TOP
 HERE = os.path.dirname(os.path.abspath(__file__))
 IN_C = os.path.join(TOP, 'hosts', 'c')
 sys.path.insert(0, os.path.join(IN_C, 'generator'))
+import tree  # noqa: E402
 import units  # noqa: E402
 import wasm_to_c  # noqa: E402
 
@@ -28,9 +29,11 @@ PLACES = (65536, 196608)
 COMPILERS = (['gcc', '-O2'], ['clang', '-O2'], ['tcc'])
 BATCH, GATE, LEAST = 20, 300, 100
 ENTRIES = """static const struct entry {{
-    const char *name; u64 (*function)(u64, u64, u32, u64); u32 stack;
+    const char *name; u64 (*function)(word, u32, u64);
 }} entries[] = {{{}}};
 """
+# A function as the program calls it: its own has a type that what it needs of its arguments gives it.
+CALLED = 'static u64 called_{0}(word place, u32 a, u64 b) {{ return {0}(place, a, b); }}'
 
 
 def occurring():
@@ -57,15 +60,15 @@ class Translation:
             tool('wat2wasm', '--enable-memory64', '--debug-names', '-o', file, '-', input=text)
         lines, same = (tool('wasm2wat', '--enable-memory64', file).splitlines() for file in self.files)
         module = wasm_to_c.module_of(lines, same)
-        self.pieces, frames = wasm_to_c.pieces_of(module, module.exports)
+        self.pieces = wasm_to_c.pieces_of(module)
         for piece in self.pieces.values():
             piece.bits = piece.known = 1 << 1
         self.counts = Counter(words[0] for _, _, body in module.functions for words in body)
-        self.entries = [f'{{"{module.names[one]}", {module.names[one]}, {wasm_to_c.deepest(module, frames, [one])}}}'
-                        for one in module.exports]
+        names = [module.names[one] for one in module.exports]
+        self.entries = [f'{{"{name}", called_{name}}}' for name in names]
         with contextlib.redirect_stdout(io.StringIO()) as said:
             units.print_all(self.pieces, module.table(), module.rows())
-        self.text = said.getvalue()
+        self.text = '\n'.join([said.getvalue(), *map(CALLED.format, names)])
         for shared in ('tables', 'has_address', 'no_address', 'table64'):
             self.text = f'#undef {shared}\n#define {shared} {name}_{shared}\n{self.text}'
 
@@ -75,7 +78,7 @@ def program_of(folder, translations):
     with open(os.path.join(IN_C, 'generator', 'begin.c'), encoding='utf-8') as begin, \
             open(os.path.join(HERE, 'modules.c'), encoding='utf-8') as end:
         entries = ', '.join(entry for one in translations for entry in one.entries)
-        parts = [begin.read(), *(one.text for one in translations), ENTRIES.format(entries + ', {0, 0, 0}'), end.read()]
+        parts = [begin.read(), *(one.text for one in translations), ENTRIES.format(entries + ', {0, 0}'), end.read()]
     file = os.path.join(folder, 'program.c')
     with open(file, 'w', encoding='utf-8') as program:
         program.write('\n'.join(parts))
@@ -135,7 +138,7 @@ class MadeUp(unittest.TestCase):
         instructions = occurring()
         self.assertGreater(len(instructions), 70)
         self.assertEqual([name for name in instructions if not can_test(name)], [])
-        self.assertLessEqual(set(instructions), wasm_to_c.INSTRUCTIONS)
+        self.assertLessEqual(set(instructions), tree.INSTRUCTIONS)
 
     def test_they_do_in_c_what_they_do_in_node(self):
         counts, answers, unlike = tried(0, GATE)
@@ -188,7 +191,7 @@ class Crafted(unittest.TestCase):
     def test_a_comparison_that_is_shifted(self):
         body = '(i64.extend_i32_u (i32.shl (i32.lt_s (local.get 1) (i32.const 1)) (i32.const 31)))'
         made = self.gives(body, '0000000080000000', '0' * 16, '0' * 16, '0000000080000000')
-        self.assertIn('((u32)((i32)l1 < (i32)1u) << 31)', made.text)
+        self.assertIn('(u32)((i32)a2 < 1) << 31', made.text)
 
     def test_a_value_that_nothing_reads(self):
         more = '(func $g (param i64 i32) (result i32) (i32.store (local.get 0) (local.get 1)) (local.get 1))'
@@ -216,7 +219,7 @@ class Crafted(unittest.TestCase):
                         '$__stack_pointer (i64.add (local.get 3) (i64.const 96))) (i64.const 7)')
                 with self.subTest(shape=shape, how=how):
                     made = self.gives(body, '0' * 15 + '7')
-                    self.assertIn(f', {112 if "112" in shape else 96}}}', made.entries[0])
+                    self.assertIn(f'room[{14 if "112" in shape else 12}]', made.text)
 
     def test_frames_that_are_refused(self):
         end, frame = '(global.get $__stack_pointer)', '(global.set $__stack_pointer {}) (i64.const 0)'
@@ -226,11 +229,11 @@ class Crafted(unittest.TestCase):
         self.is_refused('becomes', frame.format('(local.get 2)'))
         lowered = frame.format(f'(i64.sub {end} (i64.const 64))')
         self.is_refused('leaves the stack otherwise', lowered)
-        self.is_refused('leaves the stack otherwise', f'(if (local.get 1) (then {lowered} (drop))) (i64.const 0)')
+        self.is_refused('not the same on two ways', f'(if (local.get 1) (then {lowered} (drop))) (i64.const 0)')
         self.is_refused('not the same on two ways',
                         f'(local.set 3 {end}) (if (local.get 1) (then {lowered} (drop))) (local.set 4 {end}) '
                         '(global.set $__stack_pointer (local.get 3)) (local.get 4)')
-        self.is_refused('leaves the stack otherwise', f'(loop {lowered} (drop) (br_if 0 (local.get 1))) (i64.const 0)')
+        self.is_refused('not the same on two ways', f'(loop {lowered} (drop) (br_if 0 (local.get 1))) (i64.const 0)')
         self.is_refused('ge_s of', f'(i64.extend_i32_u (i64.ge_s {end} (i64.const 17)))')
         self.is_refused('ge_s of', f'(i64.extend_i32_u (i64.ge_s (i64.const 16) {end}))')
 

@@ -85,10 +85,14 @@ class Install(unittest.TestCase):
         ran = subprocess.run([os.path.join(self.there, 'bin', 'trac_terminal')], cwd='/', input="#(ps,hello)'",
                              capture_output=True, text=True, env={'PATH': PATH}, check=True)
         self.assertEqual((ran.stdout, ran.stderr), ('hello\n', ''))
+        ran = subprocess.run([os.path.join(self.there, 'bin', 'trac_trace'), '--calls'], cwd='/', input="#(ps,hello)'",
+                             capture_output=True, text=True, env={'PATH': PATH}, check=True)
+        self.assertIn('#(ps<,>hello) prints hello\n', ran.stdout)
         there = files(self.there)
         self.assertLessEqual({'include/trac.h', 'lib/libtrac.a', 'lib/libtrac.so', f'lib/{SHARED}',
                               'lib/cmake/trac/trac-config-version.cmake',
                               'share/man/man1/trac.1', 'share/man/man1/trac_terminal.1',
+                              'share/man/man1/trac_trace.1',
                               'share/man/man3/trac.3', 'share/man/man7/trac.7',
                               f'{DOC}/docs/LANGUAGE.md', f'{DOC}/examples/hanoi.trac',
                               'share/zsh/site-functions/_trac'}, there)
@@ -363,7 +367,7 @@ class Make(unittest.TestCase):
         self.assertEqual(done.returncode, 0, done.stderr)
         with open(log, encoding='utf-8') as file:
             calls = re.findall(r'^\d+ +(fsync|rename)\w*\(', file.read(), re.MULTILINE)
-        self.assertEqual((calls.count('fsync'), calls.count('rename')), (8, 8))
+        self.assertEqual((calls.count('fsync'), calls.count('rename')), (9, 9))
 
     def test_flags_for_the_linker(self):
         lines = self.make('-n', 'all', f'build/{SHARED}', 'LDFLAGS=--of-the-linker').stdout.splitlines()

@@ -263,35 +263,28 @@ class Launcher(unittest.TestCase):
                                     'who may run it first, or copy the folder\n')
         self.assertEqual(self.compiled(), 0)
 
-    def test_the_program_that_shows_steps(self):
-        program = os.path.join('crates', 'trac_trace', 'out', 'trac_trace')
-        path = os.path.join(self.folder, 'without rt')
-        os.mkdir(path)
-        for tool in ('sh', 'dirname', 'readlink', 'find'):
-            os.symlink(shutil.which(tool), os.path.join(path, tool))
-        self.assertEqual(self.ran('trac_trace', path=path), (
-            '', 'trac_trace: it is not built yet, and its proof needs the Rattle kit, whose rt is not here\n', 70))
-        self.tool('rt', '#!/bin/sh\n')
-        self.tool('make', '#!/bin/sh\necho "make $*" >&2\nexit 1\n')
-        output, lines, status = self.ran('trac_trace')
-        self.assertEqual((output, status), ('', 70))
-        self.assertEqual(lines.splitlines()[1:], [
-            f'make -s -C {self.top} {program}', 'trac_trace: it could not be built'])
-        self.assertIn('20 minutes', lines)
-        self.put(program, 'echo "other: $*"')
-        self.assertEqual(self.ran('trac_trace'), ('other: --cells 18\n', '', 0))
-
-    def test_the_terminal(self):
-        program = os.path.join('build', 'trac_terminal')
-        self.tool('make', '#!/bin/sh\necho "make $*" >&2\nexit 1\n')
-        self.assertEqual(self.ran('trac_terminal'), (
-            '', f'make -s -C {self.top} {program}\ntrac_terminal: it could not be built\n', 70))
-        self.tool('make', f"""#!/bin/sh
+    def test_what_make_builds(self):
+        """The program is built by make where it is missing, and gets the words."""
+        for name in ('trac_terminal', 'trac_trace'):
+            program = os.path.join('build', name)
+            self.tool('make', '#!/bin/sh\necho "make $*" >&2\nexit 1\n')
+            self.assertEqual(self.ran(name), (
+                '', f'make -s -C {self.top} {program}\n{name}: it could not be built\n', 70))
+            self.tool('make', f"""#!/bin/sh
 mkdir -p '{self.top}/build'
-printf '#!/bin/sh\\necho "terminal: $*"; exit 3\\n' >'{self.top}/{program}'
+printf '#!/bin/sh\\necho "built: $*"; exit 3\\n' >'{self.top}/{program}'
 chmod +x '{self.top}/{program}'
 """)
-        self.assertEqual(self.ran('trac_terminal'), ('terminal: --cells 18\n', '', 3))
+            self.assertEqual(self.ran(name), ('built: --cells 18\n', '', 3))
+
+    def test_the_proved_program_that_shows_steps(self):
+        """It is run where it is newer than the sources, and else the one in C."""
+        proved = os.path.join('crates', 'trac_trace', 'out', 'trac_trace')
+        self.put(os.path.join('build', 'trac_trace'), 'echo in C')
+        self.put(proved, 'echo "proved: $*"')
+        self.assertEqual(self.ran('trac_trace'), ('proved: --cells 18\n', '', 0))
+        self.edit('crates.txt')
+        self.assertEqual(self.ran('trac_trace'), ('in C\n', '', 0))
 
 
 class Clone(unittest.TestCase):

@@ -6,7 +6,7 @@ import subprocess
 import tempfile
 import unittest
 
-from trac import TOP, make
+from trac import TOP, make, report, trace
 
 PACKAGE = os.path.join(TOP, 'build', 'npm')
 
@@ -29,7 +29,8 @@ class Npm(unittest.TestCase):
             'script': 'TypeError: script', 'scriptArray': 'TypeError: script', 'cells': 'TypeError: cells',
             'cellsText': 'TypeError: cells', 'cellsRange': 'RangeError: cells',
             'stepsRange': 'RangeError: steps', 'option': 'TypeError: there is no option cell',
-            'checked': 'TypeError: script', 'bytes': 'TypeError: bytes', 'input': 'TypeError: input',
+            'checked': 'TypeError: script', 'views': 'TypeError: there is no option last',
+            'viewsRange': 'RangeError: width', 'bytes': 'TypeError: bytes', 'input': 'TypeError: input',
             'how': 'TypeError: there is no option end', 'most': 'RangeError: most',
             'from': 'RangeError: from', 'which': 'RangeError: which', 'whichText': 'TypeError: which',
             'saved': 'TypeError: saved', 'savedPages': 'TypeError: saved'}
@@ -46,6 +47,16 @@ class Npm(unittest.TestCase):
         self.assertEqual((count, is_so), (2, True))
         # no step is left to perform it
         self.assertEqual(used_up, [0, False, 0])
+
+    def test_the_lines_of_steps(self):
+        script = "#(ds,A,\u00e9)#(ps,#(cl,A)##(cl,A))#(zz)'".encode()
+        words = {'steps': '', 'calls': '--calls --width 8', 'forms': '--forms --columns 30',
+                 'some': '--from 9 --to 20 --width 0'}
+        for name, (lines, *account) in self.told['traces'].items():
+            with self.subTest(view=name):
+                self.assertEqual(lines.splitlines(), trace(script, '--cells', '500', *words[name].split())[0])
+                _, steps, peak, _ = report(script, '--cells', '500')
+                self.assertEqual(account, ['input ended', steps, peak])
 
     def test_what_is_suspicious(self):
         folder = os.path.join(TOP, 'examples', 'broken')

@@ -3,6 +3,7 @@ keyboard, by screen reader and on a phone."""
 import glob
 import json
 import os
+import re
 import unittest
 
 import page
@@ -115,11 +116,26 @@ class Steps(Page):
         self.run_script("#(ps,hello)'")
         self.assertEqual(self.steps(), (29, 29))
         self.assertIn('29 steps, peak 19 cells', self.text('fate'))
-        for number, rule, *_, neutral, active in lines:
+        for number, rule, size, need, neutral, active in lines:
             self.go(number - 1)
             self.assertEqual(self.rule(), rule)
+            self.assertTrue(self.text('cells-used').startswith(f'{size} of 65,536 in use'))
             self.go(number)
             self.assertEqual(self.strings(), (neutral, active.rstrip('\n')))
+            self.assertTrue(self.text('cells-used').endswith(f'; the last step needed {need}'))
+        self.go(0)
+        self.assertEqual(self.text('cells-used'), '0 of 65,536 in use')
+
+    def test_the_need_of_a_step_from_either_side(self):
+        self.run_script(LOOP.format(400))
+        last = self.steps()[1]
+        found = {}
+        for step in (last, 5000, 5001, 5000, 4000, 4001, last - 1, 5001, last, 4000):
+            self.go(step)
+            found.setdefault(step, set()).add(self.text('cells-used') + self.text('legend'))
+        self.assertEqual([len(each) for each in found.values()], [1] * len(found))
+        peak = re.search(r'peak (\d+) cells', self.text('fate'))[1]
+        self.assertTrue(found[last].pop().endswith(f'peak {peak}'))
 
     def test_the_reading_of_a_string_is_one_step(self):
         self.run_script("#(ps,one)'\n#(ps,two)'")
@@ -269,7 +285,7 @@ class Safety(Page):
         self.assertEqual(self.script("return performance.getEntriesByType('resource').length"), 0)
 
     def test_its_size(self):
-        self.assertLess(os.path.getsize(page.PAGE), 400000)
+        self.assertLess(os.path.getsize(page.PAGE), 450000)
 
     def test_its_policy(self):
         broken = browser.execute_async_script("""
@@ -384,14 +400,15 @@ class Hands(Page):
         self.script("document.getElementById('settings').open = true")
         self.find('example').send_keys(Keys.TAB)
         met = []
-        for _ in range(38):
+        for _ in range(44):
             at = browser.switch_to.active_element
             met.append(at.get_attribute('id') or at.tag_name)
             at.send_keys(Keys.TAB)
-        wanted = ['script', 'through', 'run', 'summary', 'summary', 'cells', 'steps', 'link', 'embed', 'open', 'save',
-                  'show-all', 'output', 'save-output', 'save-trace', 'summary', 'summary', 'slider', 'first',
-                  'call-back', 'back', 'step', 'over', 'call-step', 'last', 'neutral', 'active', 'forms', 'calls',
-                  'jump', 'jump-go', 'fold', 'play', 'speed', 'pace', 'stop-at', 'summary', 'summary']
+        wanted = ['script', 'through', 'run', 'summary', 'summary', 'cells', 'steps', 'link', 'open', 'save',
+                  'save-output', 'save-trace', 'embed', 'input', 'input', 'input', 'live', 'show-all', 'output',
+                  'slider', 'first', 'call-back', 'back', 'step', 'over', 'call-step', 'last', 'fold', 'neutral',
+                  'active', 'forms', 'calls', 'jump', 'jump-go', 'play', 'speed', 'pace', 'stop-at', 'summary',
+                  'summary', 'summary', 'summary']
         self.assertEqual(met[:len(wanted)], wanted)
 
     def test_names(self):

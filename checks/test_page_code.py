@@ -25,6 +25,21 @@ class Code(unittest.TestCase):
 
 
 class Documents(unittest.TestCase):
+    def test_the_lecturers_notes(self):
+        found = list(make.lesson())
+        self.assertEqual([int(each['name'].split('.')[0]) for each in found], list(range(1, 11)))
+        with open(os.path.join(TOP, 'docs', 'LESSON.md'), encoding='utf-8') as file:
+            text = ' '.join(file.read().split())
+        for each in found:
+            kinds = [cue['kind'] for cue in each['cues'] if cue['kind'] != 'Answer']
+            self.assertEqual(kinds, ['Show', 'Ask', 'Try'])
+            for cue in each['cues']:
+                self.assertFalse(']' in cue['words'] or cue['words'].endswith(' '), cue)
+                self.assertTrue(cue['kind'] != 'Ask' or cue['words'].endswith('?'), cue)
+            ask = ''.join(cue['words'][cue['kind'] == 'Answer':] for cue in each['cues']
+                          if cue['kind'] in ('Ask', 'Answer'))
+            self.assertIn(ask, text)
+
     def test_exercises(self):
         found = list(make.exercises())
         self.assertEqual([int(each['name'].split('.')[0]) for each in found], list(range(1, 21)))

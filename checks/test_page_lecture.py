@@ -11,6 +11,7 @@ import page
 import pytest
 from page import LOOP, PLACE, By, Lecture, Saving, example
 from selenium.webdriver.common.keys import Keys
+from test_exercise_check import CONSTANTS, RIGHT, WRONG
 from trac import TOP, run
 
 sys.path.insert(0, os.path.join(TOP, 'hosts', 'page'))
@@ -313,6 +314,35 @@ class Long(Lecture):
         self.wait(self.is_at_rest)
         self.assertEqual(self.steps()[1], 49758)
 
+    TASKS = """
+        const done = arguments[0];
+        const find = (id) => document.getElementById(id);
+        let longest = 0;
+        new PerformanceObserver((list) => {
+            for (const { duration } of list.getEntries()) longest = Math.max(longest, duration);
+        }).observe({ entryTypes: ['longtask'] });
+        const ids = ['run', 'first', 'last'];
+        const press = () => {
+            if (['main', 'machine'].some((id) => find(id).ariaBusy === 'true')) return setTimeout(press, 20);
+            if (!ids.length) return setTimeout(() => done(longest), 800);
+            find(ids.shift()).click();
+            return setTimeout(press, 400);
+        };
+        press();
+    """
+
+    def test_no_task_is_long(self):
+        lines = "#(ds,l,(#(ps,(0123456789 0123456789 0123456789 012345678\n))#(gr,N,0,(#(cl,l,#(su,N,1))))))" \
+            "#(ss,l,N)#(cl,l,24999)'"
+        for script, cells in ((lines, 65536), (LOOP.format(30000), 16777216)):
+            found = []
+            while len(found) < 8 and not (found and found[-1] < 100):
+                self.open(PLACE)
+                for name, value in (('script', script), ('cells', cells), ('steps', 10000000)):
+                    self.put(name, value)
+                found.append(browser.execute_async_script(self.TASKS))
+            self.assertLess(found[-1], 100, found)
+
     def test_the_same_at_a_step_from_either_side(self):
         self.run_script(LOOP.format(3000000), '', 65536, 20000000)
         for step in (12345678, 19000001):
@@ -596,6 +626,61 @@ class Files(Saving):
         self.assertEqual((self.value('script'), self.steps()[0]), ("#(ps,a&b<\"c)'", 12))
         self.assertFalse(self.is_shown('script'))
 
+    def embedded(self, *panels):
+        """The place and the height of the steps as they are embedded, with some parts of the page."""
+        self.script("""
+            for (const each of document.getElementsByName('panel')) each.checked = arguments[0].includes(each.value);
+            Object.defineProperty(navigator, 'clipboard', { configurable: true, value: { writeText: async (text) => {
+                document.querySelector('iframe')?.remove();
+                document.body.insertAdjacentHTML('beforeend', text);
+            } } });
+            document.getElementById('told').textContent = '';
+            document.getElementById('embed').click();
+        """, panels)
+        self.wait(lambda: 'copied' in self.text('told'))
+        return self.script("const { src, height } = document.querySelector('iframe'); return [src, Number(height)]")
+
+    def test_what_is_embedded(self):
+        self.run_script(example('hanoi.trac').decode())
+        self.go(1500)
+        chosen = [(), ('script',), ('output',), ('play',), ('script', 'output', 'play')]
+        places = [self.embedded(*panels) for panels in chosen]
+        self.addCleanup(browser.execute_cdp_cmd, 'Emulation.clearDeviceMetricsOverride', {})
+        for panels, (place, height) in zip(chosen, places):
+            for width in (700, 900):
+                with self.subTest(panels=panels, width=width):
+                    browser.execute_cdp_cmd('Emulation.setDeviceMetricsOverride', {
+                        'width': width, 'height': height, 'deviceScaleFactor': 1, 'mobile': False})
+                    self.open(place)
+                    self.wait(lambda: self.is_shown('step') and self.is_at_rest())
+                    self.assertEqual([name for name, part in (('script', 'script'), ('output', 'output'), (
+                        'play', 'play')) if self.is_shown(part)], list(panels))
+                    self.assertLessEqual(self.script('return document.documentElement.scrollHeight'), height)
+
+    def test_a_link_brings_back_what_is_seen(self):
+        ids = {'tree-part': 'open', 'fold': 'checked', 'show-all': 'checked'}
+        look = 'const ids = arguments[0]; return Object.fromEntries(Object.entries(ids).map(([id, name]) => ' \
+            '[id, document.getElementById(id)[name]]))'
+        self.run_script("#(ps,#(ad,1,2))'")
+        self.go(12)
+        links = []
+        for change in ('', 'tree-part', 'fold', 'show-all'):
+            if change:
+                self.script('const [id, ids] = arguments; const part = document.getElementById(id);'
+                            'part[ids[id]] = !part[ids[id]]', change, ids)
+            self.press('link')
+            self.wait(lambda: browser.current_url not in [link for link, _ in links])
+            links.append((browser.current_url, self.script(look, ids)))
+        self.assertEqual(links[-1][1], {'tree-part': True, 'fold': False, 'show-all': True})
+        for link, seen in reversed(links):
+            self.open(link)
+            self.wait(lambda: self.is_shown('step') and self.is_at_rest())
+            self.assertEqual((self.script(look, ids), self.steps()[0]), (seen, 12))
+        self.script("document.getElementById('fold').checked = false")
+        self.script('window.location = arguments[0]', links[1][0])
+        self.wait(lambda: self.script(look, ids) == links[1][1])
+        self.wait(lambda: self.find('tree').text)
+
     def test_a_link_to_a_part_of_the_lesson(self):
         self.open(f'{PLACE}?lesson=4')
         self.assertEqual(self.value('example'), '4. Active and neutral')
@@ -616,7 +701,7 @@ class Files(Saving):
         packed = base64.urlsafe_b64encode(ENDLESS.encode()).decode().rstrip('=')
         for end in ('', '?embed'):
             self.open(f'{PLACE}{end}#script={packed}&cells=1000&steps=1000000000000&step=12')
-            self.wait(lambda: self.is_shown('machine') and self.is_at_rest())
+            self.wait(lambda: self.is_shown('step') and self.is_at_rest())
             self.assertEqual(self.steps(), (12, 10000000))
             self.assertIn('a link alone runs no further', self.text('fate').lower())
             self.press('last')
@@ -634,6 +719,67 @@ class Files(Saving):
 
 
 class Study(Lecture):
+    def verdict(self):
+        """What is said of a run, when no more inputs are tried."""
+        self.wait(lambda: 'Trying' not in self.text('verdict'))
+        return self.text('verdict')
+
+    def tried(self, number, script):
+        """What is said of a script for an exercise."""
+        name = self.script("return document.getElementById('exercise').options[arguments[0]].text", number)
+        self.choose(name, 'exercise')
+        self.put('script', script)
+        self.run_it()
+        return self.verdict()
+
+    def test_scripts_as_the_command_judges_them(self):
+        for number, script, _ in WRONG:
+            with self.subTest(number=number, script=script):
+                self.assertTrue(self.tried(number, script).startswith('Not yet'))
+        for number, script, said in CONSTANTS:
+            with self.subTest(number=number, script=script):
+                verdict = self.tried(number, script)
+                if said.startswith('it prints'):
+                    self.assertEqual(verdict, said.strip().replace('it prints', 'Not yet: this prints').replace(
+                        'but also', 'also').replace('text, also', 'text also') + '.')
+                else:
+                    old, new = said.splitlines()[1:3]
+                    self.assertTrue(verdict.startswith(f'Not yet with “{new}” for each “{old}” in the script. Yours'))
+                    self.assertTrue(self.is_shown('difference'))
+        for number, script in RIGHT:
+            with self.subTest(number=number, script=script):
+                self.assertEqual(self.tried(number, script), 'Done: this prints what is wanted.')
+
+    def test_an_input_that_is_not_shown(self):
+        verdict = self.tried(4, "#(ps,(Who are you? Good day, Ada (Countess, too).))#(,##(rs))'")
+        self.assertEqual(verdict, 'Not yet with another input. Yours has “Ada (Countess, too)” in place of '
+                         '“)( #(ps,x) ,” in line 1, column 24.')
+        self.assertEqual(self.text('tried'), ")( #(ps,x) ,'\n")
+        self.tried(4, "#(ps,x)'")
+        self.assertTrue(self.is_shown('wanted'))
+        self.assertFalse(self.is_shown('tried'))
+
+    def test_what_runs_without_end_is_wrong(self):
+        self.put('steps', '5000')
+        self.assertEqual(self.tried(1, "#(ps,(Hello, world!))#(ds,a,(#(cl,a)))#(cl,a)'"),
+                         'Not yet: yours prints what is wanted, but doesn’t end by itself.')
+
+    def test_a_hint_and_then_a_solution(self):
+        exercises = list(make.exercises())
+        for number, each in enumerate(exercises, 1):
+            self.choose(each['name'], 'exercise')
+            self.script("document.querySelector('#study details').open = true")
+            self.assertEqual((self.value('script'), self.is_shown('solution')), (each['script'], False))
+            self.press('hint')
+            self.assertEqual(self.text('hint-words'), each['hint'].replace('`', ''))
+            self.press('solution')
+            self.assertEqual(self.text('solution-script'), each['solution'])
+            self.assertEqual(self.text('solution-why'), each['why'].replace('`', ''))
+            self.press('use-solution')
+            self.run_it()
+            self.assertEqual(self.verdict(), 'Done: this prints what is wanted.')
+        self.assertTrue(exercises[7]['script'].startswith('#(ds,square,(#(ps,(s squared is )'))
+
     def test_exercises(self):
         self.choose('1. A greeting', 'exercise')
         self.assertEqual(self.value('script'), '')
@@ -654,7 +800,7 @@ class Study(Lecture):
                 self.assertTrue(solution.endswith(given))
                 self.put('script', solution[:len(solution) - len(given)])
                 self.run_it()
-                self.assertEqual(self.text('verdict'), 'Done: this prints what is wanted.')
+                self.assertEqual(self.verdict(), 'Done: this prints what is wanted.')
 
     def test_differences(self):
         for name, printed, words, yours, wanted in (
@@ -663,8 +809,9 @@ class Study(Lecture):
                 ('1. A greeting', 'Hello,  world! ', 'has a blank more in line 1, column 8', ' ', ''),
                 ('1. A greeting', 'Hello,world', 'lacks a blank in line 1, column 7', '', ' '),
                 ('1. A greeting', 'Hallo, world!', 'has “a” in place of “e” in line 1, column 2', 'a', 'e'),
-                ('1. A greeting', '\n\nHello,\tworld!', 'has “\\t” in place of a blank in line 3, column 7',
-                 '\\t', ' '),
+                ('1. A greeting', 'Hello,\tworld!', 'has “\\t” in place of a blank in line 1, column 7', '\\t', ' '),
+                ('1. A greeting', '\n\nHello, world!', 'lacks “Hello, world!” at the end of line 1, column 1',
+                 '', 'Hello, world!'),
                 ('1. A greeting', 'Hello, world!\n\nx', 'has more lines than are wanted, from line 2 on', '', ''),
                 ('1. A greeting', '', 'prints nothing', '', 'Hello, world!'),
                 ('2. Parentheses and lines', 'f(x), g(y)', 'ends behind line 1, and another line is wanted',
@@ -688,7 +835,7 @@ class Study(Lecture):
         self.assertTrue(self.text('wanted').endswith('↵'))
         self.put('script', "#(ps,(f(x), g(y)\nh(z)))'")
         self.run_it()
-        self.assertEqual(self.text('verdict'), 'Done: this prints what is wanted.')
+        self.assertEqual(self.verdict(), 'Done: this prints what is wanted.')
         self.assertFalse(self.is_shown('difference'))
 
     def test_functions(self):
@@ -738,7 +885,34 @@ class Eyes(Lecture):
         self.assertNotEqual(self.look('#block .part-store', 'backgroundColor'), self.look('#block', 'backgroundColor'))
         self.assertNotEqual(self.look('#active .landed', 'color'), self.look('#active .landed', 'backgroundColor'))
 
+    def test_black_on_white(self):
+        self.choose('dark', 'scheme')
+        self.choose('huge', 'size')
+        self.choose('10. What memory is')
+        self.through(self.value('script'))
+        self.choose('10. What memory is')
+        self.run_it()
+        self.go(60)
+        browser.execute_cdp_cmd('Emulation.setEmulatedMedia', {
+            'media': 'print', 'features': [{'name': 'prefers-color-scheme', 'value': 'dark'}]})
+        self.script("window.dispatchEvent(new Event('beforeprint'))")
+        for part, name, colour in (('body', 'color', 'rgb(0, 0, 0)'), ('body', 'backgroundColor', 'rgb(255, 255, 255)'),
+                                   ('#neutral', 'backgroundColor', 'rgb(255, 255, 255)'),
+                                   ('#script-marks', 'color', 'rgb(0, 0, 0)')):
+            self.assertEqual(self.look(part, name), colour)
+        for part in ('#neutral .mark', '#script-marks .paren', '#forms .gap'):
+            self.assertGreaterEqual(ratio(self.look(part, 'color'), 'rgb(255, 255, 255)'), 4.5, part)
+        self.assertEqual(self.text('caption'), f'10. What memory is: a script in TRAC T-64, 60 of {self.steps()[1]} '
+                         'steps done in 65,536 cells.')
+        captions = self.script("return [...document.querySelectorAll('h2')].filter((node) => node.offsetParent)"
+                               '.map((node) => node.firstChild.data.trim())')
+        self.assertEqual(captions, ['Script', 'Output', 'Steps', 'Neutral string', 'Active string', 'Forms',
+                                    'Cells'])
+        self.assertTrue(self.is_shown('caption') and self.is_shown('scale'))
+        self.script("window.dispatchEvent(new Event('afterprint'))")
+
     def test_on_paper(self):
+        self.choose('huge', 'size')
         script = "#(ds,l,(#(ps,(line N of the output\n))#(gr,N,1,(#(cl,l,#(su,N,1))))))#(ss,l,N)#(cl,l,4000)'" \
             + '\n' * 300 + "#(ps,the end)'" + ' ' * 20000
         self.run_script(script)
@@ -750,7 +924,7 @@ class Eyes(Lecture):
                 'const box = document.getElementById(arguments[0]); return [box.scrollHeight, box.clientHeight + 1]',
                 name))
         self.assertIn('the end', self.text('script-marks'))
-        for name in ('script', 'step', 'run', 'slider', 'example', 'size'):
+        for name in ('script', 'step', 'run', 'slider', 'example', 'size', 'lesson', 'live', 'fold'):
             self.assertFalse(self.is_shown(name), name)
         self.script("window.dispatchEvent(new Event('afterprint'))")
         self.assertLess(len(self.text('output')), len(run(script)[0]))
@@ -796,7 +970,8 @@ class Eyes(Lecture):
         self.wait_for_calls()
         small = self.script("""
             return [...document.querySelectorAll('button, select, input, summary, textarea')]
-                .filter((node) => node.offsetParent).map((node) => [node, node.getBoundingClientRect()])
+                .filter((node) => node.offsetParent)
+                .map((node) => [node, (node.type === 'checkbox' ? node.parentNode : node).getBoundingClientRect()])
                 .filter(([, { width, height }]) => width < 44 || height < 44)
                 .map(([node, { width, height }]) => `${node.id || node.textContent} ${width} ${height}`);
         """)

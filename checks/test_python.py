@@ -11,7 +11,7 @@ import threading
 import pytest
 
 import python_package
-from trac import TOP, report
+from trac import TOP, report, trace
 
 sys.path.append(os.path.join(TOP, 'conformance'))
 from run import cases
@@ -107,6 +107,44 @@ def test_what_is_suspicious(trac_t64):
         assert [f'line {line}, column {column}: {text}' for line, column, text in made.suspicions] == [
             line for line in told if line.startswith('line ')], script
         assert account(made) == account(trac_t64.run(script.read_bytes())), script
+
+
+VIEWS = [({}, []), ({'calls': True, 'width': 8}, ['--calls', '--width', '8']),
+         ({'forms': True, 'columns': 30}, ['--forms', '--columns', '30']),
+         ({'first': 9, 'to': 20, 'width': 0}, ['--from', '9', '--to', '20', '--width', '0']),
+         ({'calls': True, 'forms': True}, ['--calls', '--forms'])]
+
+
+def test_a_trace_has_the_lines_of_the_tracer(trac_t64):
+    draw = random.Random(64)
+    for views, words in VIEWS * 4:
+        script = ''.join(draw.choice(WORDS) for _ in range(draw.randint(0, 60))).encode()
+        with trac_t64.Session(200, 500) as session:
+            session.feed(script, most=0)
+            session.end(most=0)
+            lines = list(session.trace(**views))
+            assert lines == trace(script, '--cells', '200', '--steps', '500', *words)[0], (script, words)
+            assert list(session.trace()) == []
+            whole = trac_t64.run(script, 200, 500)
+            assert (session.feed(most=0), account(session)) == (whole.output, account(whole))
+
+
+def test_a_trace_goes_on_behind_more_input(trac_t64):
+    with trac_t64.Session() as session:
+        shown = session.trace(calls=True)
+        assert list(shown) == ['  step  call']
+        session.feed("#(ps,#(rs))'", most=0)
+        assert [line[6:] for line in shown] == ['    #(rs) = #(ps,#(rs))']
+        session.feed("a'", most=0)
+        assert [line[6:] for line in shown] == ['      #(rs) = a', '    #(ps<,>a) prints a', '  #(ps<,>)']
+        assert session.fate is trac_t64.Fate.WANTS_INPUT and session.feed(most=0) == b'a'
+        session.again()
+        assert session.trace(first=2, to=2).step() == [
+            '  step  rule           size  need  neutral string|active string']
+    for refused, words in (({'first': 0}, 'first must be from 1'), ({'to': 2**64}, 'to must be from 1'),
+                           ({'width': -1}, 'width must be from 0'), ({'columns': 16777217}, 'columns must be from 0')):
+        with pytest.raises(ValueError, match=words):
+            trac_t64.Session().trace(**refused)
 
 
 def test_many_suspicions(trac_t64):
@@ -662,5 +700,6 @@ def test_the_programs_of_the_pages(python_site, tmp_path):
 def test_the_functions_are_those_of_the_manual(trac_t64):
     with open(os.path.join(TOP, 'docs', 'LANGUAGE.md'), encoding='utf-8') as page:
         rows = re.findall(r'^#### `([^`]+)`: (.*)$', page.read(), re.MULTILINE)
-    from trac_t64.functions import FUNCTIONS
-    assert list(FUNCTIONS.items()) == [(usage[:2], (usage, what)) for usage, what in rows]
+    functions = trac_t64.FUNCTIONS
+    assert [(name, function.call, function.title) for name, function in functions.items()] == [
+        (usage[:2], usage, what) for usage, what in rows]

@@ -16,7 +16,7 @@ import pytest
 import python_package
 from test_program import REFUSED, ROWS
 from test_python import CASES, HELLO
-from trac import TOP
+from trac import TOP, TRACER
 
 LINES = re.compile(rb'(?:<stdin>: (\d+) steps, peak (\d+) cells\n)?(?:<stdin>:\d+:\d+: (.*)\n)?')
 LOOP = "#(ds,L,(#(cl,L)))#(cl,L)'"
@@ -126,14 +126,33 @@ def test_a_check(command, written):
                   ['headed', 'endless'], ['headed', '--cells', '10']):
         done = subprocess.run([terminal, '--check', *words], capture_output=True, check=False)
         output, lines, status = command('--check', *words)
-        assert (output, status) == (done.stdout, done.returncode), words
+        # The terminal also says where a file looks like an old listing.
+        told = b''.join(line for line in done.stdout.splitlines(True) if b': it looks like an old listing' not in line)
+        assert (output, status) == (told, done.returncode), words
         assert lines.replace('trac_t64', 'trac_terminal') == done.stderr.decode(), words
     assert command('--check', '-e', "#(pss,a)'") == (b'-e: line 1, column 1: no function has the name pss\n', '', 7)
     assert command('--check', script=b"#(pss,a)'")[::2] == (
         b'<stdin>: line 1, column 1: no function has the name pss\n', 7)
-    for word in ('-i', '--report'):
+    for word in ('-i', '--report', '--trace'):
         output, lines, status = command('--check', word, 'fine')
         assert (output, status) == (b'', 2) and f'--check cannot be used with {word}' in lines
+
+
+def test_a_trace(command, written):
+    """The lines of `trac_trace`, and the statuses and lines of a run."""
+    written(greets="#(ds,A,hello)#(ps,#(cl,A))'", endless=LOOP)
+    for words in ([], ['--calls'], ['--forms', '--columns', '20'], ['--from', '3', '--to=9', '--width', '0']):
+        with open('greets', 'rb') as script:
+            done = subprocess.run([TRACER, *words], stdin=script, capture_output=True, check=True)
+        assert command('greets', '--trace', *words) == (done.stdout, '', 0)
+    output, lines, status = command('--trace', '--calls', '--steps', '50', 'greets', 'endless')
+    assert (output.count(b'  step  call\n'), output.count(b'allowance used up: 50 steps'), status) == (2, 1, 3)
+    assert lines == command('--steps', '50', 'greets', 'endless')[1] and 'allowance of 50 steps used up' in lines
+    for words, said in ((['--calls'], '--trace is missing, which goes with --calls'),
+                        (['--from', '3', '--width=8'], '--trace is missing, which goes with --from, --width'),
+                        (['--trace', '--width', '16777217'], "'16777217' is not in 0..=16777216")):
+        output, lines, status = command(*words, 'greets')
+        assert (output, status) == (b'', 2) and said in lines, words
 
 
 def test_help(command):

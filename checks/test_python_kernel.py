@@ -7,7 +7,7 @@ import sys
 import pytest
 
 import python_package
-from trac import TOP
+from trac import TOP, trace
 
 LESSON = os.path.join(TOP, 'examples', 'lesson.ipynb')
 FOREVER = "#(ds,L,(#(cl,L)))#(cl,L)'"
@@ -95,14 +95,14 @@ def test_commands_that_are_refused(kernel):
     assert run(kernel, '%help')[1] == 'ok'
 
 
-def test_a_table_of_steps(kernel):
+def test_the_steps_of_a_script(kernel):
     seen, _ = run(kernel, "%trace 3\n#(ps,hello)'")
-    assert seen == [('stream', 'hello'), ('table', 'step  rule         neutral string  active string  prints\n'
-                                          '1     idling                       #(ps,#(rs))\n'
-                                          '2     active call  <#>             ps,#(rs))\n'
-                                          '3     character    <#>p            s,#(rs))')]
-    [_, (_, table)], _ = run(kernel, "%trace\n#(ps,a\\\n)'")
-    assert table.splitlines()[-1].split()[:3] == ['27', 'end', 'of'] and 'a\\\\' in table
+    assert seen == [('stream', 'hello'), ('table', '\n'.join(trace(b"#(ps,hello)'", '--to', '3')[0][:4]))]
+    for view in ('calls', 'forms'):
+        seen, _ = run(kernel, f"%reset\n%trace {view}\n#(ds,A,a\\\n)#(ps,b)'")
+        script = trace(b"#(ds,A,a\\\n)#(ps,b)'", f'--{view}')[0]
+        assert seen == [('stream', 'b'), ('table', '\n'.join(script))]
+    assert run(kernel, "%trace calls 0\n#(ps,never)'")[1] == 'error'
 
 
 def test_what_is_suspicious(kernel):
@@ -145,7 +145,8 @@ def test_what_can_stand_at_the_cursor(kernel, trac_t64):
     assert matches('#(ps,n') == ([], 6) and matches('#(cl,north,n') == ([], 12) and matches('n') == ([], 1)
     assert matches('%t') == (['%trace'], 0) and matches('%c') == (['%cells', '%check'], 0)
     told = client.inspect('#(ps,#(cl,north))', 9, reply=True, timeout=10)['content']
-    assert told['data'] == {'text/plain': '#(cl,N,X1,X2,..): call'}
+    sentence = 'The value is form N from its pointer on, with X1, X2, .. in its gaps.'
+    assert told['data'] == {'text/plain': f'#(cl,N,X1,X2,..): call. {sentence}'}
     for code, status in (("#(ps,a)'", 'complete'), ("#(ps,a)'\n", 'complete'), ('#(ps,a)', 'incomplete'),
                          ('%forms', 'complete')):
         assert client.is_complete(code) and client.get_shell_msg(timeout=10)['content']['status'] == status

@@ -20,7 +20,8 @@ MADE = re.compile(r'// Generated from crates/(\w+)/src/(\S+) by hosts/rust/gener
 # Lines of the Rust that the source hasn't: what needs std, and for tests how a block is made.
 ADDED = {'#[cfg(feature = "std")]', '#[cfg(test)]', 'pub use crate::stand_in::make_block;'}
 # Names that the crate has beside those of `trac_core`: a field's type, and what tests a block's length.
-MORE = {'Mode', 'BlockTooLong', 'MOST_CELLS'}
+TABLE = {'Concerned', 'Facts', 'Given', 'Group', 'Traits', 'facts_of', 'function_at', 'function_count'}
+MORE = {'Mode', 'BlockTooLong', 'MOST_CELLS', *TABLE}
 
 
 def read(*path):

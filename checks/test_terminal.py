@@ -25,7 +25,8 @@ LOOP = '#(ds,L,(#(cl,L)))#(cl,L)\''
 USED_UP = 'trac: allowance of 1000 steps used up\n'
 FOREVER = '1000000000000'
 SOURCES = [os.path.join(HEADERS, f'{name}.c')
-           for name in ('terminal', 'calls', 'loading', 'replacing', 'saving', 'suspicions', 'texts', 'typing')]
+           for name in ('terminal', 'calls', 'listing', 'loading', 'replacing', 'saving', 'suspicions', 'texts',
+                        'typing')]
 ENGINE = os.path.join(TOP, 'build', 'libtrac.a')
 EDITING = ['-DWITH_LIBEDIT', '-ledit']
 CHECKING = ['-O0', '-g', '-fsanitize=address,undefined', '-fno-sanitize-recover=all']
@@ -742,7 +743,12 @@ class Files(Room):
         for file in files:
             with open(file[:-4] + 'warnings', encoding='utf-8') as told:
                 wanted += [f'{file}: {line}' for line in told]
-        self.assertEqual(piped('', '--check', *files), (''.join(wanted), '', 7))
+        output, lines, status = piped('', '--check', *files)
+        looks = [line for line in output.splitlines(True) if ': it looks like an old listing' in line]
+        self.assertEqual([os.path.basename(line.split(':')[0]) for line in looks],
+                         ['listing-3-cr-lf.trac', 'listing-7-left-out.trac'])
+        self.assertEqual((''.join(line for line in output.splitlines(True) if line not in looks), lines, status),
+                         (''.join(wanted), '', 7))
         clean, endless = self.put('clean', "#!trac_terminal\n#(ps,(a))'"), self.put('endless', LOOP)
         none, odd = self.path('none'), self.put('odd', b"#(cl,\xff)'")
         self.assertEqual(piped('', '--check', clean, '/dev/null'), ('', '', 0))

@@ -10,7 +10,7 @@ from trac import IN_C, TOP, cost, make
 
 HEADERS = os.path.join(TOP, 'hosts', 'c')
 ENGINE = os.path.join(HEADERS, 'trac_engine.c')
-RUN_UNITS, UNITS = (1, 2, 3, 4), (1, 2, 3, 4, 5, 6)
+RUN_UNITS, UNITS = (1, 2, 3, 4), (1, 2, 3, 4, 5, 6, 7)
 with open(os.path.join(TOP, 'VERSION'), encoding='utf-8') as whole:
     VERSION = whole.read().strip()
 SHARED = 'libtrac.so.' + VERSION.rpartition('.')[0]
@@ -106,8 +106,8 @@ class Units(unittest.TestCase):
                 for words in compilers:
                     said(*words, *strict, f'-DTRAC_UNIT={unit}', ENGINE)
 
-    def test_without_trac_check_and_that_alone(self):
-        public, check = set(public_names()), {'trac_check'}
+    def test_without_checks_and_traces_and_these_alone(self):
+        public, check = set(public_names()), {'trac_check', 'trac_trace_step'}
         with tempfile.TemporaryDirectory() as room:
             for word, wanted in (('TRAC_WITHOUT_CHECK', public - check), ('TRAC_CHECK_ALONE', check)):
                 half = os.path.join(room, word)
@@ -126,10 +126,10 @@ class Units(unittest.TestCase):
                 self.assertLessEqual(cost_of_units, 1.03 * whole_cost)
 
     def test_a_number_that_is_no_unit(self):
-        for unit in (0, 7):
+        for unit in (0, 8):
             done = subprocess.run(['cc', '-fsyntax-only', f'-DTRAC_UNIT={unit}', ENGINE], check=False,
                                   capture_output=True, text=True)
-            self.assertIn('TRAC_UNIT is to be 1 to 6', done.stderr)
+            self.assertIn('TRAC_UNIT is to be 1 to 7', done.stderr)
 
 
 class Builders(unittest.TestCase):

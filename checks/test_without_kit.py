@@ -65,7 +65,7 @@ class FreshClone(unittest.TestCase):
 
     def test_what_is_handed_out(self):
         # What was compiled of the same sources is taken, since that takes long.
-        make('build/trac_terminal')
+        make('build/trac_terminal', 'build/trac_trace')
         shutil.copytree(os.path.join(TOP, 'build', 'units'), os.path.join(self.top, 'build', 'units'))
         dist = os.path.join(self.top, 'dist')
         os.mkdir(dist)
@@ -74,12 +74,13 @@ class FreshClone(unittest.TestCase):
                 file.write('of an earlier version')
         done = self.make('dist', path=PATH)
         self.assertEqual(done.returncode, 0, done.stderr)
-        self.assertIn('dist: trac, trac_trace and libtrac.a are missing', done.stderr)
+        self.assertIn('dist: trac and libtrac.a are missing', done.stderr)
         files = set(os.listdir(dist))
         version = read(TOP, 'VERSION').decode().strip()
         self.assertEqual(files, {
-            'README', 'trac_terminal', 'trac.h', 'trac_engine.c', 'trac.c', 'words.h', 'trac.html', 'npm', 'doc',
-            'trac.1', 'trac_terminal.1', 'trac.3', 'trac.7', 'trac.pdf', f'trac_t64-{version}.tar.gz'})
+            'README', 'trac_terminal', 'trac_trace', 'trac.h', 'trac_engine.c', 'trac.c', 'words.h', 'trac.html', 'npm',
+            'doc', 'trac.1', 'trac_terminal.1', 'trac_trace.1', 'trac.3', 'trac.7', 'trac.pdf',
+            f'trac_t64-{version}.tar.gz'})
         listed = re.findall(r'^([a-z]\S*?)[,/]? ', read(dist, 'README').decode(), re.MULTILINE)
         self.assertGreater(len(listed), 6)
         self.assertEqual([name for name in listed if name not in files], [])

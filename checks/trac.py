@@ -1,6 +1,6 @@
 """Runs the built programs on a script, and counts their instructions.
 
-The checks of this folder need no kit. They run the program in C, or the one that TRAC names in the
+The checks of this folder need no kit. They run the programs in C, or those that TRAC and TRACER name in the
 environment. Those of proved/ need the proved programs or the proved library."""
 import os
 import re
@@ -16,7 +16,9 @@ LAUNCHER = os.path.join(TOP, 'trac')
 PROVED = os.path.join(TOP, 'crates', 'trac_cli', 'out', 'trac_cli')
 IN_C = os.path.join(TOP, 'build', 'trac')
 PROGRAM = os.path.abspath(os.environ.get('TRAC') or IN_C)
-TRACER = os.path.join(TOP, 'crates', 'trac_trace', 'out', 'trac_trace')
+PROVED_TRACER = os.path.join(TOP, 'crates', 'trac_trace', 'out', 'trac_trace')
+TRACER_IN_C = os.path.join(TOP, 'build', 'trac_trace')
+TRACER = os.path.abspath(os.environ.get('TRACER') or TRACER_IN_C)
 TERMINAL = os.path.join(TOP, 'build', 'trac_terminal')
 
 

@@ -14,6 +14,7 @@ typedef struct {
     trac_cell *block;
     size_t cells;
     uint64_t changes; /* counts what makes its places stale */
+    trac_trace trace;
 } kept;
 
 typedef struct {
@@ -194,6 +195,38 @@ static void show_one(const kept *of) {
     free(codes);
 }
 
+/* A step that is shown: what it was, the memory too small or not, and the lines cut or not. */
+static void trace_one(kept *of) {
+    static const size_t most = 8192;
+    const size_t given = drawn(MOST_BYTES), room = drawn(MOST_BYTES), lists = drawn(4) ? most : drawn(250) * 40;
+    const size_t shown = drawn(2) ? most : drawn(99), left = (size_t)(end - next), length = given < left ? given : left;
+    uint8_t *const input = (uint8_t *)fresh(length), *const output = (uint8_t *)fresh(room);
+    uint8_t *const memory = (uint8_t *)fresh(lists), *const lines = (uint8_t *)fresh(shown);
+    trac_trace *const trace = &of->trace;
+    memcpy(input, next, length);
+    next += length;
+    if (!trace->begun) {
+        *trace = (trac_trace){drawn(9), drawn(2) ? UINT64_MAX : drawn(99), drawn(9), drawn(30), drawn(2), drawn(2),
+                              0, 0, 0, 0, 0, 0, 0, 0, 0};
+    }
+    const trac_trace before = *trace;
+    const uint64_t sum = block_sum(of);
+    const trac_report told = trac_trace_step(&of->machine, trace, length ? input : NULL, length, (int)drawn(4), output,
+                                             room, lists ? memory : NULL, lists, lines, shown);
+    must(told.written <= room && told.consumed <= length && (told.fate != TRAC_REFUSED) == (of->block != NULL));
+    must(told.fate == TRAC_REFUSED ? memcmp(trace, &before, sizeof before) == 0 : told.peak == trace->peak);
+    must((told.fate != TRAC_WANTS_INPUT && told.fate != TRAC_WANTS_OUTPUT) || (!trace->lines && block_sum(of) == sum));
+    must(trac_trace_step(&of->machine, trace, NULL, 1, 0, output, room, memory, lists, lines, shown).fate ==
+         TRAC_REFUSED);
+    must(trac_trace_step(&of->machine, NULL, NULL, 0, 0, output, room, memory, lists, lines, shown).fate ==
+         TRAC_REFUSED);
+    of->changes++;
+    free(input);
+    free(output);
+    free(memory);
+    free(lines);
+}
+
 static void check_some(void) {
     static const size_t most = 4096;
     const size_t room = drawn(MOST_BYTES), lists = drawn(2) ? most : drawn(250), left = (size_t)(end - next);
@@ -229,7 +262,7 @@ static void run_some(void) {
 
 static void call_one(kept *of) {
     place *const at = &places[drawn(PLACES)];
-    switch (drawn(12)) {
+    switch (drawn(14)) {
     case 0:
         open_one(of);
         break;
@@ -241,6 +274,7 @@ static void call_one(kept *of) {
         break;
     case 3:
         must((trac_again(&of->machine, drawn(256) * 8u) == 0) == (of->block != NULL));
+        of->trace = TRAC_NO_TRACE;
         of->changes++;
         break;
     case 4:
@@ -261,6 +295,10 @@ static void call_one(kept *of) {
         break;
     case 10:
         run_some();
+        break;
+    case 11:
+    case 12:
+        trace_one(of);
         break;
     default:
         turn_one(of);

@@ -6,6 +6,11 @@
 
 #include <stdlib.h>
 
+/* What the numbers of cells and steps are multiples of. */
+#ifndef CELLS
+#define CELLS 4u
+#define STEPS 8u
+#endif
 enum { CHOICES = 5, MOST_ITEMS = 64, MOST_TURNS = 5000, FROM = 5 };
 
 static void must(int holds) {
@@ -85,8 +90,8 @@ static void turn_all(const uint8_t *script, size_t length, size_t piece, uint64_
 int LLVMFuzzerTestOneInput(const uint8_t *bytes, size_t count) {
     if (count < CHOICES)
         return 0;
-    const size_t cells = bytes[0] * 4u;
-    const uint64_t steps = bytes[1] * 8u;
+    const size_t cells = bytes[0] * CELLS;
+    const uint64_t steps = bytes[1] * STEPS;
     trac_report told;
     must(run_both(bytes + CHOICES, count - CHOICES, cells, steps, MOST_OUTPUT, &told));
     must(open_both(cells, steps));

@@ -110,11 +110,8 @@ class Traces(Saving):
     def test_the_trace(self):
         script = example('factorial.trac')
         self.run_script(script.decode())
-        lines = self.saved('save-trace', 'trace.txt').decode().splitlines()[1:]
-        wanted = [f'{number:6}  {rule:13}{size:6}{need:6}  {neutral}|{active}'
-                  for number, rule, size, need, neutral, active in
-                  traced(whole_trace(script, '--steps', '1000000')[0])]
-        self.assertEqual(lines, wanted)
+        lines = self.saved('save-trace', 'trace.txt').decode().splitlines()
+        self.assertEqual(lines, whole_trace(script, '--steps', '1000000')[0])
 
 
 if __name__ == '__main__':

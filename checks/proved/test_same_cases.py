@@ -1,17 +1,22 @@
-"""The cases of checks/ that need no kit, over the proved program."""
+"""The cases of checks/ that need no kit, over the proved programs."""
 import test_memory
 from test_conformance import Conformance
 from test_examples import Examples, Exercises
 from test_growth import FullBlocks
 from test_interruptions import Interruptions
 from test_manual import Manual
+from test_manual_traces import Traces
 from test_module import Module
 from test_pipes import Closed, Streams
 from test_program import Devices, Memory, Program, Stack
 from test_rooms import Rooms
+from test_trace import Costs, Lines, StandardError, Tables, Views
+from test_tracer_words import InterruptedTraces, Words
+from test_warnings import Warnings
 
-__all__ = ['Closed', 'Conformance', 'Devices', 'Examples', 'Exercises', 'FullBlocks', 'Interruptions', 'Manual',
-           'Memory', 'Module', 'Program', 'Refused', 'Rooms', 'Stack', 'Streams']
+__all__ = ['Closed', 'Conformance', 'Costs', 'Devices', 'Examples', 'Exercises', 'FullBlocks', 'InterruptedTraces',
+           'Interruptions', 'Lines', 'Manual', 'Memory', 'Module', 'Program', 'Refused', 'Rooms', 'Stack',
+           'StandardError', 'Streams', 'Tables', 'Traces', 'Views', 'Warnings', 'Words']
 
 
 class Refused(test_memory.Refused):

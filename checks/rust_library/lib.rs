@@ -1,6 +1,6 @@
 //! The crate trac-t64 behind the exports of the engine for C, so that one caller can compare the engines. The modules
-//! are those of crates/trac_c without their contracts, which rust_library.py adds, but for the check of a script: the
-//! crate has no part for it.
+//! are those of crates/trac_c without their contracts, which rust_library.py adds. The check of a script and steps that
+//! are shown are missing: the crate has no part for these.
 #![allow(improper_ctypes_definitions, unsafe_op_in_unsafe_fn, unused_imports)]
 
 extern crate trac_t64 as trac_core;
@@ -22,5 +22,11 @@ mod cells {
 /// The crate has no check of scripts.
 #[unsafe(no_mangle)]
 pub extern "C" fn trac_engine_check() -> ! {
+    std::process::abort()
+}
+
+/// The crate shows no steps.
+#[unsafe(no_mangle)]
+pub extern "C" fn trac_engine_trace_step() -> ! {
     std::process::abort()
 }

@@ -18,55 +18,21 @@ static const uint8_t *read_from(const void *bytes) { return (const uint8_t *)(by
 
 static uint8_t *written_to(void *bytes) { return bytes ? (uint8_t *)bytes : (uint8_t *)(uintptr_t)&NOTHING; }
 
-#ifndef TRAC_WITHOUT_CHECK
-/* The lists of a check stand in units of so many bytes, which are aligned to them. */
-enum { UNIT = 16 };
-
-trac_report trac_check(trac_cell *block, size_t cells, uint64_t steps, const void *script, size_t script_length,
-                       void *memory, size_t memory_length, void *lines, size_t lines_length) {
-    static const trac_report no_memory = {TRAC_NO_MEMORY, 0, 0, 0, 0, 0};
-    const size_t before = (size_t)(0 - (uintptr_t)memory) % UNIT;
-    trac_cell no_cell;
-    if (!is_block(block, cells) || !are_bytes(script, script_length) || !are_bytes(memory, memory_length) ||
-        !are_bytes(lines, lines_length))
-        return refused;
-    if (memory_length < before + UNIT)
-        return no_memory;
-    return trac_engine_check(block ? block : &no_cell, cells, steps, read_from(script), script_length,
-                             (char *)memory + before, (memory_length - before) / UNIT, written_to(lines),
-                             lines_length);
-}
-#endif
-
-#ifndef TRAC_CHECK_ALONE
 /* The words of a machine: the engine's, a mark of one that was opened, a stamp that each change makes anew, and the
  * address of its block. */
 enum { ENGINE_WORDS = 11, MARK = 11, STAMP = 12, BLOCK = 13 };
 static const uint64_t OPENED = UINT64_C(0x74726163743634A7);
-
-/* The words of a place in the list of forms: the machine's address; its stamp then; and the number of the form, from 1,
- * 0 before the first. */
-enum { OF_MACHINE, OF_STAMP, NUMBER };
 
 struct aligned_machine {
     char before;
     trac_machine machine;
 };
 
-static uint64_t number_of(const void *place) { return (uint64_t)(uintptr_t)place; }
-
-static int are_codes(const uint32_t *codes, size_t room) {
-    return codes ? is_aligned(codes, sizeof(uint32_t)) : room == 0;
-}
-
 static int is_place(const void *machine) {
     return machine && is_aligned(machine, offsetof(struct aligned_machine, machine));
 }
 
 static int is_opened(const trac_machine *machine) { return is_place(machine) && machine->words[MARK] == OPENED; }
-
-/* The machine, for an export that leaves it as it is. */
-static void *seen(const trac_machine *machine) { return (void *)(uintptr_t)machine; }
 
 /* Makes a machine's stamp anew, of what it was and a number: no two states of machines have the same one, but by a
  * chance of 1 to 2^64. So no place of before is taken for one of now, by a machine that was opened or copied over these
@@ -77,6 +43,77 @@ static void stamp(trac_machine *machine, uint64_t number) {
     x = (x ^ x >> 27) * UINT64_C(0x94D049BB133111EB);
     machine->words[STAMP] = x ^ x >> 31;
 }
+
+#ifndef TRAC_WITHOUT_CHECK
+/* Lists in lent memory stand in units of so many bytes, which are aligned to them. */
+enum { UNIT = 16 };
+
+/* The units that are in memory, behind the first bytes of it. */
+typedef struct {
+    void *place;
+    size_t count;
+} units;
+
+/* Where there are none, the place is one that is aligned and not null. */
+static units units_in(void *memory, size_t length) {
+    const size_t before = (size_t)(0 - (uintptr_t)memory) % UNIT;
+    units found = {(void *)(uintptr_t)UNIT, 0};
+    if (length >= before + UNIT) {
+        found.place = (char *)memory + before;
+        found.count = (length - before) / UNIT;
+    }
+    return found;
+}
+
+trac_report trac_check(trac_cell *block, size_t cells, uint64_t steps, const void *script, size_t script_length,
+                       void *memory, size_t memory_length, void *lines, size_t lines_length) {
+    static const trac_report no_memory = {TRAC_NO_MEMORY, 0, 0, 0, 0, 0};
+    trac_cell no_cell;
+    units lent;
+    if (!is_block(block, cells) || !are_bytes(script, script_length) || !are_bytes(memory, memory_length) ||
+        !are_bytes(lines, lines_length))
+        return refused;
+    lent = units_in(memory, memory_length);
+    if (!lent.count)
+        return no_memory;
+    return trac_engine_check(block ? block : &no_cell, cells, steps, read_from(script), script_length, lent.place,
+                             lent.count, written_to(lines), lines_length);
+}
+
+struct aligned_trace {
+    char before;
+    trac_trace trace;
+};
+
+trac_report trac_trace_step(trac_machine *machine, trac_trace *trace, const void *input, size_t input_length, int end,
+                            void *output, size_t output_length, void *memory, size_t memory_length, void *lines,
+                            size_t lines_length) {
+    units lent;
+    if (!is_opened(machine) || !trace || !is_aligned(trace, offsetof(struct aligned_trace, trace)) ||
+        !are_bytes(input, input_length) || !are_bytes(output, output_length) || !are_bytes(memory, memory_length) ||
+        !are_bytes(lines, lines_length))
+        return refused;
+    lent = units_in(memory, memory_length);
+    stamp(machine, trace->shown);
+    return trac_engine_trace_step(machine, trace, read_from(input), input_length, written_to(output), output_length,
+                                  end == TRAC_INPUT_FAILS ? 2 : end != 0, lent.place, lent.count, written_to(lines),
+                                  lines_length);
+}
+#endif
+
+#ifndef TRAC_CHECK_ALONE
+/* The words of a place in the list of forms: the machine's address; its stamp then; and the number of the form, from 1,
+ * 0 before the first. */
+enum { OF_MACHINE, OF_STAMP, NUMBER };
+
+static uint64_t number_of(const void *place) { return (uint64_t)(uintptr_t)place; }
+
+static int are_codes(const uint32_t *codes, size_t room) {
+    return codes ? is_aligned(codes, sizeof(uint32_t)) : room == 0;
+}
+
+/* The machine, for an export that leaves it as it is. */
+static void *seen(const trac_machine *machine) { return (void *)(uintptr_t)machine; }
 
 /* Whether a place in the list of forms is one of this machine as it is now. */
 static int is_current(const trac_form *form, const trac_machine *machine) {
@@ -286,6 +323,23 @@ size_t trac_argument(const trac_machine *machine, size_t which, void *to, size_t
     if (!is_opened(machine) || !are_bytes(to, room))
         return 0;
     return trac_engine_argument(seen(machine), which, written_to(to), room);
+}
+
+size_t trac_function_count(void) { return trac_engine_function_count(); }
+
+uint32_t trac_function(size_t which, trac_function_facts *facts) {
+    if (!facts || which >= trac_engine_function_count())
+        return TRAC_REFUSED;
+    uint32_t *const each[] = {&facts->uses,    &facts->forms,        &facts->needs_form, &facts->changes_forms,
+                              &facts->gives,   &facts->default_argument, &facts->chooses, &facts->reads,
+                              &facts->prints,  &facts->changes_meta, &facts->ends};
+    for (uint32_t fact = 0; fact < sizeof each / sizeof each[0]; fact++)
+        *each[fact] = trac_engine_function_fact(which, fact);
+    return 0;
+}
+
+size_t trac_function_text(size_t which, uint32_t text, void *to, size_t room) {
+    return are_bytes(to, room) ? trac_engine_function_text(which, text, written_to(to), room) : 0;
 }
 
 size_t trac_takes(const trac_machine *machine) { return is_opened(machine) ? trac_engine_takes(seen(machine)) : 0; }

@@ -1,28 +1,42 @@
 /* What is seen of the calls of a run: which of them do nothing, since they name no function or no form. */
 #include "terminal.h"
 
-const char *const FUNCTIONS[] = {"rs", "rc", "cm", "ps", "hl", "ds", "ss", "dd", "da", "ln",
-                                 "pf", "cl", "cs", "cc", "cn", "in", "cr", "eq", "gr", "ad",
-                                 "su", "ml", "dv", "bu", "bi", "bc", "bs", "br", NULL};
-
-/* Those of them that are a mistake where the form that they name isn't there; to delete such a form is none. */
-static const char *const OF_FORMS[] = {"ss", "pf", "cl", "cs", "cc", "cn", "in", "cr", NULL};
-
 /* The steps that are made at once, between two looks at ^C, and the lines that are said of a string. */
 enum { AT_ONCE = 4096, MOST_LINES = 8 };
 
 static uint8_t small(uint8_t letter) { return letter >= 'A' && letter <= 'Z' ? (uint8_t)(letter + 32) : letter; }
 
-/* Whether a name of two letters stands in a list. */
-static int is_listed(const char *const *list, const uint8_t *name) {
-    while (*list && (small(name[0]) != (uint8_t)(*list)[0] || small(name[1]) != (uint8_t)(*list)[1]))
-        list++;
-    return *list != NULL;
+/* Asks the engine of a function. */
+static void learn(known_function *of, size_t which) {
+    const size_t length = trac_function_text(which, TRAC_TEXT_NAME, of->name, MOST_NAME);
+    of->name[length < MOST_NAME ? length : MOST_NAME] = 0;
+    (void)trac_function(which, &of->facts);
 }
 
-int is_function(const uint8_t *name, size_t length, int *needs_form) {
-    *needs_form = length == 2 && is_listed(OF_FORMS, name);
-    return length == 2 && is_listed(FUNCTIONS, name);
+const known_function *function_at(size_t which) {
+    /* What the engine was asked, once: a run has many calls. */
+    static known_function *known;
+    static size_t count;
+    const size_t all = known ? count : trac_function_count();
+    if (!known && (known = malloc(all * sizeof *known)))
+        while (count < all)
+            learn(&known[count], count), count++;
+    return which < count ? &known[which] : NULL;
+}
+
+/* Whether a name is this one, letters of both cases being the same. */
+static int is_name(const uint8_t *name, size_t length, const char *of) {
+    size_t i = 0;
+    while (i < length && of[i] && small(name[i]) == small((uint8_t)of[i]))
+        i++;
+    return i == length && !of[i];
+}
+
+const known_function *function_named(const uint8_t *name, size_t length) {
+    const known_function *function = function_at(0);
+    for (size_t which = 1; function && !is_name(name, length, function->name); which++)
+        function = function_at(which);
+    return function;
 }
 
 void begin_watch(watch *of) { of->lines.length = of->count = 0; }
@@ -63,13 +77,13 @@ static int take_argument(text *to, const trac_machine *machine, size_t which) {
 
 /* Looks at the call that the next step performs. */
 static void look_at_call(watch *of, const trac_machine *machine) {
-    int needs_form;
     if (!take_argument(&of->function, machine, 0))
         return;
-    if (!is_function(of->function.bytes, of->function.length, &needs_form)) {
+    const known_function *const function = function_named(of->function.bytes, of->function.length);
+    if (!function) {
         if (of->function.length)
             note(of, "no function ", &of->function);
-    } else if (needs_form && take_argument(&of->form, machine, 1) &&
+    } else if (function->facts.needs_form && take_argument(&of->form, machine, 1) &&
                !has_form(machine, of->form.bytes, of->form.length, &of->found) && !of->found.is_short) {
         note(of, of->form.length ? "no form " : "no form of the null name", &of->form);
     }

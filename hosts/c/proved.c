@@ -12,6 +12,9 @@ trac_report trac_engine_run_zeroed(void *block, size_t cells, uint64_t steps, co
                                    size_t script_length, uint8_t *output, size_t output_length);
 trac_report trac_engine_check(void *block, size_t cells, uint64_t steps, const uint8_t *script, size_t script_length,
                               void *memory, size_t units, uint8_t *to, size_t to_length);
+trac_report trac_engine_trace_step(void *machine, trac_trace *trace, const uint8_t *input, size_t input_length,
+                                   uint8_t *output, size_t output_length, uint32_t ended, void *memory, size_t units,
+                                   uint8_t *lines, size_t lines_length);
 size_t trac_engine_cell_size(void);
 size_t trac_engine_machine_size(void);
 uint32_t trac_engine_open(void *machine, void *block, size_t cells, uint64_t steps);
@@ -38,6 +41,9 @@ uint32_t trac_engine_rule(void *machine);
 size_t trac_engine_part(void *machine, uint32_t which);
 uint32_t trac_engine_meta(void *machine);
 uint32_t trac_engine_awaits(void *machine);
+size_t trac_engine_function_count(void);
+uint32_t trac_engine_function_fact(size_t which, uint32_t fact);
+size_t trac_engine_function_text(size_t which, uint32_t text, uint8_t *to, size_t room);
 #pragma GCC visibility pop
 
 #define TRAC_KIND "proved"

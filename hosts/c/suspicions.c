@@ -1,19 +1,8 @@
 /* What is suspicious in files, by the rules of the engine. */
 #include "terminal.h"
 
-/* The status where something is suspicious, and nothing worse is. */
-enum { SUSPICIOUS = 7 };
-
 /* The bytes for the lists of a check, and for its lines, that are tried first. */
-enum { LEAST_LISTS = 1 << 20, LEAST_LINES = 1 << 16 };
-
-/* What a check works with: a block; memory for its lists and for its lines; and what is printed of a file. */
-typedef struct {
-    trac_cell *block;
-    size_t cells;
-    uint64_t steps;
-    text lists, lines, print;
-} checker;
+enum { LEAST_LISTS = 1 << 22, LEAST_LINES = 1 << 22 };
 
 /* Has room for so many bytes in a text that holds nothing. Gives 0 where there is no memory for it. */
 static int has_room(text *of, size_t room) {
@@ -22,8 +11,7 @@ static int has_room(text *of, size_t room) {
     return reserve(of, room);
 }
 
-/* Checks a script, with more memory where that has to be. Gives 0 where there is none. */
-static int check(checker *with, const text *script, trac_report *report) {
+int check_script(checker *with, const text *script, trac_report *report) {
     size_t lists = LEAST_LISTS, lines = LEAST_LINES;
     while (has_room(&with->lists, lists) && has_room(&with->lines, lines)) {
         *report = trac_check(with->block, with->cells, with->steps, script->bytes, script->length, with->lists.bytes,
@@ -47,15 +35,33 @@ static int status_of(const trac_report *report) {
     return report->written ? SUSPICIOUS : DONE;
 }
 
-/* Prints the lines of a check, each behind the name of the file. Gives the status. */
+/* Adds a line of a check behind the name of the file. The lines in front of the file aren't counted. */
+static void add_line(checker *with, const char *name, const char *line, size_t length, size_t before) {
+    char number[32] = "";
+    size_t at = 0;
+    unsigned long long told = 0;
+    if (before && length > 5 && !memcmp(line, "line ", 5))
+        for (at = 5; at < length && line[at] >= '0' && line[at] <= '9'; at++)
+            told = 10 * told + (unsigned long long)(line[at] - '0');
+    if (at && told <= before)
+        return;
+    if (at)
+        (void)snprintf(number, sizeof number, "line %llu", told - before);
+    add_shown(&with->print, name, strlen(name));
+    add_text(&with->print, ": ");
+    add_text(&with->print, number);
+    add_bytes(&with->print, line + at, length - at);
+}
+
+/* Prints the lines of a check of a file. Gives the status. */
 static int print_lines(checker *with, const char *name, const trac_report *report) {
     const char *line = (const char *)with->lines.bytes, *const end = line + report->written;
-    with->print.length = 0;
+    size_t before = 0;
+    for (size_t i = 0; i < with->front.length; i++)
+        before += with->front.bytes[i] == '\n';
     while (line < end) {
         const size_t length = (size_t)((const char *)memchr(line, '\n', (size_t)(end - line)) + 1 - line);
-        add_shown(&with->print, name, strlen(name));
-        add_text(&with->print, ": ");
-        add_bytes(&with->print, line, length);
+        add_line(with, name, line, length, before);
         line += length;
     }
     if (with->print.is_short)
@@ -63,17 +69,33 @@ static int print_lines(checker *with, const char *name, const trac_report *repor
     return write_all(STDOUT_FILENO, with->print.bytes, with->print.length) ? status_of(report) : OUTPUT_FAILED;
 }
 
-/* Checks a file. A first line that begins with `#!` becomes layout, so that the others keep their numbers. Gives the
- * status. */
+/* Makes of a file what is checked: a first line that begins with `#!` becomes layout, so that the others keep their
+ * numbers, and what is to stand in front does so. Notes where it looks like an old listing. Gives 0 where there is no
+ * memory. */
+static int prepare(checker *with, const char *name, text *script) {
+    text whole = {NULL, 0, 0, 0};
+    const size_t head = head_length(script);
+    with->print.length = 0;
+    add_looks(&with->print, name, script);
+    if (head)
+        memset(script->bytes, '\r', head - (script->bytes[head - 1] == '\n'));
+    if (!with->front.length)
+        return 1;
+    add_bytes(&whole, with->front.bytes, with->front.length);
+    add_bytes(&whole, script->bytes, script->length);
+    free(script->bytes);
+    *script = whole;
+    return !whole.is_short;
+}
+
+/* Checks a file. Gives the status. */
 static int check_file(checker *with, const char *name) {
     text script = {NULL, 0, 0, 0};
     trac_report report;
     int status = INPUT_FAILED;
     if (read_file(&script, name)) {
-        const size_t head = head_length(&script);
-        if (head)
-            memset(script.bytes, '\r', head - (script.bytes[head - 1] == '\n'));
-        status = check(with, &script, &report) ? print_lines(with, name, &report) : NO_MEMORY;
+        status = prepare(with, name, &script) && check_script(with, &script, &report) ? print_lines(with, name, &report)
+                                                                               : NO_MEMORY;
     } else
         say_not_read(name);
     if (status == NO_MEMORY)
@@ -82,19 +104,26 @@ static int check_file(checker *with, const char *name) {
     return status;
 }
 
-/* The worse of two statuses: any is worse than 0, and any other than that of what is suspicious. */
-static int worse(int a, int b) {
+int worse(int a, int b) {
     const int is_first = !b || (a && a != SUSPICIOUS && (b == SUSPICIOUS || a > b));
     return is_first ? a : b;
 }
 
-int check_files(char *const *names, size_t count, trac_cell *block, size_t cells, uint64_t steps) {
-    checker with = {block, cells, steps, {NULL, 0, 0, 0}, {NULL, 0, 0, 0}, {NULL, 0, 0, 0}};
+int check_files(char *const *names, size_t count, const char *with_file, trac_cell *block, size_t cells,
+                uint64_t steps) {
+    checker with = {block, cells, steps, {NULL, 0, 0, 0}, {NULL, 0, 0, 0}, {NULL, 0, 0, 0}, {NULL, 0, 0, 0}};
     int worst = DONE;
+    if (with_file && !read_file(&with.front, with_file)) {
+        say_not_read(with_file);
+        return INPUT_FAILED;
+    }
+    if (with.front.length)
+        add_text(&with.front, "\n");
     for (size_t i = 0; i < count && worst != OUTPUT_FAILED; i++)
         worst = worse(worst, check_file(&with, names[i]));
     free(with.lists.bytes);
     free(with.lines.bytes);
     free(with.print.bytes);
+    free(with.front.bytes);
     return worst;
 }

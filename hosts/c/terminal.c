@@ -24,6 +24,8 @@ static const char HELP[] =
     "      --steps <N>    Steps that each string may take, 1 to 1000000000000 [default: 1000000]\n"
     "      --batch        Run the files and end, with the status of the worst\n"
     "      --check        Tell what is suspicious in the files, and end\n"
+    "      --convert      Print old listings as scripts for this program, and end\n"
+    "      --with <FILE>  Run this file in front, or in front of each that is checked\n"
     "      --save <FILE>  Save the forms in a file at the end\n"
     "  -q, --quiet        Say nothing but faults\n"
     "  -h, --help         Print help\n"
@@ -42,17 +44,21 @@ static const char COMMANDS[] =
     "::          begins a string that begins with one colon\n"
     "The language: man 7 trac. This program: man trac_terminal.\n";
 
+static const char VERSION[] = "trac_terminal " TRAC_VERSION "\n";
+
 /* The options, and their places. */
-enum { CELLS, ALLOWANCE, BATCH, CHECK, SAVE, QUIET };
-static option options[] = {{"--cells", 0, TAKES_SIGNED, "<N>", TRAC_MOST_CELLS, NULL, 0, NULL},
-                           {"--steps", 0, TAKES_UNSIGNED, "<N>", UINT64_C(1000000000000), NULL, 0, NULL},
-                           {"--batch", 0, TAKES_NOTHING, NULL, 0, NULL, 0, NULL},
-                           {"--check", 0, TAKES_NOTHING, NULL, 0, NULL, 0, NULL},
-                           {"--save", 0, TAKES_TEXT, "<FILE>", 0, NULL, 0, NULL},
-                           {"--quiet", 'q', TAKES_NOTHING, NULL, 0, NULL, 0, NULL},
-                           {"--help", 'h', TAKES_NOTHING, NULL, 0, HELP, 0, NULL},
-                           {"--version", 'V', TAKES_NOTHING, NULL, 0, "trac_terminal " TRAC_VERSION "\n", 0, NULL},
-                           {NULL, 0, TAKES_NOTHING, NULL, 0, NULL, 0, NULL}};
+enum { CELLS, ALLOWANCE, BATCH, CHECK, CONVERT, WITH, SAVE, QUIET };
+static option options[] = {{"--cells", 0, TAKES_SIGNED, "<N>", 1, TRAC_MOST_CELLS, NULL, 65536, NULL, 0},
+                           {"--steps", 0, TAKES_UNSIGNED, "<N>", 1, UINT64_C(1000000000000), NULL, 1000000, NULL, 0},
+                           {"--batch", 0, TAKES_NOTHING, NULL, 0, 0, NULL, 0, NULL, 0},
+                           {"--check", 0, TAKES_NOTHING, NULL, 0, 0, NULL, 0, NULL, 0},
+                           {"--convert", 0, TAKES_NOTHING, NULL, 0, 0, NULL, 0, NULL, 0},
+                           {"--with", 0, TAKES_TEXT, "<FILE>", 0, 0, NULL, 0, NULL, 0},
+                           {"--save", 0, TAKES_TEXT, "<FILE>", 0, 0, NULL, 0, NULL, 0},
+                           {"--quiet", 'q', TAKES_NOTHING, NULL, 0, 0, NULL, 0, NULL, 0},
+                           {"--help", 'h', TAKES_NOTHING, NULL, 0, 0, HELP, 0, NULL, 0},
+                           {"--version", 'V', TAKES_NOTHING, NULL, 0, 0, VERSION, 0, NULL, 0},
+                           {NULL, 0, TAKES_NOTHING, NULL, 0, 0, NULL, 0, NULL, 0}};
 
 /* Where strings are read from: a file, or what is typed. From `start` on it wasn't consumed. */
 typedef struct {
@@ -143,7 +149,7 @@ static void check_and_end(char *name) {
     (void)signal(SIGINT, SIG_DFL);
     trac_cell *const block = (trac_cell *)calloc(cells, sizeof *block);
     if (block)
-        (void)check_files(&name, 1, block, cells, options[ALLOWANCE].number);
+        (void)check_files(&name, 1, options[WITH].text, block, cells, options[ALLOWANCE].number);
     else
         (void)say_line(DONE, "trac_terminal: no memory to check a file\n");
     _exit(DONE);
@@ -495,13 +501,14 @@ static void load_file(session *of, const char *name) {
     (void)run_file(of, name, &became);
 }
 
-/* Runs the files. Nothing more is run where the output failed, there is no memory, or, unless the files are run by
- * themselves, a file can't be read or loaded. */
+/* Runs the files, first the one that is to stand in front. Nothing more is run where the output failed, there is no
+ * memory, or, unless the files are run by themselves, a file can't be read or loaded. */
 static outcome run_files(session *of, const command *given) {
     outcome became = {DONE, 0, 1};
     uint32_t fate = TRAC_GOING;
-    for (size_t i = 0; fate != STOPPED && became.goes_on && i < given->file_count; i++) {
-        fate = run_file(of, given->files[i], &became);
+    const size_t front = options[WITH].text != NULL;
+    for (size_t i = 0; fate != STOPPED && became.goes_on && i < front + given->file_count; i++) {
+        fate = run_file(of, i < front ? options[WITH].text : given->files[i - front], &became);
         became.goes_on = fate != TRAC_OUTPUT_FAILED && fate != TRAC_REFUSED &&
                          (!became.is_unread || fate == STOPPED || options[BATCH].number);
     }
@@ -538,6 +545,32 @@ static int run_all(session *of, const command *given) {
     return save(of, &files, is_typed && files.goes_on ? run_typed(of) : files.worst);
 }
 
+/* Refuses options that want a file where there is none, and those that can't stand together. Gives 0 where all is
+ * right. */
+static int refuse_together(const command *given) {
+    const option *const alone = &options[options[CONVERT].number ? CONVERT : options[CHECK].number ? CHECK : BATCH];
+    const char *other = options[BATCH].number ? "--batch" : options[SAVE].text ? "--save <FILE>" : NULL;
+    if (alone->number && !given->file_count)
+        return say_line(USAGE, "error: the following required arguments were not provided:\n  <FILE>...\n\n"
+                               "Usage: trac_terminal %s <FILE>..." HINT, alone->name);
+    if (options[CONVERT].number && !other)
+        other = options[CHECK].number ? "--check" : options[WITH].text ? "--with <FILE>" : NULL;
+    if (alone == &options[BATCH] || !other)
+        return 0;
+    return say_line(USAGE, "error: the argument '%s' cannot be used with '%s'\n\nUsage: %s" HINT, alone->name, other,
+                    given->usage);
+}
+
+/* Prints old listings as scripts. Gives the worst status. */
+static int convert_files(const command *given) {
+    int worst = DONE;
+    for (size_t i = 0; i < given->file_count && worst != OUTPUT_FAILED; i++) {
+        const int status = convert_file(given->files[i]);
+        worst = status > worst ? status : worst;
+    }
+    return worst;
+}
+
 int main(int count, char **words) {
     static session all;
     command given = {"trac_terminal [OPTIONS] [FILE ..]", options, 1, NULL, 0, NULL, NULL};
@@ -546,19 +579,15 @@ int main(int count, char **words) {
     const int status = count ? take_words(&given, words + 1) : -1;
     if (status >= 0)
         return status;
-    const option *const alone = &options[options[CHECK].number ? CHECK : BATCH];
-    if (alone->number && !given.file_count)
-        return say_line(USAGE, "error: the following required arguments were not provided:\n  <FILE>...\n\n"
-                               "Usage: trac_terminal %s <FILE>..." HINT, alone->name);
-    if (options[CHECK].number && (options[BATCH].number || options[SAVE].text))
-        return say_line(USAGE, "error: the argument '--check' cannot be used with '%s'\n\nUsage: %s" HINT,
-                        options[BATCH].number ? "--batch" : "--save <FILE>", given.usage);
-    options[CELLS].number = options[CELLS].number ? options[CELLS].number : 65536;
-    options[ALLOWANCE].number = options[ALLOWANCE].number ? options[ALLOWANCE].number : 1000000;
+    const int refused = refuse_together(&given);
+    if (refused)
+        return refused;
+    if (options[CONVERT].number)
+        return convert_files(&given);
     const size_t cells = (size_t)options[CELLS].number;
     trac_cell *const block = (trac_cell *)calloc(cells, sizeof(trac_cell));
     if (block && options[CHECK].number)
-        return check_files(given.files, given.file_count, block, cells, options[ALLOWANCE].number);
+        return check_files(given.files, given.file_count, options[WITH].text, block, cells, options[ALLOWANCE].number);
     if (!block || trac_open_zeroed(&all.machine, block, cells, options[ALLOWANCE].number))
         return say_line(NO_MEMORY, "trac: no memory for %zu cells\n", cells);
     all.block = block;

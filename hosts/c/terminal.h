@@ -1,4 +1,4 @@
-/* The parts of the program trac_terminal. Written by hand, and tested. */
+/* The parts of the program trac_terminal, of which trac_trace has some too. Written by hand, and tested. */
 #ifndef TERMINAL_H
 #define TERMINAL_H
 
@@ -50,12 +50,20 @@ int has_form(const trac_machine *machine, const uint8_t *name, size_t length, te
 
 /* ---- What is seen of a run: calls.c. */
 
-/* The functions of the language, in their order in the manual, up to a null pointer. */
-extern const char *const FUNCTIONS[];
+/* The length that a function's name has at most here. */
+enum { MOST_NAME = 8 };
 
-/* Whether this is the name of a function; its argument 1 is then the name of a form that must be there if
- * `*needs_form` becomes 1. */
-int is_function(const uint8_t *name, size_t length, int *needs_form);
+/* A function of the language: its name, with a null byte behind it, and what is true of its calls. */
+typedef struct {
+    char name[MOST_NAME + 1];
+    trac_function_facts facts;
+} known_function;
+
+/* Function `which` of the language, from 0; a null pointer behind the last, and where there is no memory for them. */
+const known_function *function_at(size_t which);
+
+/* The function of this name, in letters of either case; a null pointer where there is none. */
+const known_function *function_named(const uint8_t *name, size_t length);
 
 /* The lines, each ended by a null byte, that are to be said of the calls of a string's run that did nothing. The other
  * texts are of the call that is looked at. */
@@ -140,8 +148,36 @@ int save_forms(const trac_machine *machine, size_t cells, uint64_t steps, const 
 
 /* ---- What is suspicious in files: suspicions.c. */
 
+/* The status where something is suspicious, and nothing worse is. */
+enum { SUSPICIOUS = 7 };
+
+/* What a check works with: a block; memory for its lists and for its lines; what is printed of a file; and the script
+ * that is run in front of each file, with a line end behind it. */
+typedef struct {
+    trac_cell *block;
+    size_t cells;
+    uint64_t steps;
+    text lists, lines, print, front;
+} checker;
+
+/* Checks a script, with more memory where that has to be. Gives 0 where there is none. */
+int check_script(checker *with, const text *script, trac_report *report);
+
+/* The worse of two statuses: any is worse than 0, and any other than that of what is suspicious. */
+int worse(int a, int b);
+
 /* Runs files over a block, each by itself and without its output, and prints what is suspicious in them, each line
- * behind the file's name. Gives the worst status: 7 where something is suspicious, and nothing worse is. */
-int check_files(char *const *names, size_t count, trac_cell *block, size_t cells, uint64_t steps);
+ * behind the file's name. What stands in the file `with`, if that is no null pointer, is run in front of each. Gives
+ * the worst status: 7 where something is suspicious, and nothing worse is. */
+int check_files(char *const *names, size_t count, const char *with, trac_cell *block, size_t cells, uint64_t steps);
+
+/* ---- Old listings: listing.c. */
+
+/* Prints a file with line ends, apostrophes, what was taken back, and bare names of forms made right, and says what was
+ * made so and what stays as it is. Gives the status. */
+int convert_file(const char *name);
+
+/* Adds a line where a script looks like an old listing: what convert_file would make right. */
+void add_looks(text *to, const char *name, const text *listing);
 
 #endif

@@ -21,11 +21,11 @@ static const char HELP[] =
 
 /* The options, and their places. */
 enum { CELLS, ALLOWANCE, REPORT };
-static option options[] = {{"--cells", 0, TAKES_SIGNED, "<N>", TRAC_MOST_CELLS, NULL, 0, NULL},
-                           {"--steps", 0, TAKES_UNSIGNED, "<N>", UINT64_C(1000000000000), NULL, 0, NULL},
-                           {"--report", 0, TAKES_NOTHING, NULL, 0, NULL, 0, NULL},
-                           {"--help", 'h', TAKES_NOTHING, NULL, 0, HELP, 0, NULL},
-                           {NULL, 0, TAKES_NOTHING, NULL, 0, NULL, 0, NULL}};
+static option options[] = {{"--cells", 0, TAKES_SIGNED, "<N>", 1, TRAC_MOST_CELLS, NULL, 65536, NULL, 0},
+                           {"--steps", 0, TAKES_UNSIGNED, "<N>", 1, UINT64_C(1000000000000), NULL, 1000000, NULL, 0},
+                           {"--report", 0, TAKES_NOTHING, NULL, 0, 0, NULL, 0, NULL, 0},
+                           {"--help", 'h', TAKES_NOTHING, NULL, 0, 0, HELP, 0, NULL, 0},
+                           {NULL, 0, TAKES_NOTHING, NULL, 0, 0, NULL, 0, NULL, 0}};
 
 /* ---- The devices. */
 
@@ -137,8 +137,6 @@ int main(int count, char **words) {
     const int status = count ? take_words(&given, words + 1) : -1;
     if (status >= 0)
         return status;
-    options[CELLS].number = options[CELLS].number ? options[CELLS].number : 65536;
-    options[ALLOWANCE].number = options[ALLOWANCE].number ? options[ALLOWANCE].number : 1000000;
     const size_t cells = (size_t)options[CELLS].number, longest = cells + 1;
     sink to = {(uint8_t *)malloc(CHUNK), CHUNK};
     trac_cell *const block = (trac_cell *)calloc(cells * sizeof(trac_cell) + longest + CHUNK, 1);

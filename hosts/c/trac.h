@@ -1,9 +1,9 @@
 /* TRAC T-64 in a block of memory that the caller lends: for C11 and C++17.
  *
- * Two libraries have these functions, and either can take the other's place: libtrac.a, whose engine is proved and
- * built by the Rattle kit, and trac_engine.c, the same engine in C that was generated from it. trac_kind() says which
- * one it is. The engine meets its contracts where its callers meet the conditions below; the functions of this header
- * stand around it, in C, and are tested: they refuse pointers and machines that can't be used.
+ * Two libraries have these functions, and either can take the other's place: libtrac.a, whose engine is proved, and
+ * trac_engine.c, which is C generated from that engine. trac_kind() says which one it is. The engine meets its
+ * contracts if its callers meet the conditions below. The functions of this header wrap the engine in C. They are
+ * tested, not proved, and refuse pointers and machines that can't be used.
  *
  * Conditions that no function can test:
  * - a pointer is good for as many items as are said, and what is lent for writing overlaps nothing else that is lent;
@@ -14,9 +14,9 @@
  *   interrupted none of the same machine.
  *
  * The library takes no memory and calls memcpy, memmove and memset alone, beside what the compiler calls for numbers
- * of 64 and 128 bits. A call needs 8 KiB of stack at the most, trac_check 16 KiB; trac_engine.c some 2 KiB on a
- * Cortex-M3. On machines of 32 bits size_t has 32 bits, and so have the lengths here; steps have 64 everywhere.
- * trac_abi() says whether a program was compiled against the library's own header. */
+ * of 64 and 128 bits. A call needs 8 KiB of stack at the most, trac_check and trac_trace_step 16 KiB;
+ * trac_engine.c some 2 KiB on a Cortex-M3. On machines of 32 bits size_t has 32 bits, and so have the lengths here;
+ * steps have 64 everywhere. trac_abi() says whether a program was compiled against the library's own header. */
 #ifndef TRAC_H
 #define TRAC_H
 
@@ -51,13 +51,31 @@ typedef struct {
     uint64_t words[4];
 } trac_form;
 
-/* Values: both begin a variable, and both can be assigned. */
+/* What is shown of a run, step by step, and how far it has come. A new one is TRAC_NO_TRACE, all numbers 0; then the
+ * first six say what is shown. The others are told by trac_trace_step, or are the library's own. */
+typedef struct {
+    uint64_t from;    /* the first step that is shown, from 1 */
+    uint64_t to;      /* the last step that is shown */
+    uint32_t width;   /* the most bytes of a text in a line, and cells of a string, 0 for all */
+    uint32_t columns; /* the most columns of a line, 0 for any number */
+    uint32_t calls;   /* not 0: in the place of the steps the calls that are performed */
+    uint32_t forms;   /* not 0: in the place of the steps the forms that change, and at the end all of them */
+    uint64_t shown;   /* told: the last step of which something was shown; 0 before there is one */
+    uint64_t lines;   /* told: the bytes of all lines of the last call; more than there was room for are lost */
+    uint32_t peak;    /* told: the greatest need of a step so far, in cells */
+    uint32_t begun;   /* this and the rest are the library's own */
+    uint64_t depth, line, column, string_line, string_column;
+} trac_trace;
+
+/* Values: each begins a variable, and can be assigned. */
 #ifdef __cplusplus
 #define TRAC_NO_MACHINE trac_machine()
 #define TRAC_NO_FORM trac_form()
+#define TRAC_NO_TRACE trac_trace()
 #else
 #define TRAC_NO_MACHINE ((trac_machine){{0}})
 #define TRAC_NO_FORM ((trac_form){{0}})
+#define TRAC_NO_TRACE ((trac_trace){0, 0, 0, 0, 0, 0, 0, 0, 0, 0, 0, 0, 0, 0, 0})
 #endif
 
 /* How a run or a turn ended: trac_report.fate. */
@@ -66,12 +84,17 @@ typedef struct {
 #define TRAC_INPUT_ENDED 2u   /* the script asked for more input at its end */
 #define TRAC_WORKSPACE 3u     /* the next step needs more cells than there are; it wasn't done */
 #define TRAC_STEPS 4u         /* the allowance is used up */
-#define TRAC_INPUT_FAILED 5u  /* never answered here: bytes in memory don't fail */
+#define TRAC_INPUT_FAILED 5u  /* of trac_trace_step: the step reads past an input that fails there */
 #define TRAC_OUTPUT_FAILED 6u /* of trac_run: the output is full, and holds all that was printed up to there */
 #define TRAC_WANTS_INPUT 7u   /* of a turn: the next step reads more than there is; it wasn't done */
 #define TRAC_WANTS_OUTPUT 8u  /* of a turn: the next step prints more than there is room for; it wasn't done */
 #define TRAC_REFUSED 9u       /* too many cells, a pointer that can't be used, or no opened machine: nothing done */
-#define TRAC_NO_MEMORY 10u    /* of trac_check: the memory is too small for its lists; nothing was written */
+#define TRAC_NO_MEMORY 10u    /* of trac_check and trac_trace_step: the memory is too small for their lists */
+
+/* What is behind the input of trac_trace_step. */
+#define TRAC_INPUT_GOES_ON 0
+#define TRAC_INPUT_ENDS 1
+#define TRAC_INPUT_FAILS 2
 
 /* What stands in a string beside bytes, which are 0 to 255: the codes of trac_neutral. */
 #define TRAC_ACTIVE_CALL 256u  /* the mark of an active call */
@@ -102,6 +125,27 @@ typedef struct {
 #define TRAC_AWAITS_TEXT 1u /* a string, up to the meta character */
 #define TRAC_AWAITS_BYTE 2u
 
+/* How many arguments a function uses, where it uses all that a call has: trac_function_facts.uses. */
+#define TRAC_ALL_ARGUMENTS UINT32_MAX
+
+/* The forms that a call of a function concerns: trac_function_facts.forms. */
+#define TRAC_FORMS_NONE 0u
+#define TRAC_FORMS_FIRST 1u /* the one that its first argument names */
+#define TRAC_FORMS_EACH 2u  /* those that its arguments name */
+#define TRAC_FORMS_ALL 3u
+
+/* What of a form is the value of a call: trac_function_facts.gives. */
+#define TRAC_GIVES_NOTHING 0u
+#define TRAC_GIVES_BODY 1u /* all of it from its pointer on, with its gaps filled */
+#define TRAC_GIVES_PART 2u /* a part of it, which its pointer then goes past; or the default value */
+
+/* The texts about a function: trac_function_text. */
+#define TRAC_TEXT_NAME 0u     /* its name, as "cs", in letters of lower case; a call names it in either case */
+#define TRAC_TEXT_CALL 1u     /* a call of it, with letters for arguments, as "cs,N,Z" */
+#define TRAC_TEXT_TITLE 2u    /* what the name is short for, as "call segment" */
+#define TRAC_TEXT_SENTENCE 3u /* what it does, in a sentence with the letters of its call */
+#define TRAC_TEXT_GROUP 4u    /* the heading under which the manual tells of it */
+
 /* How the functions are declared: static with TRAC_STATIC, for a program that includes trac_engine.c and is to have
  * none of its names; exported with TRAC_EXPORT, where a shared library is built, whatever the compiler hides. */
 #if defined(TRAC_STATIC) && (defined(__GNUC__) || defined(__TINYC__))
@@ -126,6 +170,21 @@ typedef struct {
                       * lines; else 0 */
 } trac_report;
 
+/* What is true of every call of a function of the language. */
+typedef struct {
+    uint32_t uses;             /* how many arguments behind its name it uses, or TRAC_ALL_ARGUMENTS */
+    uint32_t forms;            /* the forms that a call concerns: TRAC_FORMS_.. */
+    uint32_t needs_form;       /* 1 where a call does nothing if no form has the name that its first argument is */
+    uint32_t changes_forms;    /* 1 where a call can make, change or remove the forms that it concerns */
+    uint32_t gives;            /* what of a form is its value: TRAC_GIVES_.. */
+    uint32_t default_argument; /* which argument behind its name is its default value; 0 where there is none */
+    uint32_t chooses;          /* 1 where its value is its third or its fourth argument */
+    uint32_t reads;            /* 1 where it reads */
+    uint32_t prints;           /* 1 where it can print */
+    uint32_t changes_meta;     /* 1 where it can change the meta character */
+    uint32_t ends;             /* 1 where it ends the run */
+} trac_function_facts;
+
 /* ---- The library. */
 
 /* Its version, as TRAC_VERSION is written. */
@@ -146,6 +205,20 @@ TRAC_API const char *trac_fate_name(uint32_t fate);
 /* A rule in words, as "end of call"; "?" for what is no rule. */
 TRAC_API const char *trac_rule_name(uint32_t rule);
 
+/* ---- The functions of the language, in the order of the manual. */
+
+/* How many there are. */
+TRAC_API size_t trac_function_count(void);
+
+/* Gives the facts of function `which`, from 0. Gives 0, or TRAC_REFUSED where there is no such function or `facts` is
+ * null, and nothing was written. */
+TRAC_API uint32_t trac_function(size_t which, trac_function_facts *facts);
+
+/* The length of a text about function `which`, TRAC_TEXT_.., in ASCII; as much of it as fits goes to the front of `to`,
+ * and the rest of it stays as it is. 0 where there is no such function or no such text, and where `to` is null and
+ * `room` isn't 0. */
+TRAC_API size_t trac_function_text(size_t which, uint32_t text, void *to, size_t room);
+
 /* ---- Scripts. Where a length is 0 its pointer may be null, also that of a block of no cells. */
 
 /* Runs a script in a block of so many cells, at most TRAC_MOST_CELLS, with an allowance of so many steps. What it
@@ -163,8 +236,8 @@ TRAC_API trac_report trac_run_zeroed(trac_cell *block, size_t cells, uint64_t st
  * for each place, as "line 2, column 5: no function has the name pss", in the order of their places, and behind them
  * the line of the fault, if one ended the run. These are the lines of `trac_trace --warn`. What the script prints is
  * dropped, and `consumed` is 0. The lists that this needs stand in `memory`, of which nothing is used afterwards; a
- * megabyte is enough for most scripts. The engine in C leaves this function out with -DTRAC_WITHOUT_CHECK, and all the
- * others with -DTRAC_CHECK_ALONE. */
+ * megabyte is enough for most scripts. With TRAC_NO_MEMORY nothing was written. The engine in C leaves this function
+ * out with -DTRAC_WITHOUT_CHECK, and trac_trace_step too; all the others with -DTRAC_CHECK_ALONE. */
 #if !defined(TRAC_STATIC) || !defined(TRAC_WITHOUT_CHECK)
 TRAC_API trac_report trac_check(trac_cell *block, size_t cells, uint64_t steps, const void *script,
                                 size_t script_length, void *memory, size_t memory_length, void *lines,
@@ -208,6 +281,29 @@ TRAC_API uint32_t trac_again(trac_machine *machine, uint64_t steps);
 /* The peak of a machine, in cells, which then counts from 0 again: called after each step it tells what that step
  * needed. 0 where the machine can't be used. */
 TRAC_API uint32_t trac_take_peak(trac_machine *machine);
+
+/* ---- A run that is shown. */
+
+/* Makes a step, as trac_turn does with `most` 1, and puts what is shown of it to the front of `lines`, as much as fits:
+ * the lines of `trac_trace`. A head stands in front of those of the first step, and behind those of the last one how
+ * the run ended, with all forms if `trace` asks for forms, and what a fault left. A turn that waits shows nothing.
+ *
+ *     trac_trace trace = TRAC_NO_TRACE;
+ *     trace.from = 1, trace.to = UINT64_MAX, trace.width = 100;
+ *
+ * `end` says what is behind these bytes of input: TRAC_INPUT_GOES_ON, TRAC_INPUT_ENDS, or TRAC_INPUT_FAILS, and then a
+ * step that reads past them ends the run with TRAC_INPUT_FAILED. Each later step of a run that is over makes none, and
+ * tells again how it ended. The peak of the report is that of the trace: each step takes the machine's over, which
+ * then counts from 0 again. A trace is of one run: behind trac_again give it TRAC_NO_TRACE again.
+ *
+ * The lists that a step needs stand in `memory`, of which nothing is used afterwards; `lines` of as many bytes are
+ * always enough. A megabyte is enough for steps and calls whose width is bound, in blocks of up to 50,000 cells. With
+ * TRAC_NO_MEMORY either nothing was done, or the step was, as the rest of the report tells, and its lines are lost. */
+#if !defined(TRAC_STATIC) || !defined(TRAC_WITHOUT_CHECK)
+TRAC_API trac_report trac_trace_step(trac_machine *machine, trac_trace *trace, const void *input, size_t input_length,
+                                     int end, void *output, size_t output_length, void *memory, size_t memory_length,
+                                     void *lines, size_t lines_length);
+#endif
 
 /* ---- What a machine shows of itself. None of these functions changes it.
  *

@@ -253,17 +253,16 @@ static void offer_forms(completion *of) {
 }
 
 static void offer_functions(completion *of) {
-    for (const char *const *name = FUNCTIONS; *name; name++)
-        offer(of, *name, strlen(*name));
+    const known_function *function;
+    for (size_t which = 0; (function = function_at(which)); which++)
+        offer(of, function->name, strlen(function->name));
 }
 
-/* Whether the last argument is the name of a form, as argument 1 of many functions is, and each of `dd`. */
+/* Whether the last argument is the name of a form. */
 static int names_form(const completion *of) {
-    const char *const name = (const char *)of->function.bytes;
-    int needs_form = 0;
-    const int is_known = is_function(of->function.bytes, of->function.length, &needs_form);
-    const int deletes = is_known && !strncasecmp(name, "dd", 2), defines = is_known && !strncasecmp(name, "ds", 2);
-    return deletes || ((needs_form || defines) && of->place == 1);
+    const known_function *const function = function_named(of->function.bytes, of->function.length);
+    const uint32_t forms = function ? function->facts.forms : TRAC_FORMS_NONE;
+    return (forms == TRAC_FORMS_FIRST && of->place == 1) || (forms == TRAC_FORMS_EACH && of->place >= 1);
 }
 
 /* Shows the names, as many of them as fit a screen, in lines below that of the cursor. */

@@ -80,17 +80,18 @@ static inline int is_utf8(const char *word) {
 /* What an option takes: nothing, a number that is read as one with a sign or as one without, or a text. */
 typedef enum { TAKES_NOTHING, TAKES_SIGNED, TAKES_UNSIGNED, TAKES_TEXT } option_kind;
 
-/* An option, and what was given for it. A number that wasn't given is 0; an option without a value that was given has
- * the number 1. */
+/* An option, and what was given for it. A number that wasn't given is as it was; an option without a value that was
+ * given has the number 1. */
 typedef struct {
     const char *name; /* with its two hyphens */
     char letter;      /* behind one hyphen; or 0 */
     option_kind kind;
-    const char *value; /* what its value is called; or null */
-    uint64_t most;     /* the greatest number */
-    const char *shown; /* a text that it shows, and the program then ends; or null */
+    const char *value;    /* what its value is called; or null */
+    uint64_t least, most; /* the numbers that it takes */
+    const char *shown;    /* a text that it shows, and the program then ends; or null */
     uint64_t number;
     const char *text;
+    int is_given;
 } option;
 
 /* A program's options, up to the one without a name. An option whose value is the next word waits until what follows is
@@ -136,10 +137,13 @@ static inline const char *fault_of_number(const char *word, option *to) {
             return is_negative ? "number too small to fit in target type" : "number too large to fit in target type";
         value = value * 10 + next;
     }
-    to->number = is_negative || value > to->most ? 0 : value;
-    (void)snprintf(range, sizeof range, "%s%" PRIu64 " is not in 1..=%" PRIu64, is_negative && value ? "-" : "", value,
-                   to->most);
-    return to->number ? NULL : range;
+    if ((!is_negative || !value) && value >= to->least && value <= to->most) {
+        to->number = value;
+        return NULL;
+    }
+    (void)snprintf(range, sizeof range, "%s%" PRIu64 " is not in %" PRIu64 "..=%" PRIu64,
+                   is_negative && value ? "-" : "", value, to->least, to->most);
+    return range;
 }
 
 /* Takes the option that waits. Gives -1, or the status with which the program ends, as the functions below. */
@@ -152,9 +156,10 @@ static inline int take_waiting(command *of) {
     if (!of->value)
         return say_line(USAGE, "error: a value is required for '%s %s' but none was supplied" HINT, to->name,
                         to->value);
-    if (to->number || to->text)
+    if (to->is_given)
         return say_line(USAGE, "error: the argument '%s %s' cannot be used multiple times\n\nUsage: %s" HINT, to->name,
                         to->value, of->usage);
+    to->is_given = 1;
     if (to->kind == TAKES_TEXT)
         to->text = of->value;
     else

@@ -79,6 +79,24 @@ export const MOST_CELLS: 16777216;
  * the next turn, with more behind them
  */
 /**
+ * What is shown of a run.
+ * @typedef {object} Views
+ * @property {number | bigint} [from] the first step that is shown, from 1, which it is if left out
+ * @property {number | bigint} [to] the last step that is shown, to 2^64 - 1, which it is if left out
+ * @property {boolean} [calls] the calls that are performed are shown, and not the steps
+ * @property {boolean} [forms] the forms that change are shown, and all of them at the end, and not the steps
+ * @property {number} [width] the most bytes of a text, and cells of a string, 0 for all, to 16777216; 100 if left out
+ * @property {number} [columns] the most columns of a line, 0 for any number, to 16777216; 0 if left out
+ */
+/**
+ * A run that is shown, step by step. Made by `Session.trace`.
+ * @typedef {object} Trace
+ * @property {(input?: string | Uint8Array | ArrayBuffer, how?: {ended?: boolean}) => TurnReport & {lines: string}} step
+ * makes a step as a turn does whose `most` is 1, and gives its lines too: a head in front of those of the first
+ * one, and behind those of the last one how the run ended. No lines where it wants input or output. Each later
+ * step tells again how the run ended.
+ */
+/**
  * A form, as it stands.
  * @typedef {object} StoredForm
  * @property {Uint8Array} name
@@ -97,6 +115,27 @@ export const MOST_CELLS: 16777216;
  * block holds is nothing then
  * @property {bigint} steps
  * @property {Uint8Array} cut the bytes of a character that the last turn cut
+ */
+/**
+ * A function of the language: how it is called, what it is, and what is true of every call of it.
+ * @typedef {object} LanguageFunction
+ * @property {string} name its name, in letters of lower case
+ * @property {string} call a call of it without the marks, with letters for arguments: `cs,N,Z`
+ * @property {string} title what the name is short for
+ * @property {string} sentence what it does, in one sentence with the letters of its call
+ * @property {string} group the heading under which the manual tells of it
+ * @property {number} uses how many arguments behind its name it uses; Infinity if all
+ * @property {'none' | 'first' | 'each' | 'all'} forms the forms that a call concerns: none, the one that its first
+ * argument names, those that its arguments name, or all
+ * @property {boolean} needsForm whether a call does nothing if no form has the name that its first argument is
+ * @property {boolean} changesForms whether a call can make, change or remove the forms that it concerns
+ * @property {'nothing' | 'body' | 'part'} gives what of a form is its value
+ * @property {number} defaultArgument which argument is its default value; 0 if it has none
+ * @property {boolean} chooses whether its value is its third or its fourth argument
+ * @property {boolean} reads whether it reads
+ * @property {boolean} prints whether it can print
+ * @property {boolean} changesMeta whether it can change the meta character
+ * @property {boolean} ends whether it ends the run
  */
 /**
  * One machine that is kept, in a memory of its own: scripts are run by turns, and the forms stay from
@@ -139,6 +178,15 @@ export class Session {
         ended?: boolean;
         most?: number | bigint;
     }): TurnReport;
+    /**
+     * The run from here on as lines, which are those of `trac_trace`. A trace is of one run: behind `again` begin
+     * another. The report of a step has the peak of the whole trace, and that of the session counts from 0 again.
+     * @param {Views} [views] what is shown
+     * @returns {Trace}
+     * @throws {TypeError} where a number is no whole number, or an option unknown
+     * @throws {RangeError} where a number is out of its range
+     */
+    trace(views?: Views): Trace;
     /**
      * Begins a new run with this allowance: both strings are cleared, with the calls that are open,
      * and the steps and the peak count from 0. The forms with their pointers and the meta character
@@ -212,6 +260,11 @@ export class Session {
      * @throws {RangeError} where it is out of its range
      */
     argument(which: number, most?: number): Uint8Array;
+    /**
+     * The functions of the language, in the order of the manual.
+     * @returns {LanguageFunction[]}
+     */
+    functions(): LanguageFunction[];
     /**
      * How many characters the next step takes from the front of the active string: those that open a
      * call; a text in parentheses with both of them; all, where a left parenthesis has no match; none
@@ -367,6 +420,50 @@ export type TurnReport = {
     consumed: number;
 };
 /**
+ * What is shown of a run.
+ */
+export type Views = {
+    /**
+     * the first step that is shown, from 1, which it is if left out
+     */
+    from?: number | bigint;
+    /**
+     * the last step that is shown, to 2^64 - 1, which it is if left out
+     */
+    to?: number | bigint;
+    /**
+     * the calls that are performed are shown, and not the steps
+     */
+    calls?: boolean;
+    /**
+     * the forms that change are shown, and all of them at the end, and not the steps
+     */
+    forms?: boolean;
+    /**
+     * the most bytes of a text, and cells of a string, 0 for all, to 16777216; 100 if left out
+     */
+    width?: number;
+    /**
+     * the most columns of a line, 0 for any number, to 16777216; 0 if left out
+     */
+    columns?: number;
+};
+/**
+ * A run that is shown, step by step. Made by `Session.trace`.
+ */
+export type Trace = {
+    /**
+     * makes a step as a turn does whose `most` is 1, and gives its lines too: a head in front of those of the first
+     * one, and behind those of the last one how the run ended. No lines where it wants input or output. Each later
+     * step tells again how the run ended.
+     */
+    step: (input?: string | Uint8Array | ArrayBuffer, how?: {
+        ended?: boolean;
+    }) => TurnReport & {
+        lines: string;
+    };
+};
+/**
  * A form, as it stands.
  */
 export type StoredForm = {
@@ -405,4 +502,74 @@ export type Saved = {
      * the bytes of a character that the last turn cut
      */
     cut: Uint8Array;
+};
+/**
+ * A function of the language: how it is called, what it is, and what is true of every call of it.
+ */
+export type LanguageFunction = {
+    /**
+     * its name, in letters of lower case
+     */
+    name: string;
+    /**
+     * a call of it without the marks, with letters for arguments: `cs,N,Z`
+     */
+    call: string;
+    /**
+     * what the name is short for
+     */
+    title: string;
+    /**
+     * what it does, in one sentence with the letters of its call
+     */
+    sentence: string;
+    /**
+     * the heading under which the manual tells of it
+     */
+    group: string;
+    /**
+     * how many arguments behind its name it uses; Infinity if all
+     */
+    uses: number;
+    /**
+     * the forms that a call concerns: none, the one that its first
+     * argument names, those that its arguments name, or all
+     */
+    forms: 'none' | 'first' | 'each' | 'all';
+    /**
+     * whether a call does nothing if no form has the name that its first argument is
+     */
+    needsForm: boolean;
+    /**
+     * whether a call can make, change or remove the forms that it concerns
+     */
+    changesForms: boolean;
+    /**
+     * what of a form is its value
+     */
+    gives: 'nothing' | 'body' | 'part';
+    /**
+     * which argument is its default value; 0 if it has none
+     */
+    defaultArgument: number;
+    /**
+     * whether its value is its third or its fourth argument
+     */
+    chooses: boolean;
+    /**
+     * whether it reads
+     */
+    reads: boolean;
+    /**
+     * whether it can print
+     */
+    prints: boolean;
+    /**
+     * whether it can change the meta character
+     */
+    changesMeta: boolean;
+    /**
+     * whether it ends the run
+     */
+    ends: boolean;
 };

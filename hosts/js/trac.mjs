@@ -24,9 +24,17 @@ const LARGEST = 2n ** 64n - 1n;
 const REFUSED = 9;
 const WANTS_OUTPUT = 8;
 const NO_MEMORY = 10;
-/** The bytes of a unit of the memory for the lists of a check, and those of its lines that are tried first. */
+/** The bytes of a unit of the memory for lists, and those of the lines of a check that are tried first. */
 const LIST_UNIT = 16;
 const LEAST_LINES = 2 ** 16;
+/** The bytes of a trace as the engine keeps it, where the number of its lines' bytes stands, and its widest line. */
+const TRACE_SIZE = 96;
+const TRACE_LINES = 40;
+const MOST_WIDTH = 16777216;
+/** The bytes for the lists of a step that is shown, and as many for its lines: of any, and more for each cell. */
+const STEP_LISTS = 2 ** 20;
+const LISTS_OF_A_CELL = 96;
+const MOST_STEP_LISTS = 2 ** 28;
 const WARNING = /^line (\d+), column (\d+): (.*)$/s;
 /** The fates of a turn after which its run goes on. */
 const ON_ITS_WAY = new Set(['going', 'wants input', 'wants output']);
@@ -36,6 +44,10 @@ const RULE_NAMES = ['idling', 'layout', 'protection', 'argument', 'active call',
     'number sign', 'end of call', 'character'];
 const AWAITED_NAMES = ['nothing', 'text', 'byte'];
 const PART_NAMES = ['store', 'neutral', 'free', 'active'];
+/** What the numbers of the table of functions mean, and one of them: all arguments. */
+const CONCERNED_NAMES = ['none', 'first', 'each', 'all'];
+const GIVEN_NAMES = ['nothing', 'body', 'part'];
+const ALL_ARGUMENTS = 2 ** 32 - 1;
 
 /**
  * What a run came to.
@@ -360,6 +372,22 @@ function checkReport({ fate, steps, peak, text }) {
 }
 
 /**
+ * The words of a trace before its first step.
+ * @param {Views} views
+ */
+function traceWords(views) {
+    known(views, ['from', 'to', 'calls', 'forms', 'width', 'columns']);
+    const { from = 1, to = LARGEST, calls = false, forms = false, width = 100, columns = 0 } = views;
+    const words = new Uint8Array(TRACE_SIZE);
+    const numbers = new DataView(words.buffer);
+    numbers.setBigUint64(0, whole('from', from, 1n, LARGEST), true);
+    numbers.setBigUint64(8, whole('to', to, 1n, LARGEST), true);
+    [whole('width', width, 0n, BigInt(MOST_WIDTH)), whole('columns', columns, 0n, BigInt(MOST_WIDTH)), calls, forms]
+        .forEach((value, i) => numbers.setUint32(16 + 4 * i, Number(value), true));
+    return words;
+}
+
+/**
  * A part of a session's memory that grows when more is asked for; what it held is not kept then.
  */
 class Buffer {
@@ -477,6 +505,26 @@ function layPages(block, pages) {
  */
 
 /**
+ * What is shown of a run.
+ * @typedef {object} Views
+ * @property {number | bigint} [from] the first step that is shown, from 1, which it is if left out
+ * @property {number | bigint} [to] the last step that is shown, to 2^64 - 1, which it is if left out
+ * @property {boolean} [calls] the calls that are performed are shown, and not the steps
+ * @property {boolean} [forms] the forms that change are shown, and all of them at the end, and not the steps
+ * @property {number} [width] the most bytes of a text, and cells of a string, 0 for all, to 16777216; 100 if left out
+ * @property {number} [columns] the most columns of a line, 0 for any number, to 16777216; 0 if left out
+ */
+
+/**
+ * A run that is shown, step by step. Made by `Session.trace`.
+ * @typedef {object} Trace
+ * @property {(input?: string | Uint8Array | ArrayBuffer, how?: {ended?: boolean}) => TurnReport & {lines: string}} step
+ * makes a step as a turn does whose `most` is 1, and gives its lines too: a head in front of those of the first
+ * one, and behind those of the last one how the run ended. No lines where it wants input or output. Each later
+ * step tells again how the run ended.
+ */
+
+/**
  * A form, as it stands.
  * @typedef {object} StoredForm
  * @property {Uint8Array} name
@@ -496,6 +544,28 @@ function layPages(block, pages) {
  * block holds is nothing then
  * @property {bigint} steps
  * @property {Uint8Array} cut the bytes of a character that the last turn cut
+ */
+
+/**
+ * A function of the language: how it is called, what it is, and what is true of every call of it.
+ * @typedef {object} LanguageFunction
+ * @property {string} name its name, in letters of lower case
+ * @property {string} call a call of it without the marks, with letters for arguments: `cs,N,Z`
+ * @property {string} title what the name is short for
+ * @property {string} sentence what it does, in one sentence with the letters of its call
+ * @property {string} group the heading under which the manual tells of it
+ * @property {number} uses how many arguments behind its name it uses; Infinity if all
+ * @property {'none' | 'first' | 'each' | 'all'} forms the forms that a call concerns: none, the one that its first
+ * argument names, those that its arguments name, or all
+ * @property {boolean} needsForm whether a call does nothing if no form has the name that its first argument is
+ * @property {boolean} changesForms whether a call can make, change or remove the forms that it concerns
+ * @property {'nothing' | 'body' | 'part'} gives what of a form is its value
+ * @property {number} defaultArgument which argument is its default value; 0 if it has none
+ * @property {boolean} chooses whether its value is its third or its fourth argument
+ * @property {boolean} reads whether it reads
+ * @property {boolean} prints whether it can print
+ * @property {boolean} changesMeta whether it can change the meta character
+ * @property {boolean} ends whether it ends the run
  */
 
 /**
@@ -542,6 +612,12 @@ export class Session {
 
     #output;
 
+    #trace;
+
+    #lists;
+
+    #lines;
+
     /**
      * Use `Session.open`.
      * @param {WebAssembly.Instance} instance
@@ -559,6 +635,9 @@ export class Session {
         this.#memory.reserve();
         this.#input = new Buffer(this.#memory);
         this.#output = new Buffer(this.#memory);
+        this.#trace = new Buffer(this.#memory);
+        this.#lists = new Buffer(this.#memory);
+        this.#lines = new Buffer(this.#memory);
         if (this.#engine.trac_engine_open(this.#machine, this.#block, cells, steps) === REFUSED) {
             throw new RangeError(`cells must be from 1 to ${MOST_CELLS}`);
         }
@@ -594,6 +673,19 @@ export class Session {
                 return this.#reportOf(told, joined(printed), consumed);
             }
         }
+    }
+
+    /**
+     * The run from here on as lines, which are those of `trac_trace`. A trace is of one run: behind `again` begin
+     * another. The report of a step has the peak of the whole trace, and that of the session counts from 0 again.
+     * @param {Views} [views] what is shown
+     * @returns {Trace}
+     * @throws {TypeError} where a number is no whole number, or an option unknown
+     * @throws {RangeError} where a number is out of its range
+     */
+    trace(views = {}) {
+        const words = traceWords(views);
+        return { step: (input = '', how = {}) => this.#show(words, bytesOf('input', input), how) };
     }
 
     /**
@@ -725,6 +817,15 @@ export class Session {
     }
 
     /**
+     * The functions of the language, in the order of the manual.
+     * @returns {LanguageFunction[]}
+     */
+    functions() {
+        const count = Number(this.#engine.trac_engine_function_count());
+        return Array.from({ length: count }, (_, which) => this.#function(BigInt(which)));
+    }
+
+    /**
      * How many characters the next step takes from the front of the active string: those that open a
      * call; a text in parentheses with both of them; all, where a left parenthesis has no match; none
      * of an empty string; and else one.
@@ -826,6 +927,38 @@ export class Session {
     }
 
     /**
+     * Makes a step that is shown, by the words of its trace, which it changes.
+     * @param {Uint8Array} words
+     * @param {Uint8Array} bytes
+     * @param {{ended?: boolean}} how
+     */
+    #show(words, bytes, how) {
+        known(how, ['ended']);
+        const size = STEP_LISTS + Math.min(LISTS_OF_A_CELL * this.#cells, MOST_STEP_LISTS);
+        const [trace, lists, lines, input] = [this.#trace.of(TRACE_SIZE), this.#lists.of(size), this.#lines.of(size),
+            this.#input.of(bytes.length)];
+        this.#bytes(input, bytes.length).set(bytes);
+        this.#bytes(trace, TRACE_SIZE).set(words);
+        let told;
+        for (let wanted = 1; ; wanted = told.wanted) {
+            const output = this.#output.of(wanted);
+            this.#used = true;
+            this.#engine.trac_engine_trace_step(this.#report, this.#machine, trace, input, BigInt(bytes.length), output,
+                BigInt(this.#output.size), how.ended ? 1 : 0, lists, BigInt(Math.floor(size / LIST_UNIT)), lines,
+                BigInt(size));
+            told = reportAt(this.#engine.memory.buffer, this.#report);
+            if (told.fate !== WANTS_OUTPUT) break;
+        }
+        words.set(this.#bytes(trace, TRACE_SIZE));
+        this.#steps = told.steps;
+        if (told.fate === NO_MEMORY) throw new RangeError('there is no memory for the lines of a step');
+        const length = Number(new DataView(words.buffer).getBigUint64(TRACE_LINES, true));
+        const printed = this.#bytes(this.#output.place, told.written).slice();
+        return Object.assign(this.#reportOf(told, printed, told.consumed), {
+            lines: textOf(this.#bytes(lines, length).slice()) });
+    }
+
+    /**
      * Whether there is room for what a turn wants to print. Where nothing was done, want of memory is
      * an error.
      * @param {{wanted: number, consumed: number}} told
@@ -887,6 +1020,33 @@ export class Session {
         const told = reportAt(this.#engine.memory.buffer, this.#report);
         this.#steps = told.steps;
         return { ...told, output: this.#bytes(output, told.written).slice() };
+    }
+
+    /**
+     * A function of the language.
+     * @param {bigint} which
+     * @returns {LanguageFunction}
+     */
+    #function(which) {
+        const [name, call, title, sentence, group] = [0, 1, 2, 3, 4].map((kind) => textOf(this.#text(
+            (to, room) => this.#engine.trac_engine_function_text(which, kind, to, room))));
+        /** @param {number} fact */
+        const number = (fact) => this.#engine.trac_engine_function_fact(which, fact) >>> 0;
+        const uses = number(0);
+        return {
+            name, call, title, sentence, group,
+            uses: uses === ALL_ARGUMENTS ? Infinity : uses,
+            forms: /** @type {LanguageFunction['forms']} */ (CONCERNED_NAMES[number(1)]),
+            needsForm: number(2) === 1,
+            changesForms: number(3) === 1,
+            gives: /** @type {LanguageFunction['gives']} */ (GIVEN_NAMES[number(4)]),
+            defaultArgument: number(5),
+            chooses: number(6) === 1,
+            reads: number(7) === 1,
+            prints: number(8) === 1,
+            changesMeta: number(9) === 1,
+            ends: number(10) === 1,
+        };
     }
 
     /**

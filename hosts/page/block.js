@@ -34,19 +34,20 @@ function showBar(bar, parts, cells, peak) {
 /**
  * Shows the block to scale, and as it would be with no cell more than the run needs.
  * @param {Record<string, number>} parts
- * @param {{cells: number, peak: number, least: number}} sizes the peak up to here, and of the run
+ * @param {{cells: number, need: number | null, peak: number, least: number}} sizes what the last step needed, where
+ * that is known; the peak up to here, and of the run
  */
-export function showBlock(parts, { cells, peak, least }) {
+export function showBlock(parts, { cells, need, peak, least }) {
     const used = cells - parts.free;
-    find('cells-used').textContent = `${counted(used)} of ${counted(cells)} in use`;
+    find('cells-used').textContent = `${counted(used)} of ${counted(cells)} in use${
+        need === null ? '' : `; the last step needed ${counted(need)}`}`;
     showBar(find('block'), parts, cells, peak);
     const room = Math.max(least, 1);
-    find('scale').textContent = 'The same in a block of '
-        + `${several(room, 'cell')}, the least in which this run ends so:`;
+    find('scale').textContent = `The same in ${several(room, 'cell')}, the least in which this run ends so:`;
     showBar(find('enlarged'), { ...parts, free: Math.max(0, room - used) }, room, peak);
     /** @type {[string, string, number][]} */
     const entries = PARTS.map(([name, words]) => [`part-${name}`, words, parts[name]]);
-    entries.push(['part-peak', 'peak so far', peak]);
+    entries.push(['part-peak', 'peak', peak]);
     find('legend').replaceChildren(...entries.map(([kind, words, number]) => element(
         'li', '', element('i', kind), `${words} ${counted(number)}`)));
 }

@@ -4,10 +4,14 @@
  * @module
  */
 
-import { byDepth, partnerOf } from './codes.js';
+import { byDepth, openAt, partnerOf } from './codes.js';
 import { depthClass, element, find } from './dom.js';
 
 const MOST_COLOURED = 20000;
+// Of a longer text the part in view is coloured: a key takes no longer then.
+const MOST_IN_COLOUR = 1000;
+// How many characters stand in a square as wide as the type is large, and some more.
+const CHARACTERS_IN_SQUARE = 1.2;
 const MOST_ASIDE = 20;
 // Of a long text so much of a part is marked: what stands behind it needs no layout then.
 const MOST_MARKED = 4000;
@@ -93,9 +97,17 @@ class Box {
         this.sheet = find(`${id}-marks`);
         /** @type {{from: number, to: number, isFault: boolean} | null} */
         this.part = null;
+        /** @type {number[]} the places of suspicious characters, in order */
+        this.spots = [];
+        /** The text that the sheet was drawn for. */
+        this.drawn = '';
+        /** Around which place a long text is coloured, and which part of it. */
+        this.centre = 0;
+        this.coloured = { from: 0, to: 0 };
         /** @type {Map<number, HTMLElement>} */
         this.parens = new Map();
-        this.box.addEventListener('scroll', () => this.scrollUnder());
+        this.box.addEventListener('scroll', () => this.followView());
+        new ResizeObserver(() => this.followView()).observe(this.box);
         document.addEventListener('selectionchange', () => this.showPair());
     }
 
@@ -118,6 +130,7 @@ class Box {
         if (this.text !== text) this.box.value = text;
         this.box.setSelectionRange(0, 0);
         this.box.scrollTop = 0;
+        this.centre = 0;
         this.box.blur();
         at.focus({ preventScroll: true });
         this.draw();
@@ -131,7 +144,8 @@ class Box {
         this.part = part && part.from < part.to ? part : null;
         this.draw();
         const marked = this.sheet.querySelector('mark');
-        if (!marked) return;
+        // where one types the cursor stays in view
+        if (!marked || document.activeElement === this.box) return;
         const { scrollTop, clientHeight } = this.box;
         const place = marked.offsetTop;
         if (place < scrollTop || place > scrollTop + clientHeight - 48) {
@@ -140,17 +154,36 @@ class Box {
         this.scrollUnder();
     }
 
+    /**
+     * Marks suspicious characters, and nothing else as such.
+     * @param {number[]} places in order
+     */
+    spot(places) {
+        if (!places.length && !this.spots.length) return;
+        this.spots = places;
+        this.draw();
+    }
+
+    /** Draws another text than the one that was drawn; what was marked in that is not marked in this. */
+    refresh() {
+        if (this.text === this.drawn && !this.part) return;
+        this.part = null;
+        this.spots = [];
+        this.centre = this.box.selectionStart;
+        this.draw();
+    }
+
     /** @param {boolean} [isWhole] whether the sheet shows a long text too, as it does on paper */
     draw(isWhole = false) {
         const { text, part } = this;
         const isColoured = text.length <= MOST_COLOURED;
+        this.drawn = text;
         this.parens.clear();
         this.box.parentElement.classList.toggle('coloured', isColoured);
         const [from, to] = part ? [part.from, part.to] : [text.length, text.length];
-        const parts = isColoured ? this.colouredParts(text) : [{ node: text, at: 0 }];
         const end = isColoured || isWhole ? to : Math.min(to, from + MOST_MARKED);
         const pieces = isColoured ? null : [text.slice(0, from), text.slice(from, end), text.slice(end)];
-        const [front, middle, back] = pieces?.map((each) => [each]) ?? cut(parts, from, to);
+        const [front, middle, back] = pieces?.map((each) => [each]) ?? cut(this.parts(text, isWhole), from, to);
         const marked = part ? [element('mark', part.isFault ? 'fault' : '', ...middle)] : middle;
         if (isColoured || isWhole) this.sheet.replaceChildren(...front, ...marked, ...back, '\n');
         else if (part) this.sheet.replaceChildren(...front, ...marked, this.rest());
@@ -167,16 +200,66 @@ class Box {
     }
 
     /**
-     * The parts of a text, parentheses in the colours of their depths.
+     * The parts of a text: those around the cursor in the colours of their depths, and what is suspicious marked.
      * @param {string} text
+     * @param {boolean} isWhole whether all of it is coloured
+     * @returns {{node: Node | string, at: number}[]}
      */
-    colouredParts(text) {
-        return byDepth(text).map(({ text: part, depth, at }) => {
-            if (!depth) return { node: part, at };
+    parts(text, isWhole) {
+        const isShort = isWhole || text.length <= MOST_IN_COLOUR;
+        this.coloured = isShort ? { from: 0, to: text.length } : this.around(this.centre);
+        const { from, to } = this.coloured;
+        const inside = byDepth(text.slice(from, to), openAt(text, from)).map(({ text: part, depth, at }) => {
+            if (!depth) return { node: part, at: from + at };
             const node = element('span', `paren ${depthClass(depth)}`, part);
-            this.parens.set(at, node);
-            return { node, at };
+            this.parens.set(from + at, node);
+            return { node, at: from + at };
         });
+        return [{ node: text.slice(0, from), at: 0 }, ...spotted(inside, this.spots), { node: text.slice(to), at: to }];
+    }
+
+    /**
+     * As much of the text to either side of a place as the box can show.
+     * @param {number} place
+     */
+    around(place) {
+        const { clientWidth, clientHeight } = this.box;
+        const size = parseFloat(getComputedStyle(this.box).fontSize);
+        const room = Math.ceil((clientWidth / size) * (clientHeight / size) * CHARACTERS_IN_SQUARE);
+        return { from: Math.max(0, place - room), to: Math.min(this.text.length, place + room) };
+    }
+
+    /** Keeps the sheet under the box, and colours what has come into view. */
+    followView() {
+        this.scrollUnder();
+        const { length } = this.text;
+        const { from, to } = this.coloured;
+        if (to - from >= length || length > MOST_COLOURED || this.text !== this.drawn) return;
+        const [first, last] = [0, this.box.clientHeight].map((height) => this.placeAt(height));
+        if (first >= from && last <= to) return;
+        this.centre = (first + last) >> 1;
+        this.draw();
+    }
+
+    /**
+     * The place of the first character that doesn't end above a height of the box.
+     * @param {number} height
+     */
+    placeAt(height) {
+        const texts = textsOf(this.sheet);
+        const one = document.createRange();
+        const { top } = this.sheet.getBoundingClientRect();
+        let [low, high] = [0, this.text.length];
+        while (low < high) {
+            const middle = (low + high) >> 1;
+            const next = texts.findIndex(({ at }) => at > middle);
+            const { node, at } = texts[(next < 0 ? texts.length : next) - 1];
+            one.setStart(node, middle - at);
+            one.setEnd(node, middle - at + 1);
+            if (one.getBoundingClientRect().bottom - top <= height) low = middle + 1;
+            else high = middle;
+        }
+        return low;
     }
 
     /** Shows the parenthesis at the cursor, and the one that belongs to it. */
@@ -196,6 +279,55 @@ class Box {
     scrollUnder() {
         this.sheet.scrollTop = this.box.scrollTop;
     }
+}
+
+/**
+ * The text nodes of an element, and in front of how much text each stands.
+ * @param {HTMLElement} whole
+ */
+function textsOf(whole) {
+    const walk = document.createTreeWalker(whole, NodeFilter.SHOW_TEXT);
+    /** @type {{node: Text, at: number}[]} */
+    const found = [];
+    for (let at = 0; walk.nextNode(); at += found[found.length - 1].node.length) {
+        found.push({ node: /** @type {Text} */ (walk.currentNode), at });
+    }
+    return found;
+}
+
+/**
+ * A part of a text, with the characters at some places marked.
+ * @param {string} text
+ * @param {number} at where it stands
+ * @param {number[]} spots places in it, in order
+ */
+function withSpots(text, at, spots) {
+    /** @type {{node: Node | string, at: number}[]} */
+    const made = [];
+    let from = 0;
+    for (const place of spots) {
+        const letter = String.fromCodePoint(text.codePointAt(place - at));
+        made.push({ node: text.slice(from, place - at), at: at + from });
+        made.push({ node: element('span', 'spot', letter), at: place });
+        from = place - at + letter.length;
+    }
+    return [...made, { node: text.slice(from), at: at + from }];
+}
+
+/**
+ * Parts of a text, with the characters at some places marked as suspicious.
+ * @param {{node: HTMLElement | string, at: number}[]} parts
+ * @param {number[]} spots places in the whole text, in order
+ */
+function spotted(parts, spots) {
+    if (!spots.length) return parts;
+    return parts.flatMap(({ node, at }) => {
+        if (typeof node === 'string') {
+            return withSpots(node, at, spots.filter((place) => place >= at && place < at + node.length));
+        }
+        if (spots.includes(at)) node.classList.add('spot');
+        return [{ node, at }];
+    });
 }
 
 /**
@@ -252,8 +384,7 @@ export class Boxes {
 
     /** Takes note of another text. */
     changed() {
-        this.mark(null);
-        for (const box of Object.values(this.boxes)) box.draw();
+        for (const box of Object.values(this.boxes)) box.refresh();
         this.onChange();
         this.save();
     }
@@ -342,6 +473,17 @@ export class Boxes {
         };
         script.mark(within(0, first));
         input.mark(within(first, input.text.length));
+    }
+
+    /**
+     * Marks suspicious characters of the texts.
+     * @param {number[]} places in order
+     */
+    spot(places) {
+        const { script, input } = this.boxes;
+        const first = script.text.length;
+        script.spot(places.filter((place) => place < first));
+        input.spot(places.filter((place) => place >= first).map((place) => place - first));
     }
 
     /**

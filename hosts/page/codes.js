@@ -227,6 +227,20 @@ export function byDepth(text, open = 0) {
 }
 
 /**
+ * How many parentheses are open in front of a place of a text.
+ * @param {string} text
+ * @param {number} place
+ */
+export function openAt(text, place) {
+    let depth = 0;
+    for (let at = 0; at < place; at += 1) {
+        if (text[at] === '(') depth += 1;
+        else if (text[at] === ')') depth = Math.max(0, depth - 1);
+    }
+    return depth;
+}
+
+/**
  * The place of the parenthesis that belongs to the one at a place, or -1.
  * @param {string} text
  * @param {number} place

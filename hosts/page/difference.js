@@ -6,6 +6,7 @@
 
 import { counted, several, shortName } from './codes.js';
 import { blank, element, find } from './dom.js';
+import { withoutEnd } from './trial.js';
 
 /**
  * The first line in which two outputs differ: its text in either, or null where there is no such line; its number; and
@@ -14,29 +15,20 @@ import { blank, element, find } from './dom.js';
  */
 
 /**
- * An output without line feeds at its ends, which have no meaning.
- * @param {string} text
- */
-function trimmed(text) {
-    return text.replace(/^\n+|\n+$/g, '');
-}
-
-/**
  * Where an output differs from the one that is wanted, or null.
  * @param {string} output
  * @param {string} wanted
  * @returns {Difference | null}
  */
 export function differenceOf(output, wanted) {
-    const both = [output, wanted].map((text) => trimmed(text).split('\n'));
+    const both = [output, wanted].map((text) => withoutEnd(text).split('\n'));
     const [lines, others] = both;
     const at = Array.from({ length: Math.max(lines.length, others.length) })
         .findIndex((_, index) => lines[index] !== others[index]);
     if (at < 0) return null;
-    const front = output.length - output.replace(/^\n+/, '').length;
     return {
         texts: both.map((each) => each[at] ?? null),
-        number: front + at + 1,
+        number: at + 1,
         follows: both.map((each) => at + 1 < each.length),
     };
 }
@@ -93,10 +85,10 @@ function pieceWords(text) {
  * A difference in words.
  * @param {Difference} difference
  */
-export function differenceWords({ texts: [line, other], number }) {
+export function differenceWords({ texts: [line, other], number, follows }) {
     if (line === null) return `Not yet: yours ends behind line ${counted(number - 1)}, and another line is wanted.`;
     if (other === null) return `Not yet: yours has more lines than are wanted, from line ${counted(number)} on.`;
-    if (!line && number === 1) return 'Not yet: yours prints nothing.';
+    if (!line && number === 1 && !follows[0]) return 'Not yet: yours prints nothing.';
     const { from, own, end } = parted(line, other);
     const missing = parted(other, line).own;
     const isAtEnd = !end && (!own || !missing);
@@ -120,9 +112,12 @@ function drawn(text) {
 /**
  * Shows a line of each output, or none.
  * @param {Difference | null} difference
+ * @param {string} [input] the one that the script had, where it isn't that of the box
  */
-export function showDifference(difference) {
+export function showDifference(difference, input = undefined) {
     find('difference').hidden = !difference;
+    for (const part of [find('tried'), find('tried').previousElementSibling]) part.hidden = input === undefined;
+    find('tried').textContent = input ?? '';
     if (!difference) return;
     const { texts, follows } = difference;
     for (const [which, id] of ['yours', 'wanted'].entries()) {

@@ -19,6 +19,17 @@ export function find(id) {
 }
 
 /**
+ * The whole number of an input field, or null where it is none from 1 to so many.
+ * @param {string} id
+ * @param {number} most
+ */
+export function limitIn(id, most) {
+    const { value } = find(id);
+    const number = Number(value);
+    return value !== '' && Number.isInteger(number) && number >= 1 && number <= most ? number : null;
+}
+
+/**
  * An element with a class and contents.
  * @param {string} name
  * @param {string} kind its class, or an empty text
@@ -60,6 +71,17 @@ export function blank() {
  */
 export function withBlanks(text) {
     return text.split(BLANKS).flatMap((part, index) => (index % 2 ? Array.from(part, blank) : [part]));
+}
+
+/**
+ * The nodes of a text in which code stands between grave accents, and what is strong between two asterisks.
+ * @param {string} text
+ */
+export function marked(text) {
+    return text.split(/(`[^`]*`|\*\*[^*]*\*\*)/).map((part, index) => {
+        if (index % 2 === 0) return part;
+        return part[0] === '`' ? element('code', '', part.slice(1, -1)) : element('strong', '', part.slice(2, -2));
+    });
 }
 
 /**

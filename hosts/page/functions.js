@@ -321,62 +321,63 @@ function computed(verb, rest) {
 }
 
 /**
- * Of each function the sentence, and whether it may change a form.
- * @type {Record<string, {says: Says, changes?: boolean}>}
+ * The sentence on a call of each function. Of a function that has none here the engine's own is said.
+ * @type {Record<string, Says>}
  */
-const FUNCTIONS = {
-    rs: { says: reads('It reads the input up to the meta character.') },
-    rc: { says: reads('It reads the next character of the input, whatever that is.') },
-    cm: { says: metaWords },
-    ps: {
-        says: (doing) => (doing.word(1) ? `It prints ${quoted(doing.word(1))}.`
-            : 'It prints nothing: its argument is null.'),
-    },
-    hl: { says: () => 'It ends the run.' },
-    ds: { changes: true, says: definedWords },
-    ss: { changes: true, says: ofForm(segmentedWords) },
-    dd: { changes: true, says: removedWords },
-    da: {
-        changes: true,
-        says: ({ forms }) => (forms.length ? 'It removes all forms.' : 'There is no form, so nothing changes.'),
-    },
-    ln: {
-        says: (doing) => (doing.forms.length ? `It lists the names of all forms, ${quoted(doing.word(1))} before each.`
-            : 'There is no form, so the value is null.'),
-    },
-    pf: {
-        says: ofForm((_, __, name) => `It prints ${name} with its gaps and its pointer.`, 'so nothing is printed'),
-    },
-    cl: { says: ofForm(calledWords, 'so the value is null') },
-    cs: { changes: true, says: ofForm(segmentWords) },
-    cc: { changes: true, says: ofForm(characterWords) },
-    cn: { changes: true, says: ofForm(charactersWords) },
-    in: { changes: true, says: ofForm(initialWords) },
-    cr: {
-        changes: true,
-        says: ofForm((_, { pointer }, name) => (pointer ? `It sets the pointer of ${name} to the start.`
-            : `The pointer of ${name} stays at the start.`)),
-    },
-    eq: { says: equalWords },
-    gr: { says: greaterWords },
-    ad: { says: computed('add', (one, other) => `${one} and ${other}`) },
-    su: { says: computed('subtract', (one, other) => `${other} from ${one}`) },
-    ml: { says: computed('multiply', (one, other) => `${one} by ${other}`) },
-    dv: { says: computed('divide', (one, other) => `${one} by ${other}`) },
-    bu: { says: (doing) => `It unites the bits of ${quoted(doing.word(1))} and ${quoted(doing.word(2))}.` },
-    bi: { says: (doing) => `It intersects the bits of ${quoted(doing.word(1))} and ${quoted(doing.word(2))}.` },
-    bc: { says: (doing) => `It turns each bit of ${quoted(doing.word(1))} over.` },
-    bs: { says: (doing) => `It shifts the bits of ${quoted(doing.word(2))} by ${quoted(doing.word(1))}.` },
-    br: { says: (doing) => `It rotates the bits of ${quoted(doing.word(2))} by ${quoted(doing.word(1))}.` },
+const SENTENCES = {
+    rs: reads('It reads the input up to the meta character.'),
+    rc: reads('It reads the next character of the input, whatever that is.'),
+    cm: metaWords,
+    ps: (doing) => (doing.word(1) ? `It prints ${quoted(doing.word(1))}.` : 'It prints nothing: its argument is null.'),
+    hl: () => 'It ends the run.',
+    ds: definedWords,
+    ss: ofForm(segmentedWords),
+    dd: removedWords,
+    da: ({ forms }) => (forms.length ? 'It removes all forms.' : 'There is no form, so nothing changes.'),
+    ln: (doing) => (doing.forms.length ? `It lists the names of all forms, ${quoted(doing.word(1))} before each.`
+        : 'There is no form, so the value is null.'),
+    pf: ofForm((_, __, name) => `It prints ${name} with its gaps and its pointer.`, 'so nothing is printed'),
+    cl: ofForm(calledWords, 'so the value is null'),
+    cs: ofForm(segmentWords),
+    cc: ofForm(characterWords),
+    cn: ofForm(charactersWords),
+    in: ofForm(initialWords),
+    cr: ofForm((_, { pointer }, name) => (pointer ? `It sets the pointer of ${name} to the start.`
+        : `The pointer of ${name} stays at the start.`)),
+    eq: equalWords,
+    gr: greaterWords,
+    ad: computed('add', (one, other) => `${one} and ${other}`),
+    su: computed('subtract', (one, other) => `${other} from ${one}`),
+    ml: computed('multiply', (one, other) => `${one} by ${other}`),
+    dv: computed('divide', (one, other) => `${one} by ${other}`),
+    bu: (doing) => `It unites the bits of ${quoted(doing.word(1))} and ${quoted(doing.word(2))}.`,
+    bi: (doing) => `It intersects the bits of ${quoted(doing.word(1))} and ${quoted(doing.word(2))}.`,
+    bc: (doing) => `It turns each bit of ${quoted(doing.word(1))} over.`,
+    bs: (doing) => `It shifts the bits of ${quoted(doing.word(2))} by ${quoted(doing.word(1))}.`,
+    br: (doing) => `It rotates the bits of ${quoted(doing.word(2))} by ${quoted(doing.word(1))}.`,
 };
 
 /**
- * The entry of a function's name, of letters of either case.
+ * The functions of the language by name, as the engine tells of them.
+ * @type {Map<string, import('../js/trac.mjs').LanguageFunction>}
+ */
+const table = new Map();
+
+/**
+ * Asks a machine for the functions of the language, once.
+ * @param {import('../js/trac.mjs').Session} machine
+ */
+export function learnFunctions(machine) {
+    if (table.size) return;
+    for (const each of machine.functions()) table.set(each.name, each);
+}
+
+/**
+ * The function of a name, of letters of either case.
  * @param {string} name
  */
 function entry(name) {
-    const known = name.toLowerCase();
-    return name.length === 2 && Object.hasOwn(FUNCTIONS, known) ? FUNCTIONS[known] : null;
+    return /^[\x21-\x7e]+$/.test(name) ? table.get(name.toLowerCase()) ?? null : null;
 }
 
 /**
@@ -384,7 +385,7 @@ function entry(name) {
  * @param {string} name
  */
 export function changesForms(name) {
-    return entry(name)?.changes ?? false;
+    return entry(name)?.changesForms ?? false;
 }
 
 /**
@@ -405,6 +406,9 @@ export function nameWords(name, none) {
 export function callWords(history, call) {
     const [name] = call.words;
     const known = entry(name);
-    if (known) return known.says(new Doing(history, call));
+    if (known) {
+        const says = Object.hasOwn(SENTENCES, known.name) ? SENTENCES[known.name] : () => known.sentence;
+        return says(new Doing(history, call));
+    }
     return name ? 'No function has this name, so the value is null.' : 'The value is null.';
 }

@@ -7,7 +7,7 @@
 
 import { Session } from '../js/trac.mjs';
 import { ACTIVE_CALL, FRONT_OF_LINE, callAhead } from './codes.js';
-import { changesForms } from './functions.js';
+import { changesForms, learnFunctions } from './functions.js';
 import {
     Kept, Pace, SLICE, STEPS_OF_READING, Walker, pause,
 } from './machines.js';
@@ -167,7 +167,9 @@ export class History {
     static async of(input, limits) {
         const walker = async () => new Walker(await Session.open(limits), input);
         const peeker = limits.cells > MOST_PEEKED ? null : await walker();
-        return new History(await walker(), await walker(), peeker, limits);
+        const shown = await walker();
+        learnFunctions(shown.session);
+        return new History(shown, await walker(), peeker, limits);
     }
 
     /**
@@ -193,8 +195,6 @@ export class History {
         this.kept = new Kept(shown.save(), limits.cells);
         /** After how many steps a run is stopped that nobody asked for. */
         this.most = Infinity;
-        /** How many steps were made before the page did its other work for the first time. */
-        this.early = 0;
         /** @type {ReturnType<Walker['save']>[]} */
         this.near = [];
         /** @type {Uint8Array[]} */
@@ -233,7 +233,6 @@ export class History {
         while (!signal.aborted && !isDone()) {
             const until = performance.now() + SLICE;
             while (performance.now() < until && !isDone()) this.runSome(until);
-            this.early ||= shown.state.step;
             onStep(shown.state.step);
             await pause();
         }
@@ -296,7 +295,7 @@ export class History {
         this.comeNear(goal);
         while (this.step < goal) {
             const stop = this.stopBefore(goal);
-            if (stop === goal) this.notePerformed();
+            if (stop === goal) this.noteNext();
             this.pace.advance(this.shown, stop, until);
             if (this.step < stop) return false;
             if (stop < goal - 1) this.keepNear();
@@ -377,8 +376,9 @@ export class History {
         return call && { ...call, active: machine.parts().active };
     }
 
-    /** Notes what the next step performs, if it is a call, and the forms that it may change. */
-    notePerformed() {
+    /** Has the need of the next step be known, and notes what that performs, if a call, and the forms it may change. */
+    noteNext() {
+        this.shown.forgetNeed();
         const call = this.coming();
         const forms = call && changesForms(call.words[0]) ? this.forms() : null;
         this.noted = this.step + 1;
@@ -432,6 +432,11 @@ export class History {
         peeker.advance(step + 1 - peeker.state.step);
         const { session, state: { fate } } = peeker;
         return { fate, value: this.value(this.coming(), peeker), session };
+    }
+
+    /** How many cells the last step needed, or null where that isn't known. */
+    get need() {
+        return this.step > 0 && this.noted === this.step ? this.shown.state.need : null;
     }
 
     /** The step that is looked at: so many steps are done. */

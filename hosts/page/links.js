@@ -8,6 +8,16 @@ import { several } from './codes.js';
 import { element, find } from './dom.js';
 
 const LONG_LINK = 8000;
+/** How high the steps are within another page, and what is added for each other part of the page, in pixels. */
+const HEIGHT = 480;
+/** @type {Record<string, number>} */
+const HEIGHTS = { script: 165, output: 40, play: 250 };
+/** What is to be seen beside the step, and how that is found and set. */
+const VIEW = {
+    tree: { id: 'tree-part', name: 'open', usual: false },
+    each: { id: 'fold', name: 'checked', usual: true },
+    all: { id: 'show-all', name: 'checked', usual: false },
+};
 
 /**
  * Bytes as letters, digits, minus signs and underlines.
@@ -29,9 +39,9 @@ function unpacked(letters) {
 }
 
 /**
- * What the address carries: texts, limits, and the step that is to be shown, each where it is there.
- * @returns {{texts: {script: string, input: string}, limits: Record<string, string>, step: number | null}
- * | null} null where it carries no script
+ * What the address carries: texts, limits, and the step that is to be shown and how, each where it is there.
+ * @returns {{texts: {script: string, input: string}, limits: Record<string, string>, step: number | null,
+ * view: string | null} | null} null where it carries no script
  * @throws {Error} where the script can't be read
  */
 export function readLink() {
@@ -44,7 +54,24 @@ export function readLink() {
     const limits = {};
     for (const name of ['cells', 'steps']) if (number(name)) limits[name] = number(name);
     const step = number('step');
-    return { texts: { script, input }, limits, step: step === null ? null : Number(step) };
+    return { texts: { script, input }, limits, step: step === null ? null : Number(step), view: words.get('view') };
+}
+
+/** What is to be seen beside the step now, as a link says it: what isn't as usual. */
+function viewNow() {
+    return Object.entries(VIEW).filter(([, { id, name, usual }]) => find(id)[name] !== usual)
+        .map(([word]) => word).join('-');
+}
+
+/**
+ * Has the page show what a link says.
+ * @param {string} view
+ */
+export function setView(view) {
+    const words = view.split('-');
+    for (const [word, { id, name, usual }] of Object.entries(VIEW)) {
+        find(id)[name] = words.includes(word) ? !usual : usual;
+    }
 }
 
 /**
@@ -56,21 +83,26 @@ function carried({ script, input }, step) {
     const words = new URLSearchParams({ script: packed(bytesOfText(script)) });
     if (input) words.set('input', packed(bytesOfText(input)));
     for (const name of ['cells', 'steps']) words.set(name, find(name).value);
-    if (step !== null) words.set('step', String(step));
+    if (step === null) return words;
+    words.set('step', String(step));
+    words.set('view', viewNow());
     return words;
 }
 
 /**
- * Copies the code that shows the steps of a script within another page.
+ * Copies the code that shows the steps of a script within another page, with the parts of this one that are chosen.
  * @param {{script: string, input: string}} texts
  * @param {number | null} step
  * @returns {Promise<string>} what is to be said of it
  */
 export async function embedCode(texts, step) {
-    const place = new URL('?embed', window.location.href);
+    const panels = [...document.querySelectorAll('[name="panel"]:checked')]
+        .map((each) => /** @type {HTMLInputElement} */ (each).value);
+    const place = new URL(`?embed=${panels.join(',')}`, window.location.href);
     place.hash = String(carried(texts, step));
+    const height = panels.reduce((sum, panel) => sum + HEIGHTS[panel], HEIGHT);
     const code = `<iframe src="${place.href.replaceAll('&', '&amp;')}" title="A TRAC T-64 script, step by step" `
-        + 'width="100%" height="800"></iframe>';
+        + `width="100%" height="${height}"></iframe>`;
     try {
         await navigator.clipboard.writeText(code);
         return 'The code is copied. Put it into a page that can reach this one.';

@@ -28,8 +28,8 @@ const READING = [256, 112, 115, 258, 256, 114, 115];
 export const STEPS_OF_READING = READING.length + 2;
 
 /**
- * How far a walker has come.
- * @typedef {{step: number, consumed: number, printed: number, peak: number, fate: string}} Progress
+ * How far a walker has come. What the steps needed since the need was forgotten is in `need`.
+ * @typedef {{step: number, consumed: number, printed: number, peak: number, need: number, fate: string}} Progress
  */
 
 /**
@@ -44,7 +44,7 @@ export class Walker {
         this.session = session;
         this.input = input;
         /** @type {Progress} */
-        this.state = { step: 0, consumed: 0, printed: 0, peak: 0, fate: 'going' };
+        this.state = { step: 0, consumed: 0, printed: 0, peak: 0, need: 0, fate: 'going' };
         /** Whether the run ends because the idling procedure finds no more input. */
         this.endsIdling = false;
         /** How often it came upon an empty active string on its way to a call. */
@@ -126,11 +126,17 @@ export class Walker {
      */
     note({ fate, steps, peak, output, consumed }) {
         this.state.step = Number(steps);
-        this.state.peak = peak;
+        this.state.need = peak;
+        this.state.peak = Math.max(this.state.peak, peak);
         this.state.fate = fate;
         this.state.consumed += consumed;
         this.state.printed += output.length;
         if (output.length) this.onPrinted(output);
+    }
+
+    /** Forgets what the steps up to here needed, so that the need of the next one is known behind it. */
+    forgetNeed() {
+        this.session.takePeak();
     }
 
     /** All that it takes to come back here, and how many bytes that is. */

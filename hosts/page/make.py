@@ -14,7 +14,8 @@ TOP = os.path.dirname(os.path.dirname(FOLDER))
 # Each file's imports name only files that stand before it here.
 CODE = ['hosts/js/trac.mjs'] + [f'hosts/page/{name}.js' for name in (
     'codes', 'functions', 'machines', 'history', 'dom', 'block', 'strings', 'forms', 'output', 'boxes', 'search',
-    'view', 'stepper', 'tree', 'trace', 'difference', 'lessons', 'links', 'warnings', 'page')]
+    'runs', 'view', 'stepper', 'tree', 'trace', 'trial', 'difference', 'exercises', 'lessons', 'guide', 'links',
+    'warnings', 'live', 'page')]
 IMPORT = re.compile(r"^import [^;]*? from '\.{1,2}/[^']*';\n", re.MULTILINE | re.DOTALL)
 NAME = re.compile(r'^(?:export )?(?:async )?(?:function\*?|class|const|let) (\w+)', re.MULTILINE)
 PART = re.compile('@([A-Z]+)@')
@@ -44,24 +45,65 @@ def examples():
             yield {'name': os.path.basename(path)[:-5], 'script': file.read()}
 
 
+def cues(notes):
+    """What a lecturer shows, asks and has tried: of each note its first word and what stands behind it. An answer
+    behind a question is a note of its own."""
+    for kind, text in re.findall(r'^- \*(\w+)\*(.*?)(?=^- |\Z)', notes, re.MULTILINE | re.DOTALL):
+        words = re.sub(r'\[([^]]*)\]\([^)]*\)', r'\1', ' '.join(text.split()))
+        end = words.rfind('? ') + 1 if kind == 'Ask' else 0
+        yield {'kind': kind, 'words': words[:end] or words}
+        if end:
+            yield {'kind': 'Answer', 'words': f':{words[end:]}'}
+
+
 def lesson():
-    """The scripts of docs/LESSON.md: each with its sentence and what it prints."""
-    for name, says, script, output in re.findall(
-            r'^## (\d+\. [^\n]*)\n+([^`]*?)\n```trac\n(.*?)\n```\n```output\n(.*?)\n```$',
+    """The parts of docs/LESSON.md: each with its sentence, its script, what that prints, and the lecturer's notes."""
+    for name, says, script, output, notes in re.findall(
+            r'^## (\d+\. [^\n]*)\n+([^`]*?)\n```trac\n(.*?)\n```\n```output\n(.*?)\n```\n(.*?)(?=^## |\Z)',
             read('docs', 'LESSON.md'), re.MULTILINE | re.DOTALL):
-        yield {'name': name, 'says': says.replace('\n', ' '), 'script': script, 'output': output}
+        yield {'name': name, 'says': says.replace('\n', ' '), 'script': script, 'output': output,
+               'cues': list(cues(notes))}
+
+
+def cases(number):
+    """What examples/exercises/cases.md has for an exercise: further cases, each with its input or its swap and with
+    what is then printed, and the tests of the way."""
+    section = re.search(rf'^### {number}\. .*?(?=^### |\Z)', read('examples', 'exercises', 'cases.md'),
+                        re.MULTILINE | re.DOTALL)
+    found, case = {'cases': []}, {}
+    for kind, text in re.findall(r'^```(\w+)\n(.*?)^```$', section[0] if section else '', re.MULTILINE | re.DOTALL):
+        if kind == 'output':
+            found['cases'].append({**case, 'output': text})
+        elif kind in ('needs', 'constant'):
+            found[kind] = text.splitlines()
+        else:
+            case = {kind: text if kind == 'input' else text.splitlines()}
+    return found
+
+
+def numbered(heading):
+    """The entries of a numbered list of docs/EXERCISES.md, without the places of their links."""
+    section = read('docs', 'EXERCISES.md').split(f'\n## {heading}\n')[1].split('\n## ')[0]
+    entries = re.findall(r'^\d+\. (.*?)(?=^\d+\. |\Z)', section, re.MULTILINE | re.DOTALL)
+    return [re.sub(r'\[([^]]*)\]\([^)]*\)', r'\1', ' '.join(each.split())) for each in entries]
 
 
 def exercises():
-    """The exercises of docs/EXERCISES.md: each with its words, its input and what is to be printed."""
-    for name, text in re.findall(r'^### (\d+\. [^\n]*)\n(.*?)(?=^##)', read('docs', 'EXERCISES.md') + '##',
-                                 re.MULTILINE | re.DOTALL):
-        blocks = dict(re.findall(r'^```(input|output)\n(.*?)^```$', text, re.MULTILINE | re.DOTALL))
+    """The exercises of docs/EXERCISES.md: each with its words, the script to begin with, its input, what is to be
+    printed, a hint, a solution and why that is so, and what `examples/exercises/check` tries."""
+    sections = re.findall(r'^### (\d+\. [^\n]*)\n(.*?)(?=^##)', read('docs', 'EXERCISES.md') + '##',
+                          re.MULTILINE | re.DOTALL)
+    for (name, text), hint, why in zip(sections, numbered('Hints'), numbered('Why the solutions are so')):
+        blocks = dict(re.findall(r'^```(trac|input|output)\n(.*?)^```$', text, re.MULTILINE | re.DOTALL))
+        solution = read(re.search(r'\(\.\./(examples/exercises/[^)]*)\)', text)[1]).strip('\n')
         words = re.sub(r'^```(?:input|output)\n.*?^```$| \[A solution\]\([^)]*\)\.', '', text,
                        flags=re.MULTILINE | re.DOTALL)
         parts = [part.strip() for part in re.split(r'```(?:trac)?\n|\n\n', words) if part.strip()]
         yield {'name': name, 'task': [part if part.startswith('#(') else part.replace('\n', ' ') for part in parts],
-               'input': blocks.get('input', ''), 'output': blocks['output']}
+               'script': blocks.get('trac', '').rstrip('\n'), 'input': blocks.get('input', ''),
+               'output': blocks['output'], 'hint': hint, 'why': why,
+               'solution': solution.removesuffix(blocks.get('input', '').strip('\n')),
+               **cases(name.split('.')[0])}
 
 
 def functions():

@@ -4,15 +4,19 @@
  */
 
 import { MOST_CELLS, provide } from '../js/trac.mjs';
-import { Boxes, bytesOfText, textOfBytes } from './boxes.js';
+import { Boxes, bytesOfText } from './boxes.js';
 import { counted, plainText, several } from './codes.js';
-import { element, find } from './dom.js';
-import { History } from './history.js';
+import { element, find, limitIn } from './dom.js';
+import { Guide } from './guide.js';
 import { Lessons } from './lessons.js';
 import {
-    embedCode, makeLink, openFile, readLink, saveFile,
+    embedCode, makeLink, openFile, readLink, saveFile, setView,
 } from './links.js';
+import { Live, MOST_LIVE } from './live.js';
 import { pause } from './machines.js';
+import {
+    amountWords, doneIn, fateWords, makeRun, placeWords, sameStep, stringPart,
+} from './runs.js';
 import { Stepper } from './stepper.js';
 import { traceOf } from './trace.js';
 import { CallTree } from './tree.js';
@@ -22,25 +26,10 @@ import { Warnings } from './warnings.js';
 const MOST_STEPS = 1000000000000;
 /** How many steps a script makes that comes by a link, before anyone asks for its run. */
 const MOST_UNASKED = 10000000;
+/** The cells of the largest block that is made anew while one types. */
+const MOST_LIVE_CELLS = 2 ** 20;
 const LOOK = 'trac-t64-look';
-/** @type {Record<string, (limits: {cells: number, steps: number}) => string>} */
-const FATES = {
-    halted: () => 'Ended: the script called hl.',
-    'input ended': () => 'Ended: all input is read.',
-    workspace: ({ cells }) => `Workspace full: the next step needs more than the ${
-        several(cells, 'cell')} there are.`,
-    steps: ({ steps }) => `Allowance used up: the script goes on after ${several(steps, 'step')}.`,
-    going: () => 'Stopped by you.',
-};
-
-/**
- * A run that was made.
- * @typedef {object} Run
- * @property {History} history
- * @property {{script: string, input: string}} texts those of the boxes
- * @property {Uint8Array} input
- * @property {Uint8Array} output
- */
+/** @typedef {import('./runs.js').Run} Run */
 
 /**
  * What the page is doing: nothing yet; running; showing a run, or one of a script that was changed since.
@@ -57,72 +46,39 @@ function tell(words) {
 }
 
 /**
- * A number of an input field, or null where it is none in its range.
+ * A limit of an input field, or null where it is none in its range, which is said then.
  * @param {string} id
  * @param {number} most
  */
 function numberIn(id, most) {
-    const field = find(id);
-    const number = Number(field.value);
-    const isGood = field.value !== '' && Number.isInteger(number) && number >= 1 && number <= most;
-    field.setAttribute('aria-invalid', String(!isGood));
-    if (isGood) return number;
+    const number = limitIn(id, most);
+    find(id).setAttribute('aria-invalid', String(!number));
+    if (number) return number;
     tell(`${id === 'cells' ? 'Cells' : 'Steps'} must be a whole number from 1 to ${counted(most)}.`);
     find('settings').open = true;
-    field.focus();
+    find(id).focus();
     return null;
 }
 
-/** The limits of the fields, or null where one is out of its range. */
-function limitsIn() {
-    const cells = numberIn('cells', MOST_CELLS);
-    const steps = cells && numberIn('steps', MOST_STEPS);
+/**
+ * The limits of the fields, or null where one is out of its range.
+ * @param {(id: string, most: number) => number | null} read
+ */
+function limitsIn(read) {
+    const cells = read('cells', MOST_CELLS);
+    const steps = cells && read('steps', MOST_STEPS);
     return steps ? { cells, steps } : null;
 }
 
 /**
- * Rows of bytes as one.
- * @param {Uint8Array[]} rows
- * @param {number} length of all
+ * Closes what is opened beside the script around an element, and puts the focus on its heading.
+ * @param {EventTarget | null} target
  */
-function joinedOutput(rows, length) {
-    const output = new Uint8Array(length);
-    let place = 0;
-    for (const row of rows) {
-        output.set(row, place);
-        place += row.length;
-    }
-    return output;
-}
-
-/**
- * The part of the texts that the string takes which is scanned at a step, without layout in front of it.
- * @param {Run} run
- * @param {number} step
- */
-function stringPart({ history, input }, step) {
-    const part = history.strings.at(step);
-    if (!part) return null;
-    let { from } = part;
-    while (from < part.to && [9, 10, 13].includes(input[from])) from += 1;
-    const before = (/** @type {number} */ place) => textOfBytes(input.subarray(0, place)).length;
-    return { from: before(from), to: before(part.to) };
-}
-
-/**
- * Where the string begins that was being scanned when a run ended, in words.
- * @param {Run} run
- */
-function placeWords(run) {
-    const part = stringPart(run, run.history.end.step);
-    if (!part) return '';
-    const { script, input } = run.texts;
-    const inScript = part.from < script.length;
-    const front = (script + input).slice(inScript ? 0 : script.length, part.from);
-    const line = front.split('\n').length;
-    const column = [...front.slice(front.lastIndexOf('\n') + 1)].length + 1;
-    return `The string that was being scanned begins in line ${counted(line)}, column ${
-        counted(column)}${inScript ? '' : ' of the further input'}.`;
+function closeAround(target) {
+    const part = target instanceof Element ? target.closest('#written details[open]') : null;
+    if (!part) return;
+    part.removeAttribute('open');
+    part.querySelector('summary').focus();
 }
 
 /** Unpacks the engine that stands in the page. */
@@ -146,10 +102,13 @@ class Page {
         this.unpacked = undefined;
         this.boxes = new Boxes(() => this.outdate());
         this.lessons = new Lessons((texts) => this.boxes.fill(texts));
+        this.guide = new Guide(this.lessons.lesson, ({ name }) => this.openPart(name), () => this.boxes.save());
         this.view = new View();
         this.stepper = new Stepper(this.view);
         this.tree = new CallTree((step) => this.stepper.go(step));
-        this.warnings = new Warnings((place) => this.selectCharacter(place));
+        this.warnings = new Warnings(
+            (place) => this.selectCharacter(place), (places) => this.boxes.spot(places));
+        this.live = new Live((signal) => this.showTyped(signal));
         this.stepper.onStep = () => this.showAround();
         this.listen();
     }
@@ -183,18 +142,22 @@ class Page {
         find('place').hidden = true;
         this.warnings.outdate();
         this.marked = '';
+        this.live.stop();
         if (this.state.kind === 'shown') this.become({ kind: 'stale', run: this.state.run });
+        else if (find('output').firstChild) find('printed').classList.add('stale');
     }
 
     /**
      * Runs the script of the boxes.
      * @param {number | null} step the one to show then, or the last one in front of it; null for the script's begin
      * @param {number} [most] after how many steps it is stopped
+     * @param {boolean} [brings] whether the window is scrolled to the steps
      */
-    async start(step, most = Infinity) {
+    async start(step, most = Infinity, brings = true) {
         if (this.state.kind === 'running' || find('run').disabled) return;
-        const limits = limitsIn();
+        const limits = limitsIn(numberIn);
         if (!limits) return;
+        this.live.stop();
         tell('');
         this.leave();
         const stopping = new AbortController();
@@ -202,6 +165,7 @@ class Page {
         find('fate').textContent = 'Running …';
         try {
             await this.make(limits, stopping.signal, step, most);
+            if (step !== Infinity && brings) this.bringMachine();
         } catch (error) {
             this.become({ kind: 'idle' });
             this.view.output.forget();
@@ -217,13 +181,24 @@ class Page {
         if (this.run && document.activeElement === at) find('step').focus({ preventScroll: true });
     }
 
+    /**
+     * Puts a part of the lesson into the boxes, and steps through it; what is running is stopped.
+     * @param {string} name
+     */
+    async openPart(name) {
+        this.lessons.choose(name);
+        if (this.state.kind === 'running') this.state.stopping.abort();
+        while (this.state.kind === 'running') await pause();
+        this.start(null, Infinity, false);
+    }
+
     /** Leaves the run that is shown. */
     leave() {
         this.stepper.close();
         this.tree.close();
         this.warnings.close();
         this.boxes.mark(null);
-        this.lessons.forgetVerdict();
+        this.lessons.exercises.forgetVerdict();
         find('place').hidden = true;
         find('fate').className = '';
     }
@@ -236,24 +211,63 @@ class Page {
      */
     async make(limits, signal, step, most) {
         const { texts } = this.boxes;
-        const input = bytesOfText(texts.script + texts.input);
         await this.unpacked;
-        const history = await History.of(input, limits);
-        history.most = most;
-        await history.run(signal, (done) => {
+        const run = await makeRun(texts, limits, signal, most, (done) => {
             find('fate').textContent = `Running: ${several(done, 'step')} …`;
         });
-        const output = joinedOutput(history.output, history.end.printed);
-        history.output = [];
-        this.show({ history, texts, input, output }, step);
+        this.show(run, step);
+    }
+
+    /**
+     * Shows what comes of what is typed, if it takes few steps, and what is suspicious in it.
+     * @param {AbortSignal} signal aborted where more is typed
+     */
+    async showTyped(signal) {
+        const limits = limitsIn(limitIn);
+        if (!limits || this.state.kind === 'running' || find('run').disabled) return;
+        const { texts } = this.boxes;
+        await this.unpacked;
+        const isWanted = find('live').checked && limits.cells <= MOST_LIVE_CELLS;
+        const run = isWanted ? await makeRun(texts, limits, signal, MOST_LIVE) : null;
+        if (signal.aborted) return;
+        if (!run || run.history.isCut) this.lookAround(texts, limits);
+        else if (this.run) await this.showInstead(run, this.run, signal);
+        else this.showResult(run);
+    }
+
+    /**
+     * Shows a run in the place of that of an older script: at the same step where the same has been done up to it.
+     * @param {Run} run
+     * @param {Run} old
+     * @param {AbortSignal} signal
+     */
+    async showInstead(run, old, signal) {
+        const { step, end } = old.history;
+        const same = step === end.step ? Infinity : await sameStep(step, doneIn(old), run, signal);
+        if (signal.aborted) return;
+        this.leave();
+        this.show(run, same, true);
+    }
+
+    /**
+     * Shows what a run printed whose steps nobody asked for.
+     * @param {Run} run
+     */
+    showResult(run) {
+        this.view.output.open(run.output);
+        find('printed').classList.remove('stale');
+        find('fate').setAttribute('aria-live', 'off');
+        this.showFate(run);
+        this.lookAround(run.texts, run.history.limits);
     }
 
     /**
      * Shows a run that was made.
      * @param {Run} run
      * @param {number | null} step
+     * @param {boolean} [isTyped] whether nobody asked for it but by typing
      */
-    show(run, step) {
+    show(run, step, isTyped = false) {
         const { script, input } = this.boxes.texts;
         const isSame = script === run.texts.script && input === run.texts.input;
         this.become({ kind: isSame ? 'shown' : 'stale', run });
@@ -261,31 +275,45 @@ class Page {
         this.tree.open(run.history, run.input);
         this.marked = '';
         this.stepper.open(run.history, step);
-        if (step !== Infinity) this.bringMachine();
+        if (isTyped) find('fate').setAttribute('aria-live', 'off');
         this.showFate(run);
-        this.lessons.check(plainText(run.output));
-        if (isSame) this.lookAround(run);
+        if (!isTyped) this.check(run);
+        if (isSame) this.lookAround(run.texts, run.history.limits);
     }
 
     /**
-     * Lists what is suspicious in the script of a run.
+     * Has an exercise that is set look at a run.
      * @param {Run} run
      */
-    async lookAround(run) {
-        const { texts, input, history } = run;
+    check({ texts, output, history }) {
+        const { exercises } = this.lessons;
+        if (exercises.chosen) exercises.check(texts.script, plainText(output), history.end.fate);
+    }
+
+    /**
+     * Lists what is suspicious in texts, and marks it in the boxes.
+     * @param {{script: string, input: string}} texts
+     * @param {{cells: number, steps: number}} limits
+     */
+    async lookAround({ script, input }, limits) {
+        // the script of a part of the lesson is meant so, and a place would answer what is asked
+        if (this.guide.at >= 0 && find('example').value) return;
         try {
             await pause();
-            if (this.state.kind !== 'shown' || this.run !== run) return;
-            await this.warnings.look(texts.script + texts.input, input, history);
+            await this.warnings.look(script + input, limits);
         } catch {
             // a list that finds no memory is left away: the run itself is shown
         }
     }
 
-    /** Scrolls to the steps where they are not in view, as below the script on a phone. */
+    /** Scrolls to where both strings are in view, with the script if there is room for all. */
     bringMachine() {
-        const { top } = find('machine').getBoundingClientRect();
-        if (top < 0 || top > window.innerHeight / 2) find('machine').scrollIntoView();
+        const [script, steps, strings] = ['written', 'machine', 'unscanned'].map(
+            (id) => find(id).getBoundingClientRect());
+        const room = window.innerHeight;
+        if (strings.bottom - script.top <= room) {
+            if (script.top < 0 || strings.bottom > room) find('written').scrollIntoView();
+        } else if (steps.top < 0 || steps.top > room / 2) find('machine').scrollIntoView();
     }
 
     /**
@@ -293,13 +321,9 @@ class Page {
      * @param {Run} run
      */
     showFate(run) {
-        const { history, input } = run;
-        const { fate, step, peak, consumed } = history.end;
+        const { fate } = run.history.end;
         find('fate').className = isFault(fate) ? 'fault' : '';
-        find('fate').replaceChildren(
-            history.isCut ? 'Stopped: a link alone runs no further. Run makes all steps.' : FATES[fate](history.limits),
-            element('small', '', `${several(step, 'step')}, peak ${several(peak, 'cell')}, ${
-                counted(consumed)} of ${several(input.length, 'byte')} read`));
+        find('fate').replaceChildren(fateWords(run.history), element('small', '', amountWords(run)));
         const last = isFault(fate) ? placeWords(run) : '';
         if (last) find('fate').append(element('small', '', last));
         find('place').hidden = !last || this.state.kind !== 'shown';
@@ -352,6 +376,7 @@ class Page {
             this.lessons.leave();
             this.boxes.fill(link.texts);
             for (const [id, value] of Object.entries(link.limits)) find(id).value = value;
+            if (link.view !== null) setView(link.view);
             tell('The script is from the link. Run runs it.');
             if (link.step !== null) this.start(link.step, MOST_UNASKED);
         } catch {
@@ -401,8 +426,11 @@ class Page {
             else this.start(Infinity);
             return;
         }
-        if (event.key === 'Escape') this.stepper.stopSearch();
         const { target } = event;
+        if (event.key === 'Escape') {
+            this.stepper.stopSearch();
+            closeAround(target);
+        }
         const isEdited = target instanceof Element && target.closest('textarea, input, select');
         if (isEdited || event.altKey || event.ctrlKey || event.metaKey || !this.run) return;
         const move = {
@@ -438,6 +466,9 @@ class Page {
         for (const [id, act] of Object.entries(acts)) find(id).addEventListener('click', act);
         find('file').addEventListener('change', () => this.open());
         find('script').addEventListener('input', () => this.boxes.isFilling || this.lessons.leave());
+        for (const id of ['script', 'input']) {
+            find(id).addEventListener('input', () => this.boxes.isFilling || this.live.typed());
+        }
         document.addEventListener('keydown', (event) => this.onKey(event));
         for (const [name, isWhole] of /** @type {const} */ ([['beforeprint', true], ['afterprint', false]])) {
             window.addEventListener(name, () => this.drawWhole(isWhole));
@@ -445,11 +476,21 @@ class Page {
         window.addEventListener('hashchange', () => this.fromLink());
     }
 
+    /** What stands above a hand-out, in words. */
+    get captionWords() {
+        const name = find('example').value;
+        const title = `${name ? `${name}: a` : 'A'} script in TRAC T-64`;
+        if (!this.run) return `${title}.`;
+        const { step, end, limits } = this.run.history;
+        return `${title}, ${counted(step)} of ${several(end.step, 'step')} done in ${several(limits.cells, 'cell')}.`;
+    }
+
     /**
      * Draws what is long in whole, for a hand-out, or again in part.
      * @param {boolean} isWhole
      */
     drawWhole(isWhole) {
+        find('caption').textContent = this.captionWords;
         this.boxes.drawWhole(isWhole);
         for (const part of [this.view.output, this.view.forms]) {
             part.isWhole = isWhole;
@@ -464,23 +505,47 @@ class Page {
             find('fate').textContent = 'This browser has no WebAssembly, or can’t unpack the engine, so it can’t '
                 + 'run scripts here; they can be written, opened, saved and linked.';
         } else this.unpacked = unpackEngine();
-        const isEmbedded = new URLSearchParams(window.location.search).has('embed');
+        const panels = new URLSearchParams(window.location.search).get('embed');
+        const isEmbedded = panels !== null;
         document.documentElement.classList.toggle('embed', isEmbedded);
-        if (this.boxes.load()) this.lessons.recognise(this.boxes.texts);
-        else if (!this.fromLink() && !this.lessons.fromAddress()) this.lessons.choose(this.lessons.first);
+        document.documentElement.dataset.panels = (panels ?? '').replaceAll(',', ' ');
+        this.fillFirst();
         if (isEmbedded) this.start(readLink()?.step ?? null, MOST_UNASKED);
+    }
+
+    /** Fills the boxes with what was kept, what the address carries, or the lesson's first part. */
+    fillFirst() {
+        const part = Guide.named();
+        const isPart = part in this.lessons.lesson;
+        if (this.boxes.load()) {
+            this.lessons.recognise(this.boxes.texts);
+            if (isPart) this.guide.show(part);
+        } else if (!this.fromLink()) {
+            if (isPart) this.guide.go(part);
+            else this.lessons.choose(this.lessons.first);
+        }
     }
 }
 
-/** Has the page look as it is wanted, and keeps that. */
+/**
+ * What a choice of the look says.
+ * @param {string} id
+ * @returns {string}
+ */
+function chosen(id) {
+    return id === 'live' ? String(find(id).checked) : find(id).value;
+}
+
+/** Has the page look as it is wanted, and do so while one types, and keeps that. */
 function listenLook() {
-    const ids = ['size', 'scheme'];
+    const ids = ['size', 'scheme', 'live'];
     const look = () => {
-        for (const id of ids) document.documentElement.dataset[id] = find(id).value;
+        for (const id of ids) document.documentElement.dataset[id] = chosen(id);
     };
     try {
         Object.entries(JSON.parse(window.localStorage.getItem(LOOK) ?? '{}')).forEach(([id, value]) => {
-            if (ids.includes(id)) find(id).value = value;
+            if (id === 'live') find(id).checked = value === 'true';
+            else if (ids.includes(id)) find(id).value = value;
         });
     } catch {
         // without a place in the browser nothing is kept
@@ -490,7 +555,7 @@ function listenLook() {
             look();
             try {
                 window.localStorage.setItem(LOOK, JSON.stringify(
-                    Object.fromEntries(ids.map((each) => [each, find(each).value]))));
+                    Object.fromEntries(ids.map((each) => [each, chosen(each)]))));
             } catch {
                 // the look is that of this visit alone
             }

@@ -88,6 +88,13 @@ export class NeutralView {
         this.list = find('neutral');
         /** @type {Map<string, HTMLElement>} */
         this.drawn = new Map();
+        // in another size too the innermost call is in view
+        new ResizeObserver(() => this.reveal()).observe(this.list);
+    }
+
+    /** Scrolls to the end, where the next character goes. */
+    reveal() {
+        this.list.scrollTop = this.list.scrollHeight;
     }
 
     /**
@@ -116,7 +123,7 @@ export class NeutralView {
             lines.push(this.line(before, part, kind, depth, depth === open ? landed : 0));
         }
         this.list.replaceChildren(...lines);
-        this.list.scrollTop = this.list.scrollHeight;
+        this.reveal();
         return open;
     }
 

@@ -130,7 +130,10 @@ export class View {
         });
         this.showForms();
         showBlock(parts, {
-            cells: history.limits.cells, peak: history.shown.state.peak, least: history.end.peak,
+            cells: history.limits.cells,
+            need: history.need,
+            peak: history.shown.state.peak,
+            least: history.end.peak,
         });
         this.output.show(history.shown.state.printed);
         this.showWords(rule, ruleWords(history, rule), valueWords(value));

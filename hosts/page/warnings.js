@@ -4,16 +4,18 @@
  */
 
 import { check } from '../js/trac.mjs';
+import { bytesOfText } from './boxes.js';
 import { several } from './codes.js';
 import {
     button, element, find, withBlanks,
 } from './dom.js';
+import { pause } from './machines.js';
 
-/**
- * So many steps are looked at, or a sixteenth of those that the run made before the page did its other work, where
- * these are fewer: so the page isn't held for long.
- */
+/** So many steps are looked at first, and then four times as many, while that is quick, up to a bound. */
+const FEWEST_CHECKED = 500;
 const MOST_CHECKED = 50000;
+/** A look that takes more milliseconds is the last one. */
+const QUICK = 20;
 /** The cells of the largest block that is looked at: to clear a larger one takes long. */
 const MOST_CLEARED = 2 ** 20;
 const MOST_PLACES = 200;
@@ -35,11 +37,15 @@ function placeIn(text, line, column) {
     return from + front.join('').length;
 }
 
-/** The list, which is made when a run is shown. */
+/** The list, made when a run is shown and when what is typed stands still. */
 export class Warnings {
-    /** @param {(place: number) => void} onPlace called with the place in the texts that is to be shown */
-    constructor(onPlace) {
+    /**
+     * @param {(place: number) => void} onPlace called with the place in the texts that is to be shown
+     * @param {(places: number[]) => void} onSpots called with all places, in order
+     */
+    constructor(onPlace, onSpots) {
         this.onPlace = onPlace;
+        this.onSpots = onSpots;
         /** Which look is the last that was asked for. */
         this.looks = 0;
         /** Whether the texts aren't those any more that are looked at. */
@@ -49,32 +55,49 @@ export class Warnings {
     /** Shows nothing. */
     close() {
         this.looks += 1;
-        this.isOutdated = false;
         find('suspicions').hidden = true;
         find('warnings').replaceChildren();
     }
 
     /**
-     * Lists what is suspicious.
+     * Lists what is suspicious: looks at some steps, and at more while that is quick, so the page isn't held for long.
      * @param {string} text the script and the further input
-     * @param {Uint8Array} input the same as bytes
-     * @param {import('./history.js').History} history the run of these texts
+     * @param {{cells: number, steps: number}} limits
      */
-    async look(text, input, { limits: { cells, steps }, early, end }) {
-        this.close();
+    async look(text, { cells, steps }) {
+        this.looks += 1;
+        this.isOutdated = false;
         const look = this.looks;
-        const most = Math.min(early < end.step ? Math.ceil(early / 16) : steps, MOST_CHECKED);
-        const found = await check(input, { cells: Math.min(cells, MOST_CLEARED), steps: most });
-        if (look !== this.looks || !found.warnings.length) return;
-        const isPart = steps > most && found.fate === 'steps';
+        const input = bytesOfText(text);
+        for (let most = Math.min(FEWEST_CHECKED, steps); ; most = Math.min(4 * most, steps, MOST_CHECKED)) {
+            const start = performance.now();
+            const { fate, warnings } = await check(input, { cells: Math.min(cells, MOST_CLEARED), steps: most });
+            if (look !== this.looks) return;
+            const isAll = fate !== 'steps' || most === steps;
+            if (isAll || most === MOST_CHECKED || performance.now() - start > QUICK) {
+                this.show(text, warnings, isAll ? Infinity : most);
+                return;
+            }
+            await pause();
+        }
+    }
+
+    /**
+     * Shows what was found, and marks it unless the texts are others by now.
+     * @param {string} text
+     * @param {import('../js/trac.mjs').Warning[]} warnings
+     * @param {number} most how many steps were looked at; Infinity for all
+     */
+    show(text, warnings, most) {
         find('warnings').replaceChildren(
-            ...found.warnings.slice(0, MOST_PLACES).map((warning) => this.item(text, warning)));
+            ...warnings.slice(0, MOST_PLACES).map((warning) => this.item(text, warning)));
         find('suspicions-told').textContent = [
-            found.warnings.length > MOST_PLACES && `The first ${MOST_PLACES} of ${found.warnings.length}.`,
-            isPart && `The first ${several(most, 'step')} were looked at.`,
+            warnings.length > MOST_PLACES && `The first ${MOST_PLACES} of ${warnings.length}.`,
+            most < Infinity && `The first ${several(most, 'step')} were looked at.`,
         ].filter(Boolean).join(' ');
+        find('suspicions').hidden = !warnings.length;
         if (this.isOutdated) this.outdate();
-        find('suspicions').hidden = false;
+        else this.onSpots(warnings.map(({ line, column }) => placeIn(text, line, column)));
     }
 
     /**

@@ -8,6 +8,7 @@ mod KeptLooks
 mod ListedForms
 mod Printing
 mod Roomy
+mod StepLines
 mod TurnBytes
 mod Waiting
 mod Walking

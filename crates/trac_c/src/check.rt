@@ -1,13 +1,13 @@
 //! What is suspicious in a script.
-ghost use Rattle.std.specs.Prelude.{◌≡◌, ◌≤◌, IfErr, IfOk, length, min};
+ghost use Rattle.std.specs.Prelude.{◌≡◌, ◌≤◌, IfErr, IfOk, length};
 ghost use Rattle.trac_lent.specs.Units.{units_at};
 ghost use Rattle.trac_space.specs.contracts.cell.Cell.{the_row as CellRow};
 ghost use Rattle.trac_c.specs.Checked.{CheckTold, Checked, Findings};
-ghost use Rattle.trac_c.specs.Buffers.{laid};
 ghost use denote.Array.{Array};
 ghost use denote.RawPtr.{room_at};
 ghost use types.Logic.{sem};
 
+use crate::filling::lay;
 use crate::report::{TracReport, no_memory, number, refused};
 use crate::run::fill;
 use std::alloc::AllocError;
@@ -96,14 +96,4 @@ fn findings_of(
         consumed: 0,
         wanted: lines.len(),
     })
-}
-
-/// Puts bytes to the front of a buffer, as many as fit, and gives how many fit.
-fn lay(bytes: &[u8], room: &mut [u8]) -> usize
-    ensures count { result ≡ min (length bytes.now) (length room.old) }
-    ensures laid { room.new ≡ laid bytes.now room.old }
-{
-    let count = bytes.len().min(room.len());
-    room[..count].copy_from_slice(&bytes[..count]);
-    count
 }

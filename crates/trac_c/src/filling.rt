@@ -1,7 +1,7 @@
 //! Buffers of a caller's, filled from the front as far as they reach.
-ghost use Rattle.std.specs.Prelude.{◌≡◌, ◌+◌, ◌<◌, ◌≤◌, [], ◌∷◌, length, take};
+ghost use Rattle.std.specs.Prelude.{◌≡◌, ◌+◌, ◌<◌, ◌≤◌, [], ◌∷◌, length, min, take};
 ghost use Rattle.std.specs.Prelude.{◌++◌};
-ghost use Rattle.trac_c.specs.Buffers.{laid_from};
+ghost use Rattle.trac_c.specs.Buffers.{laid, laid_from};
 
 use trac_core::{Characters, Sink, SinkFailed};
 
@@ -12,6 +12,16 @@ pub(crate) fn put<T: Copy>(item: T, place: usize, room: &mut [T])
     if place < room.len() {
         room[place] = item;
     }
+}
+
+/// Puts bytes to the front of a buffer, as many as fit, and gives how many fit.
+pub(crate) fn lay(bytes: &[u8], room: &mut [u8]) -> usize
+    ensures count { result ≡ min (length bytes.now) (length room.old) }
+    ensures laid { room.new ≡ laid bytes.now room.old }
+{
+    let count = bytes.len().min(room.len());
+    room[..count].copy_from_slice(&bytes[..count]);
+    count
 }
 
 /// Puts the characters of a text to a place of a buffer, as far as that reaches, and gives how many it

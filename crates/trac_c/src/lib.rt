@@ -7,21 +7,28 @@ mod check;
 mod devices;
 mod filling;
 mod forms;
+mod functions;
 mod kept;
 mod report;
 mod run;
+mod stepping;
 mod strings;
+mod trace;
 mod turn;
 mod view;
 mod zeroed;
 
 pub use check::trac_engine_check;
+pub use functions::{
+    trac_engine_function_count, trac_engine_function_fact, trac_engine_function_text,
+};
 pub use kept::{
     trac_engine_again, trac_engine_cell_size, trac_engine_machine_size, trac_engine_open,
     trac_engine_take_peak, trac_engine_turn, trac_engine_turn_to_form,
 };
 pub use report::TracReport;
 pub use run::trac_engine_run;
+pub use trace::{TracTrace, trac_engine_trace_step};
 pub use view::{
     trac_engine_active_part, trac_engine_argument, trac_engine_argument_count, trac_engine_awaits,
     trac_engine_calls, trac_engine_drops, trac_engine_form_codes, trac_engine_form_count,

@@ -5,6 +5,12 @@ ghost use Rattle.trac_c.specs.Reports.{number, refused};
 
 use trac_core::Fate;
 
+/// A turn waits for input.
+pub(crate) const WAITS: u32 = 7;
+
+/// A turn waits for room in the output.
+pub(crate) const FULL: u32 = 8;
+
 /// More cells than a machine may have: nothing was touched.
 pub(crate) const REFUSED: u32 = 9;
 
@@ -15,9 +21,9 @@ pub(crate) const NO_MEMORY: u32 = 10;
 #[repr(C)]
 #[derive(Drop)]
 pub struct TracReport {
-    /// How it ended: the number of a fate, 9 if the number of cells was refused, or 10 if the memory of a check ran
-    /// out. A turn after which the run goes on has 0 if its steps are used up, 7 if it waits for input, and 8 if
-    /// it waits for room in the output.
+    /// How it ended: the number of a fate, 9 if the number of cells was refused, or 10 if the memory of a check or of
+    /// a trace ran out. A turn after which the run goes on has 0 if its steps are used up, 7 if it waits for input,
+    /// and 8 if it waits for room in the output.
     pub fate: u32,
     /// The greatest need of a step, in cells.
     pub peak: u32,

@@ -8,7 +8,7 @@ ghost use Rattle.trac_c.specs.Turns.{TurnedOrOver, turn_number, last_over, wante
 ghost use Rattle.trac_core.specs.Machine.{KeepsLimits};
 
 use crate::devices::{GivenSource, RoomySink};
-use crate::report::{TracReport, number};
+use crate::report::{FULL, TracReport, WAITS, number};
 use trac_core::{Fate, Machine};
 use trac_language::Function;
 
@@ -66,8 +66,8 @@ fn turn_number(last: Turn) -> u32
 {
     match last {
         Turn::Went => 0,
-        Turn::Waits => 7,
-        Turn::Full(_) => 8,
+        Turn::Waits => WAITS,
+        Turn::Full(_) => FULL,
         Turn::Over(fate) => number(fate),
     }
 }

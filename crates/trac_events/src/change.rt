@@ -1,59 +1,30 @@
-//! Which forms a call can change, and which it needs.
+//! Which forms a call can change or take apart.
 ghost use Rattle.std.specs.Prelude.{◌≡◌};
 ghost use Rattle.std.specs.List.{list_all};
 ghost use Rattle.trac_space.specs.Texts.{is_byte_cell, text_of_cells};
-ghost use Rattle.trac_events.specs.Changes.{form_of, pointer_of, is_same, needs_form, touched_by};
+ghost use Rattle.trac_events.specs.Changes.{form_of, pointer_of, is_same, takes_part, touched_by};
 
 use trac_core::{Machine, StoredForm};
-use trac_language::Function;
+use trac_language::{Concerned, Function, Given, facts_of};
 use trac_space::{Cell, character_of, is_character};
 
-/// The forms that a call of a function can make, change or delete.
-#[derive(Clone, Copy, Debug, PartialEq, Eq)]
-pub enum Touched {
-    /// None.
-    Nothing,
-    /// The form that the first argument behind the function's name names.
-    First,
-    /// The forms that the arguments behind the function's name name.
-    Each,
-    /// All forms.
-    All,
-}
-
-/// The forms that a call of this function can make, change or delete.
-pub fn touched_by(function: Function) -> Touched
+/// The forms that a call of this function can make, change or remove.
+pub fn touched_by(function: Function) -> Concerned
     ensures { result ≡ touched_by function }
 {
-    match function {
-        Function::DefineString
-        | Function::SegmentString
-        | Function::CallSegment
-        | Function::CallCharacter
-        | Function::CallNumber
-        | Function::InitialPart
-        | Function::CallRestore => Touched::First,
-        Function::DeleteDefinition => Touched::Each,
-        Function::DeleteAll => Touched::All,
-        _ => Touched::Nothing,
+    let traits = facts_of(function).traits;
+    if traits.changes_forms {
+        traits.forms
+    } else {
+        Concerned::Nothing
     }
 }
 
-/// Whether a call of this function does nothing if no form has the name behind the function's.
-pub fn needs_form(function: Function) -> bool
-    ensures { result ≡ needs_form function }
+/// Whether the value of this function is a part of a form, or its default value.
+pub fn takes_part(function: Function) -> bool
+    ensures { result ≡ takes_part function }
 {
-    match function {
-        Function::SegmentString
-        | Function::PrintForm
-        | Function::CallForm
-        | Function::CallSegment
-        | Function::CallCharacter
-        | Function::CallNumber
-        | Function::InitialPart
-        | Function::CallRestore => true,
-        _ => false,
-    }
+    matches!(facts_of(function).traits.gives, Given::Part)
 }
 
 /// The form whose name these cells are. None if no form has it, or if a cell is no character.

@@ -10,5 +10,5 @@ mod place;
 
 pub use before::{Before, depth_follows, value_behind};
 pub use call::{Named, argument, arguments_of};
-pub use change::{Touched, find_form, is_same, needs_form, pointer_of, touched_by};
+pub use change::{find_form, is_same, pointer_of, takes_part, touched_by};
 pub use place::{Place, Reading};

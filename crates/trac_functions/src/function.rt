@@ -1,6 +1,6 @@
-//! The table of functions: the name of each, and where its value is computed. A new function gets a
-//! line in `function_of` and one in `value_of`. One that reads, prints, changes the meta character or
-//! ends the run is called by the machine, in `trac_core`'s module of calls.
+//! Where the value of each function is computed: a new function gets a line in `value_of`. Its name stands in
+//! `trac_language`'s table. One that reads, prints, changes the meta character or ends the run is called by
+//! the machine, in `trac_core`'s module of calls.
 ghost use Rattle.std.specs.Prelude.{◌≡◌, ◌↔◌, ◌∷◌, [], IsSome, IsTrue, take, true};
 ghost use Rattle.trac_language.specs.Function.{function_named};
 ghost use Rattle.trac_space.specs.Texts.{character_of, text_of_cells};
@@ -11,7 +11,7 @@ ghost use Rattle.std.specs.Char.{to_ascii_lowercase};
 use crate::arguments::{Arguments, CallResult};
 use crate::{arithmetic, bit_strings, comparing, form_calls, form_parts};
 use trac_forms::Work;
-use trac_language::{Arith, Function};
+use trac_language::Function;
 use trac_space::{Cell, character_of};
 
 /// For each byte the letter of lower case, where it is a letter, and else the byte.
@@ -76,37 +76,7 @@ fn ends_name(cells: &[Cell]) -> bool
 fn function_of(first: &Cell, second: &Cell) -> Option<Function>
     ensures { result ≡ function_named (character_of first.now ∷ character_of second.now ∷ []) }
 {
-    match (lower(first), lower(second)) {
-        (b'r', b's') => Some(Function::ReadString),
-        (b'r', b'c') => Some(Function::ReadCharacter),
-        (b'c', b'm') => Some(Function::ChangeMeta),
-        (b'p', b's') => Some(Function::PrintString),
-        (b'h', b'l') => Some(Function::Halt),
-        (b'd', b's') => Some(Function::DefineString),
-        (b's', b's') => Some(Function::SegmentString),
-        (b'd', b'd') => Some(Function::DeleteDefinition),
-        (b'd', b'a') => Some(Function::DeleteAll),
-        (b'l', b'n') => Some(Function::ListNames),
-        (b'p', b'f') => Some(Function::PrintForm),
-        (b'c', b'l') => Some(Function::CallForm),
-        (b'c', b's') => Some(Function::CallSegment),
-        (b'c', b'c') => Some(Function::CallCharacter),
-        (b'c', b'n') => Some(Function::CallNumber),
-        (b'i', b'n') => Some(Function::InitialPart),
-        (b'c', b'r') => Some(Function::CallRestore),
-        (b'e', b'q') => Some(Function::Equal),
-        (b'g', b'r') => Some(Function::Greater),
-        (b'a', b'd') => Some(Function::Arithmetic(Arith::Add)),
-        (b's', b'u') => Some(Function::Arithmetic(Arith::Subtract)),
-        (b'm', b'l') => Some(Function::Arithmetic(Arith::Multiply)),
-        (b'd', b'v') => Some(Function::Arithmetic(Arith::Divide)),
-        (b'b', b'u') => Some(Function::Union),
-        (b'b', b'i') => Some(Function::Intersection),
-        (b'b', b'c') => Some(Function::Complement),
-        (b'b', b's') => Some(Function::Shift),
-        (b'b', b'r') => Some(Function::Rotate),
-        _ => None,
-    }
+    trac_language::function_named(lower(first), lower(second))
 }
 
 /// Performs a function with the arguments that follow its name. The machine itself performs the functions

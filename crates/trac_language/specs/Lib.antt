@@ -11,4 +11,5 @@ pub mod Segment
 pub mod State
 pub mod Step
 pub mod Store
+pub mod Table
 pub mod Text

@@ -23,9 +23,9 @@ use trac_checker::watched;
 use trac_core::{Fate, Input, Output, RetryingReader, RetryingWriter, SliceSource};
 use trac_lines::{fate_status, refused, refused_words};
 use trac_space::make_block;
-use trac_tracer::{Options, TraceError, trace, trace_last, write};
+use trac_tracer::{TraceError, trace, trace_last, write};
 use trac_views::{is_fault, push_text};
-use words::{Words, words_from};
+use words::{Options, Words, words_from};
 
 // The status if the words can't be used.
 const USAGE: u8 = 2;
@@ -110,12 +110,17 @@ fn show(rt: &HostRuntime, options: &Options) -> Result<u8, TraceError> {
     if options.views.warn {
         return show_warnings(rt, options, &mut output);
     }
-    if options.views.last == 0 {
+    let asked = trac_tracer::Options {
+        cells: options.settings.cells,
+        steps: options.settings.steps,
+        views: options.views,
+    };
+    if asked.views.last == 0 {
         let mut source = Input::new(rt.stdin());
-        return Ok(status(trace(rt.alloc(), options, &mut source, &mut output)?.fate));
+        return Ok(status(trace(rt.alloc(), &asked, &mut source, &mut output)?.fate));
     }
     let reader = RetryingReader::new(rt.stdin());
-    Ok(status(trace_last(rt.alloc(), options, reader, &mut output)?.fate))
+    Ok(status(trace_last(rt.alloc(), &asked, reader, &mut output)?.fate))
 }
 
 // Reads the whole script, runs it, and shows what is suspicious in it.

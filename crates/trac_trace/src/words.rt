@@ -8,9 +8,15 @@ ghost use Rattle.trac_trace.specs.CommandLine.{options_len, place_of_check, trac
 use clap::error::ErrorKind;
 use clap::{Arg, ArgAction, Command, Error, value_parser};
 use std::alloc::{AllocError, Global};
-use trac_tracer::Options;
 use trac_views::{MOST_LAST, MOST_WIDTH, Views};
 use trac_words::{MOST_STEPS, Settings, number, numbers_command};
+
+/// The options before the files: the settings of a run, and what is shown of it.
+#[derive(Clone, Copy)]
+pub struct Options {
+    pub settings: Settings,
+    pub views: Views,
+}
 
 /// What the words give.
 #[derive(Drop)]

@@ -18,18 +18,13 @@ use Rattle.trac_core.specs.declared.machine.open_calls.CallMark.{CallMark}
 use Rattle.trac_space.specs.declared.cell.Cell.{Cell}
 use Rattle.trac_events.specs.declared.before.Before.{Before}
 use Rattle.trac_views.specs.Faults.{TellsEnd, TellsPrinted, TellsStep, TellsWhere, forms_text, is_told}
-use Rattle.trac_views.specs.Lines.{column_behind, dropped_text, end_text, folded_text, head_text}
+use Rattle.trac_views.specs.Lines.{dropped_text, end_text, folded_text, head_text}
 use Rattle.trac_views.specs.Told.{has_steps, has_strings, is_fault}
 use Rattle.trac_views.specs.declared.views.Views.{Views}
 use Rattle.trac_tracer.specs.Last.{LastNumbers, with_step}
 use Rattle.trac_tracer.specs.ShownCalls.{IsKept, IsValueAfter, TellsCall, seen_text, step_lines}
 use Rattle.trac_tracer.specs.ShownRuns.{AreLinesOf, StepDone, ShownSoFar, ShowsSteps, ShowsRun, none_shown, with_lines}
 use Rattle.trac_tracer.proofs.Framing.{framed-answers, need-later, with_peak}
-
--- with no bound a text is as it is
-pub folded-none : (text : List ℕ) (at : ℕ) → folded_text 0 at text ≡ text
-folded-none [] at = refl
-folded-none (b ∷ text) at = ap (λ t. b ∷ t) (folded-none text (column_behind 0 at b))
 
 -- what a step needs is the same whatever was printed before it
 need-any : (memory : Memory) (input : Input) (out held : Text) → held ≡ [] → need (state_with memory input out) ≡ need (state_with memory input held)

@@ -4,24 +4,16 @@ use Rattle.std.specs.Prelude.{length, nat_le, if◌then◌else◌}
 use Rattle.std.specs.Prelude.{is_none}
 use Rattle.trac_language.specs.Text.{Text}
 use Rattle.trac_language.specs.declared.function.Function.{Function}
-use Rattle.trac_language.specs.declared.function.Function.TheVariants.{CallSegment, CallCharacter}
-use Rattle.trac_language.specs.declared.function.Function.TheVariants.{CallNumber, InitialPart}
+use Rattle.trac_language.specs.declared.function.Function.TheVariants.{CallNumber}
+use Rattle.trac_language.specs.declared.function.Function.TheVariants.{InitialPart}
 use Rattle.trac_language.specs.declared.function.Function.TheVariants.{Arithmetic}
 use Rattle.trac_space.specs.declared.cell.Cell.{Cell}
 use Rattle.trac_space.specs.Texts.{text_of_cells}
 use Rattle.trac_events.specs.Calls.{argument_of}
-use Rattle.trac_events.specs.Changes.{is_same}
-use Rattle.trac_events.specs.Changes.{needs_form}
+use Rattle.trac_language.specs.Table.{traits}
+use Rattle.trac_events.specs.Changes.{is_same, takes_part}
 use Rattle.trac_views.specs.declared.calls.Oddity.{Oddity}
 use Rattle.trac_views.specs.declared.calls.Oddity.TheVariants.{NoFunction, NoForm, Default}
-
--- whether the function takes a part of a form
-abbrev pub takes_part : Function → Bool
-takes_part CallSegment = true
-takes_part CallCharacter = true
-takes_part CallNumber = true
-takes_part InitialPart = true
-takes_part _ = false
 
 -- whether a text ends in the digits of a number that isn't 0; `found`: whether the text before it did
 abbrev pub has_number : Bool → Text → Bool
@@ -56,6 +48,6 @@ abbrev pub oddity_of : Option Function → Option ℕ → List Cell → List Cel
 oddity_of None before arguments value after =
     if length (argument_of arguments 0) == 0 then None else Some NoFunction
 oddity_of (Some function) before arguments value after =
-    if needs_form function && is_none before then Some NoForm
+    if (traits function).needs_form && is_none before then Some NoForm
     else (if is_default function arguments value (same_pointer before after) then Some Default
     else None)

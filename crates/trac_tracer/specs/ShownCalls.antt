@@ -14,8 +14,8 @@ use Rattle.trac_events.specs.Calls.{SeesValue, argument_of, behind_mark}
 use Rattle.trac_events.specs.Changes.{form_of, pointer_of, touched_by}
 use Rattle.trac_events.specs.declared.before.Before.{Before}
 use Rattle.trac_events.specs.declared.call.Named.{Named}
-use Rattle.trac_events.specs.declared.change.Touched.{Touched}
-use Rattle.trac_events.specs.declared.change.Touched.TheVariants.{Nothing, First, Each, All}
+use Rattle.trac_language.specs.declared.table.Concerned.{Concerned}
+use Rattle.trac_language.specs.declared.table.Concerned.TheVariants.{Nothing, First, Each, All}
 use Rattle.trac_views.specs.Faults.{IsNeutralIn}
 use Rattle.trac_views.specs.Lines.{dropped_text}
 use Rattle.trac_views.specs.Told.{called_text, changes_text, deleted_text, form_text, has_strings}
@@ -23,7 +23,7 @@ use Rattle.trac_views.specs.declared.views.Views.{Views}
 use Rattle.trac_tracer.specs.Odd.{oddity_of}
 
 -- the forms that a call of a function, or of none, can make, change or delete
-abbrev pub touched_of : Option Function → Touched
+abbrev pub touched_of : Option Function → Concerned
 touched_of None = Nothing
 touched_of (Some function) = touched_by function
 
@@ -33,7 +33,7 @@ found_text width None = []
 found_text width (Some form) = form_text width form
 
 -- the text of the form that a call names, if a call that can touch such forms makes or changes it; else null
-abbrev pub made_text : ℕ → Touched → Option Form → List ℕ
+abbrev pub made_text : ℕ → Concerned → Option Form → List ℕ
 made_text width Nothing form = []
 made_text width First form = found_text width form
 made_text width Each form = []

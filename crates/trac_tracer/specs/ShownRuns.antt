@@ -16,7 +16,14 @@ use Rattle.trac_views.specs.Lines.{folded_text, head_text}
 use Rattle.trac_views.specs.Told.{has_steps}
 use Rattle.trac_views.specs.declared.views.Views.{Views}
 use Rattle.trac_tracer.specs.Last.{LastNumbers, with_step}
+use Rattle.trac_events.specs.Places.{first_place}
 use Rattle.trac_tracer.specs.ShownCalls.{IsKept, TellsCall}
+use Rattle.trac_tracer.specs.declared.shown.Progress.{Progress}
+
+-- where a run that is shown stands before its first step: it has read nothing, no call is open, and no step needed
+-- a cell
+abbrev pub first_progress : Progress
+first_progress = record { reading = record { next = first_place; string = first_place }; depth = 0; peak = 0 }
 
 -- the views, for all steps
 abbrev pub all_steps : Views → Views

@@ -11,4 +11,5 @@ mod shown;
 mod tracing;
 
 pub use options::Options;
+pub use shown::{Progress, Shown};
 pub use tracing::{TraceError, Traced, trace, trace_last, write};

@@ -1,12 +1,12 @@
 //! What is odd about calls.
 ghost use Rattle.std.specs.Prelude.{◌≡◌, false};
 ghost use Rattle.trac_tracer.specs.Odd.{asks_for_part, is_default, oddity_of};
-ghost use Rattle.trac_tracer.specs.Odd.{has_number, takes_part};
+ghost use Rattle.trac_tracer.specs.Odd.{has_number};
 ghost use Rattle.trac_space.specs.Texts.{text_of_cells};
 
 use trac_core::Cell;
-use trac_events::{Named, argument, is_same, needs_form};
-use trac_language::Function;
+use trac_events::{Named, argument, is_same, takes_part};
+use trac_language::{Function, facts_of};
 use trac_space::character_of;
 use trac_views::Oddity;
 
@@ -26,24 +26,13 @@ pub fn oddity_of(
     match named.function {
         None if argument(arguments, 0).is_empty() => None,
         None => Some(Oddity::NoFunction),
-        Some(function) if needs_form(function) && named.pointer.is_none() => Some(Oddity::NoForm),
+        Some(function) if facts_of(function).traits.needs_form && named.pointer.is_none() => {
+            Some(Oddity::NoForm)
+        }
         Some(function) if is_default(function, arguments, value, named.pointer == pointer) => {
             Some(Oddity::Default)
         }
         Some(_) => None,
-    }
-}
-
-// Whether a function takes a part of a form.
-fn takes_part(function: Function) -> bool
-    ensures { result ≡ takes_part function }
-{
-    match function {
-        Function::CallSegment
-        | Function::CallCharacter
-        | Function::CallNumber
-        | Function::InitialPart => true,
-        _ => false,
     }
 }
 

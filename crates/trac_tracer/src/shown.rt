@@ -7,50 +7,84 @@ ghost use Rattle.trac_views.specs.Lines.{dropped_text, head_text};
 ghost use Rattle.trac_views.specs.Told.{event_text, has_steps, has_strings, is_fault, meta_text};
 ghost use Rattle.trac_views.specs.Faults.{TellsDone, TellsEnd, TellsStep, TellsWhere, forms_text};
 ghost use Rattle.trac_views.specs.Faults.{is_told};
+ghost use Rattle.trac_tracer.specs.ShownRuns.{first_progress};
 ghost use Rattle.trac_tracer.specs.ShownCalls.{IsKept, TellsCall, made_text, seen_text, touched_of};
 
 use crate::oddities::oddity_of;
-use std::alloc::{AllocError, Global};
+use std::alloc::{AllocError, Allocator};
 use trac_core::{Awaits, CallMark, Cell, Fate, Machine, Report};
 use trac_events::{
-    Before, Named, Reading, Touched, argument, arguments_of, find_form, pointer_of, touched_by,
+    Before, Named, Reading, argument, arguments_of, find_form, pointer_of, touched_by,
 };
+use trac_language::Concerned;
 use trac_views::{
     Called, Event, Step, Views, head, is_fault, push, push_byte, push_deleted, push_end,
     push_event, push_fault, push_form, push_forms,
 };
 
+/// How far a run that is shown has come: what is kept of it from step to step.
+#[derive(Clone, Copy)]
+pub struct Progress {
+    /// Where the input is read.
+    pub reading: Reading,
+    /// How many calls are open.
+    pub depth: usize,
+    /// The greatest need of a step so far, in cells.
+    pub peak: u32,
+}
+
+impl Progress {
+    /// Where a run stands before its first step.
+    pub fn first() -> Progress
+        ensures { result ≡ first_progress }
+    {
+        Progress {
+            reading: Reading::first(),
+            depth: 0,
+            peak: 0,
+        }
+    }
+}
+
 /// The lines of the views of a run, and what they are made from.
 #[derive(Drop)]
-pub struct Shown {
-    alloc: Global,
+pub struct Shown<A: Allocator> {
+    alloc: A,
     views: Views,
     // The lines of the step that was seen last.
-    lines: Vec<u8>,
+    lines: Vec<u8, A>,
     // The arguments of the call that the step performs, what it names, and the forms that it deletes.
-    arguments: Vec<Cell>,
+    arguments: Vec<Cell, A>,
     named: Named,
-    deleted: Vec<u8>,
+    deleted: Vec<u8, A>,
     // The form that it makes or changes.
-    form: Vec<u8>,
+    form: Vec<u8, A>,
     reading: Reading,
     // How many calls are open.
     depth: usize,
     peak: u32,
 }
 
-impl Shown {
-    /// What is shown before the first step: the lines above all others.
-    pub fn new(alloc: Global, views: Views) -> Result<Shown, AllocError>
+impl<A: Allocator + Copy> Shown<A> {
+    /// What is shown before the first step: the lines above all others. Fails only if memory runs out.
+    pub fn new(alloc: A, views: Views) -> Result<Shown<A>, AllocError>
         ensures { IfOk result (λ shown. (shown.views ≡ views) × (shown.peak ≡ 0) × (shown.depth ≡ 0)
             × (shown.lines.items ≡ head_text views.calls views.forms)) }
     {
-        let mut lines = Vec::new(alloc);
-        push(&mut lines, head(&views))?;
-        Ok(Shown {
+        let mut shown = Shown::resumed(alloc, views, Progress::first());
+        push(&mut shown.lines, head(&views))?;
+        Ok(shown)
+    }
+
+    /// What is shown of a run that has come so far. There are no lines yet.
+    pub fn resumed(alloc: A, views: Views, progress: Progress) -> Shown<A>
+        ensures { (result.views ≡ views) × (result.depth ≡ progress.depth) × (result.peak ≡ progress.peak)
+            × (result.lines.items ≡ []) }
+    {
+        Shown {
             alloc,
             views,
-            lines,
+            lines: Vec::new(alloc),
             arguments: Vec::new(alloc),
             named: Named {
                 function: None,
@@ -58,10 +92,21 @@ impl Shown {
             },
             deleted: Vec::new(alloc),
             form: Vec::new(alloc),
-            reading: Reading::first(),
-            depth: 0,
-            peak: 0,
-        })
+            reading: progress.reading,
+            depth: progress.depth,
+            peak: progress.peak,
+        }
+    }
+
+    /// How far the run has come.
+    pub fn progress(&self) -> Progress
+        ensures { (result.depth ≡ self.now.depth) × (result.peak ≡ self.now.peak) }
+    {
+        Progress {
+            reading: self.reading,
+            depth: self.depth,
+            peak: self.peak,
+        }
     }
 
     /// The lines of the step that was seen last.
@@ -304,19 +349,19 @@ impl Shown {
 }
 
 // The forms that a call of what it names can make, change or delete.
-fn touched_of(named: &Named) -> Touched
+fn touched_of(named: &Named) -> Concerned
     ensures { result ≡ touched_of named.now.function }
 {
     match named.function {
         Some(function) => touched_by(function),
-        None => Touched::Nothing,
+        None => Concerned::Nothing,
     }
 }
 
 // Adds the form of this name, where the call can have made or changed it.
-fn push_touched(
-    text: &mut Vec<u8>,
-    alloc: Global,
+fn push_touched<A: Allocator + Copy>(
+    text: &mut Vec<u8, A>,
+    alloc: A,
     named: &Named,
     machine: &Machine,
     name: &[Cell],
@@ -325,7 +370,7 @@ fn push_touched(
     ensures { OnOk result (text.new.items ≡ text.old.items ++ made_text width
         (touched_of named.now.function) (form_of name.now machine.now.memory.forms)) }
 {
-    if touched_of(named) != Touched::First {
+    if touched_of(named) != Concerned::First {
         return Ok(());
     }
     match find_form(machine, name) {
@@ -335,7 +380,7 @@ fn push_touched(
 }
 
 // Adds the line of the meta character.
-fn push_meta(lines: &mut Vec<u8>, meta: u8) -> Result<(), AllocError>
+fn push_meta<A: Allocator>(lines: &mut Vec<u8, A>, meta: u8) -> Result<(), AllocError>
     ensures { OnOk result (lines.new.items ≡ lines.old.items ++ meta_text meta) }
 {
     push(lines, b"meta character: ")?;

@@ -60,14 +60,13 @@ pub fn trace<I: Source, W: Write>(
     ensures input_failed { IfOk result (λ traced. I.failure_count source.new ≡
         I.failure_count source.old + reported_input_failures traced.fate) }
     // what was written shows the definition's run, step by step
-    ensures shows { let views = options.now.views in let settings = options.now.settings in
-        I.tells source.old → IfOk result (λ traced. (text : List ℕ)
+    ensures shows { let asked = options.now in I.tells source.old → IfOk result (λ traced. (text : List ℕ)
         × (Appends (W.contents output.old) (W.contents output.new) text
-        × ShowsRun views settings.cells settings.steps (I.stream source.old) (I.stream source.new)
+        × ShowsRun asked.views asked.cells asked.steps (I.stream source.old) (I.stream source.new)
         traced.fate traced.first text)) }
 {
-    let mut block = make_block(alloc, options.settings.cells)?;
-    let mut machine = Machine::over(&mut block, options.settings.steps);
+    let mut block = make_block(alloc, options.cells)?;
+    let mut machine = Machine::over(&mut block, options.steps);
     let mut printed = Printed::new(alloc);
     let mut shown = Shown::new(alloc, options.views)?;
     let mut last = LastSteps::new(alloc, options.views.last);
@@ -102,10 +101,10 @@ pub fn trace_last<R: Read + Drop, W: Write>(
     output: &mut W,
 ) -> Result<Traced, TraceError>
     // what was written shows the definition's run over some bytes, from some step on
-    ensures { let settings = options.now.settings in IfOk result (λ traced.
+    ensures { let asked = options.now in IfOk result (λ traced.
         (text : List ℕ) × ((bytes : List ℕ) × ((left : Stream) × ((first : ℕ)
         × (Appends (W.contents output.old) (W.contents output.new) text
-        × ShowsRun (views_from first options.now.views) settings.cells settings.steps
+        × ShowsRun (views_from first asked.views) asked.cells asked.steps
         (record { bytes = bytes; ended = false }) left traced.fate traced.first text))))) }
 {
     let mut record = Record::new(alloc);
@@ -117,10 +116,7 @@ pub fn trace_last<R: Read + Drop, W: Write>(
         Fate::InputFailed => Some(record.bytes.len() as u64),
         _ => None,
     };
-    let options = Options {
-        views: options.views.beginning_at(once.first),
-        ..*options
-    };
+    let options = options.showing(options.views.beginning_at(once.first));
     let mut source = SliceSource::new(record.bytes.as_slice(), fails_at);
     trace(alloc, &options, &mut source, output)
 }
@@ -133,23 +129,23 @@ fn run_once<R: Read + Drop>(
     reader: R,
     record: &mut Record,
 ) -> Result<Traced, TraceError>
-    ensures views { let settings = options.now.settings in has_steps options.now.views ≡ false →
+    ensures views { let asked = options.now in has_steps asked.views ≡ false →
         IsSome (R.remaining reader) → IfOk result (λ traced. (text : List ℕ) × ((left : Stream)
-        × ShowsRun (all_steps options.now.views) settings.cells settings.steps
+        × ShowsRun (all_steps asked.views) asked.cells asked.steps
         (told_stream (R.remaining reader) false) left traced.fate traced.first text)) }
     ensures steps { has_steps options.now.views ≡ true → IfOk result (λ traced.
-        (steps : ℕ) × ((steps ≤ options.now.settings.steps)
+        (steps : ℕ) × ((steps ≤ options.now.steps)
         × (traced.first ≡ min (steps - options.now.views.last + 1) (2 ^ 64 - 1)))) }
 {
     let mut source = Input::new(Recording { reader, record });
     if !options.views.has_steps() {
         let views = options.views.of_all_steps();
-        let options = Options { views, ..*options };
+        let options = options.showing(views);
         return trace(alloc, &options, &mut source, &mut io::sink());
     }
-    let mut block = make_block(alloc, options.settings.cells)?;
+    let mut block = make_block(alloc, options.cells)?;
     let mut sink = Output::new(io::sink());
-    let report = Machine::over(&mut block, options.settings.steps).run(&mut source, &mut sink);
+    let report = Machine::over(&mut block, options.steps).run(&mut source, &mut sink);
     Ok(Traced {
         fate: report.fate,
         first: options.views.first_of(report.steps),

@@ -1,5 +1,5 @@
 -- A text whose lines are folded, byte by byte.
-use Rattle.std.proofs.Common.{◌≡◌, ◌∙◌, ◌<◌, ◌+◌, ℕ, List, [], ◌++◌, length, drop, ap, sym, append_assoc, append-nil, get_or}
+use Rattle.std.proofs.Common.{◌≡◌, ◌∙◌, ◌<◌, ◌+◌, ℕ, List, [], ◌∷◌, ◌++◌, length, drop, ap, sym, refl, append_assoc, append-nil, get_or}
 use Rattle.std.proofs.lemmas.List.{drop_more}
 use Rattle.trac_views.specs.Lines.{byte_at, column_behind, folded_text}
 
@@ -17,3 +17,8 @@ folded-more columns at k bytes lines new whole within so_far is =
 pub folded-whole : (columns at k : ℕ) (bytes lines whole : List ℕ) → drop k bytes ≡ [] → lines ++ folded_text columns at (drop k bytes) ≡ whole → lines ≡ whole
 folded-whole columns at k bytes lines whole none is =
     sym (append-nil lines) ∙ sym (ap (λ bs. lines ++ folded_text columns at bs) none) ∙ is
+
+-- with no bound a text is as it is
+pub folded-none : (text : List ℕ) (at : ℕ) → folded_text 0 at text ≡ text
+folded-none [] at = refl
+folded-none (b ∷ text) at = ap (λ t. b ∷ t) (folded-none text (column_behind 0 at b))

@@ -15,8 +15,8 @@ use Rattle.trac_space.specs.declared.cell.Cell.TheVariants.{Byte, Call, Comma, G
 use Rattle.trac_space.specs.Texts.{text_of_cells}
 use Rattle.trac_events.specs.Calls.{argument_of}
 use Rattle.trac_events.specs.Changes.{form_of, is_same}
-use Rattle.trac_events.specs.declared.change.Touched.{Touched}
-use Rattle.trac_events.specs.declared.change.Touched.TheVariants.{Nothing, First, Each, All}
+use Rattle.trac_language.specs.declared.table.Concerned.{Concerned}
+use Rattle.trac_language.specs.declared.table.Concerned.TheVariants.{Nothing, First, Each, All}
 use Rattle.trac_events.specs.declared.place.Place.{Place}
 use Rattle.trac_views.specs.declared.calls.Oddity.{Oddity}
 use Rattle.trac_views.specs.declared.calls.Oddity.TheVariants.{NoFunction, NoForm, Default}
@@ -128,14 +128,18 @@ first_deleted width forms arguments =
     if is_none (form_of name forms) || is_argument arguments (text_of_cells name) then []
     else deletion width (text_of_cells name)
 
+-- the same for the argument that begins behind a cell, null if none does
+abbrev pub behind_deleted : ℕ → List Form → Cell → List Cell → List ℕ
+behind_deleted width forms cell cells = if is_comma cell then first_deleted width forms cells else []
+
 -- the words that the forms which arguments behind the function's name name are deleted, each once
 abbrev pub named_deleted : ℕ → List Form → List Cell → List ℕ
 named_deleted width forms [] = []
 named_deleted width forms (cell ∷ cells) =
-    (if is_comma cell then first_deleted width forms cells else []) ++ named_deleted width forms cells
+    behind_deleted width forms cell cells ++ named_deleted width forms cells
 
 -- the words on the forms that a call with `arguments` deletes, of the forms that it can touch
-abbrev pub deleted_text : ℕ → Touched → List Form → List Cell → List ℕ
+abbrev pub deleted_text : ℕ → Concerned → List Form → List Cell → List ℕ
 deleted_text width Nothing forms arguments = []
 deleted_text width First forms arguments = []
 deleted_text width Each forms arguments = named_deleted width forms arguments

@@ -6,7 +6,7 @@ ghost use Rattle.trac_views.specs.Told.{unless_empty};
 
 use crate::escapes::{opening, push_cells_cut, push_cut};
 use crate::lines::{push, push_column, push_number};
-use std::alloc::{AllocError, Global};
+use std::alloc::{AllocError, Allocator};
 use trac_core::Cell;
 use trac_space::Mode;
 
@@ -50,9 +50,9 @@ pub struct Called<'a> {
 /// Adds the line of a call: its step, the call, indented by the calls that are open around it, its
 /// value, what it printed, the forms that it changed, and what is odd about it. Fails only if
 /// memory runs out.
-pub fn push_call(
-    line: &mut Vec<u8>,
-    alloc: Global,
+pub fn push_call<A: Allocator + Copy>(
+    line: &mut Vec<u8, A>,
+    alloc: A,
     called: &Called,
     width: u32,
 ) -> Result<(), AllocError>
@@ -74,7 +74,7 @@ pub fn push_call(
 
 // Adds two blanks, and two more for each call that is open around a call. If they are many, adds
 // their number instead.
-fn push_indent(line: &mut Vec<u8>, depth: usize) -> Result<(), AllocError>
+fn push_indent<A: Allocator>(line: &mut Vec<u8, A>, depth: usize) -> Result<(), AllocError>
     ensures { OnOk result (line.new.items ≡ line.old.items ++ indent_text depth) }
 {
     if depth <= MOST_INDENT {
@@ -86,7 +86,7 @@ fn push_indent(line: &mut Vec<u8>, depth: usize) -> Result<(), AllocError>
 }
 
 // Adds two blanks, and two more for each of `depth` calls.
-fn push_blanks(line: &mut Vec<u8>, depth: usize) -> Result<(), AllocError>
+fn push_blanks<A: Allocator>(line: &mut Vec<u8, A>, depth: usize) -> Result<(), AllocError>
     ensures { OnOk result (line.new.items ≡ line.old.items ++ blanks_text depth) }
 {
     for _around in 0..depth {
@@ -96,9 +96,9 @@ fn push_blanks(line: &mut Vec<u8>, depth: usize) -> Result<(), AllocError>
 }
 
 // Adds the value, what was printed, and the form that was made or changed, as far as there are any.
-fn push_results(
-    line: &mut Vec<u8>,
-    alloc: Global,
+fn push_results<A: Allocator + Copy>(
+    line: &mut Vec<u8, A>,
+    alloc: A,
     called: &Called,
     width: u32,
 ) -> Result<(), AllocError>

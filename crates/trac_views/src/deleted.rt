@@ -2,22 +2,23 @@
 ghost use Rattle.std.specs.Prelude.{◌≡◌, ◌++◌, OnOk};
 ghost use Rattle.std.specs.List.{flat_map};
 ghost use Rattle.trac_space.specs.Texts.{text_of_cells};
-ghost use Rattle.trac_views.specs.Told.{deleted_text, deletion, first_deleted, form_deleted};
+ghost use Rattle.trac_views.specs.Told.{behind_deleted, deleted_text, deletion, first_deleted, form_deleted};
 ghost use Rattle.trac_views.specs.Told.{is_argument, named_deleted};
 
 use crate::escapes::push_name;
 use crate::lines::push;
-use std::alloc::{AllocError, Global};
+use std::alloc::{AllocError, Allocator};
 use trac_core::{Cell, Forms, Machine};
-use trac_events::{Touched, argument, find_form, is_same};
+use trac_events::{argument, find_form, is_same};
+use trac_language::Concerned;
 
 /// Adds the names of the forms that a call with these arguments deletes: those of the arguments, in
 /// their order, or all forms, in the order of their definition. `touched` says which. Fails only if
 /// memory runs out.
-pub fn push_deleted(
-    line: &mut Vec<u8>,
-    alloc: Global,
-    touched: Touched,
+pub fn push_deleted<A: Allocator + Copy>(
+    line: &mut Vec<u8, A>,
+    alloc: A,
+    touched: Concerned,
     arguments: &[Cell],
     machine: &Machine,
     width: u32,
@@ -26,14 +27,19 @@ pub fn push_deleted(
         ++ deleted_text width touched machine.now.memory.forms arguments.now) }
 {
     match touched {
-        Touched::Nothing | Touched::First => Ok(()),
-        Touched::Each => push_named(line, alloc, machine, arguments, width),
-        Touched::All => push_all(line, alloc, machine.forms(), width),
+        Concerned::Nothing | Concerned::First => Ok(()),
+        Concerned::Each => push_named(line, alloc, machine, arguments, width),
+        Concerned::All => push_all(line, alloc, machine.forms(), width),
     }
 }
 
 // Adds the names of all forms.
-fn push_all(line: &mut Vec<u8>, alloc: Global, forms: Forms, width: u32) -> Result<(), AllocError>
+fn push_all<A: Allocator + Copy>(
+    line: &mut Vec<u8, A>,
+    alloc: A,
+    forms: Forms,
+    width: u32,
+) -> Result<(), AllocError>
     ensures { OnOk result (line.new.items ≡ line.old.items
         ++ flat_map (form_deleted width) forms.entry) }
 {
@@ -44,9 +50,9 @@ fn push_all(line: &mut Vec<u8>, alloc: Global, forms: Forms, width: u32) -> Resu
 }
 
 // Adds each argument behind the function's name that names a form, once.
-fn push_named(
-    line: &mut Vec<u8>,
-    alloc: Global,
+fn push_named<A: Allocator + Copy>(
+    line: &mut Vec<u8, A>,
+    alloc: A,
     machine: &Machine,
     arguments: &[Cell],
     width: u32,
@@ -54,21 +60,42 @@ fn push_named(
     ensures { OnOk result (line.new.items ≡ line.old.items
         ++ named_deleted width machine.now.memory.forms arguments.now) }
 {
-    let mut rest = arguments;
-    for cell in arguments {
-        rest = &rest[1..];
-        if matches!(cell, Cell::Comma) {
-            push_first(line, alloc, machine, rest, width)?;
-        }
+    for place in 0..arguments.len() {
+        push_behind(
+            line,
+            alloc,
+            machine,
+            &arguments[place],
+            &arguments[place + 1..],
+            width,
+        )?;
     }
     Ok(())
 }
 
+// Adds the argument that begins behind a cell, if one does, and that names a form.
+fn push_behind<A: Allocator + Copy>(
+    line: &mut Vec<u8, A>,
+    alloc: A,
+    machine: &Machine,
+    cell: &Cell,
+    behind: &[Cell],
+    width: u32,
+) -> Result<(), AllocError>
+    ensures { OnOk result (line.new.items ≡ line.old.items
+        ++ behind_deleted width machine.now.memory.forms cell.now behind.now) }
+{
+    match cell {
+        Cell::Comma => push_first(line, alloc, machine, behind, width),
+        _ => Ok(()),
+    }
+}
+
 // Adds that the form which the first of the arguments names is deleted, if there is such a form and no later
 // argument is the same.
-fn push_first(
-    line: &mut Vec<u8>,
-    alloc: Global,
+fn push_first<A: Allocator + Copy>(
+    line: &mut Vec<u8, A>,
+    alloc: A,
     machine: &Machine,
     arguments: &[Cell],
     width: u32,
@@ -84,9 +111,9 @@ fn push_first(
 }
 
 // Adds that a form of this name is deleted.
-fn push_deletion(
-    line: &mut Vec<u8>,
-    alloc: Global,
+fn push_deletion<A: Allocator + Copy>(
+    line: &mut Vec<u8, A>,
+    alloc: A,
     name: &[Cell],
     width: u32,
 ) -> Result<(), AllocError>

@@ -9,7 +9,7 @@ ghost use Rattle.trac_views.specs.Shown.{begin_of_tail, end_of_head, goes_on, sh
 ghost use Rattle.trac_views.specs.Shown.{step_on, turns_direction};
 
 use crate::lines::{push, push_byte};
-use std::alloc::{AllocError, Allocator, Global};
+use std::alloc::{AllocError, Allocator};
 use std::str;
 use trac_core::Cell;
 use trac_space::{Mode, character_of};
@@ -17,7 +17,11 @@ use trac_space::{Mode, character_of};
 /// Adds a text. Of one that is longer than `width` bytes, adds the first and the last half of that
 /// many, with two full stops between, and leaves out a character that would be cut. A width of 0
 /// sets no bound. Fails only if memory runs out.
-pub fn push_cut(line: &mut Vec<u8>, bytes: &[u8], width: u32) -> Result<(), AllocError>
+pub fn push_cut<A: Allocator>(
+    line: &mut Vec<u8, A>,
+    bytes: &[u8],
+    width: u32,
+) -> Result<(), AllocError>
     ensures { OnOk result (line.new.items ≡ line.old.items ++ cut_text width bytes.now) }
 {
     let width = width as usize;
@@ -188,9 +192,9 @@ fn is_whole(bytes: &[u8], len: usize) -> bool
 }
 
 /// Adds cells as the views show them, cut to `width` bytes as by `push_cut`. Fails only if memory runs out.
-pub fn push_cells_cut(
-    line: &mut Vec<u8>,
-    alloc: Global,
+pub fn push_cells_cut<A: Allocator + Copy>(
+    line: &mut Vec<u8, A>,
+    alloc: A,
     cells: &[Cell],
     width: u32,
 ) -> Result<(), AllocError>
@@ -204,7 +208,7 @@ pub fn push_cells_cut(
 
 /// Adds the bytes of cells of the neutral string. A comma mark is shown in angle brackets; a call
 /// mark adds nothing. Fails only if memory runs out.
-pub fn push_raw(bytes: &mut Vec<u8>, cells: &[Cell]) -> Result<(), AllocError>
+pub fn push_raw<A: Allocator>(bytes: &mut Vec<u8, A>, cells: &[Cell]) -> Result<(), AllocError>
     ensures { OnOk result (bytes.new.items ≡ bytes.old.items ++ flat_map raw_cell cells.now) }
 {
     for cell in cells {
@@ -214,7 +218,7 @@ pub fn push_raw(bytes: &mut Vec<u8>, cells: &[Cell]) -> Result<(), AllocError>
 }
 
 // Adds the bytes of a cell.
-fn push_raw_cell(bytes: &mut Vec<u8>, cell: &Cell) -> Result<(), AllocError>
+fn push_raw_cell<A: Allocator>(bytes: &mut Vec<u8, A>, cell: &Cell) -> Result<(), AllocError>
     ensures { OnOk result (bytes.new.items ≡ bytes.old.items ++ raw_cell cell.now) }
 {
     match *cell {
@@ -225,9 +229,9 @@ fn push_raw_cell(bytes: &mut Vec<u8>, cell: &Cell) -> Result<(), AllocError>
 }
 
 /// Adds a text that cells hold, cut to `width` bytes as by `push_cut`. Fails only if memory runs out.
-pub fn push_name(
-    line: &mut Vec<u8>,
-    alloc: Global,
+pub fn push_name<A: Allocator + Copy>(
+    line: &mut Vec<u8, A>,
+    alloc: A,
     cells: &[Cell],
     width: u32,
 ) -> Result<(), AllocError>
@@ -240,7 +244,7 @@ pub fn push_name(
 }
 
 // Adds the characters of cells.
-fn push_characters(bytes: &mut Vec<u8>, cells: &[Cell]) -> Result<(), AllocError>
+fn push_characters<A: Allocator>(bytes: &mut Vec<u8, A>, cells: &[Cell]) -> Result<(), AllocError>
     ensures { OnOk result (bytes.new.items ≡ bytes.old.items ++ text_of_cells cells.now) }
 {
     for cell in cells {

@@ -5,7 +5,7 @@ ghost use Rattle.trac_views.specs.Told.{change_line, changes_text, event_text};
 use crate::calls::{Called, push_call, unless_empty};
 use crate::lines::{Step, push, push_column, push_dropped, push_printed, push_step};
 use crate::views::Views;
-use std::alloc::{AllocError, Global};
+use std::alloc::{AllocError, Allocator};
 use trac_core::Cell;
 
 /// One thing that a step did.
@@ -22,9 +22,9 @@ pub enum Event<'e> {
 }
 
 /// Adds what the views show of an event. Fails only if memory runs out.
-pub fn push_event(
-    lines: &mut Vec<u8>,
-    alloc: Global,
+pub fn push_event<A: Allocator + Copy>(
+    lines: &mut Vec<u8, A>,
+    alloc: A,
     views: &Views,
     event: &Event,
 ) -> Result<(), AllocError>
@@ -45,7 +45,7 @@ pub fn push_event(
 }
 
 // Adds the line of the forms that a call made, changed or deleted, if there are any.
-fn push_changes(lines: &mut Vec<u8>, called: &Called) -> Result<(), AllocError>
+fn push_changes<A: Allocator>(lines: &mut Vec<u8, A>, called: &Called) -> Result<(), AllocError>
     ensures { OnOk result (lines.new.items ≡ lines.old.items
         ++ changes_text called.now.number called.now.form.now called.now.deleted.now) }
 {
@@ -57,7 +57,7 @@ fn push_changes(lines: &mut Vec<u8>, called: &Called) -> Result<(), AllocError>
 }
 
 // Adds the line of the form that a call made or changed, or of the forms that it deleted.
-fn push_change(lines: &mut Vec<u8>, called: &Called) -> Result<(), AllocError>
+fn push_change<A: Allocator>(lines: &mut Vec<u8, A>, called: &Called) -> Result<(), AllocError>
     ensures { OnOk result (lines.new.items ≡ lines.old.items
         ++ change_line called.now.number called.now.form.now called.now.deleted.now) }
 {

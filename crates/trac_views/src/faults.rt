@@ -10,7 +10,7 @@ ghost use Rattle.trac_views.specs.Told.{open_line, parts_text, place_text, skip_
 use crate::escapes::{opening, push_cells_cut};
 use crate::largest::push_largest_forms;
 use crate::lines::{push, push_number};
-use std::alloc::{AllocError, Allocator, Global};
+use std::alloc::{AllocError, Allocator};
 use trac_core::{Cell, Fate, Machine};
 use trac_events::Place;
 use trac_space::Mode;
@@ -31,9 +31,9 @@ pub fn is_fault(fate: Fate) -> bool
 /// Adds the lines on a fault: the step that was not done, where the string that was read last
 /// began, the innermost open calls, the largest forms, and the cells of each part of the block.
 /// Fails only if memory runs out.
-pub fn push_fault(
-    lines: &mut Vec<u8>,
-    alloc: Global,
+pub fn push_fault<A: Allocator + Copy>(
+    lines: &mut Vec<u8, A>,
+    alloc: A,
     machine: &Machine,
     string: Place,
     width: u32,
@@ -48,7 +48,11 @@ pub fn push_fault(
 }
 
 // Adds the line of the step that was not done, and of where the string that was read last began.
-fn push_where(lines: &mut Vec<u8>, step: u64, string: Place) -> Result<(), AllocError>
+fn push_where<A: Allocator>(
+    lines: &mut Vec<u8, A>,
+    step: u64,
+    string: Place,
+) -> Result<(), AllocError>
     ensures { OnOk result (lines.new.items ≡ lines.old.items ++ where_text step string) }
 {
     push(lines, b"at step ")?;
@@ -70,9 +74,9 @@ pub fn push_place<A: Allocator>(lines: &mut Vec<u8, A>, place: Place) -> Result<
 
 /// Adds the lines of the five innermost open calls of a neutral string, with their arguments so
 /// far, the innermost one last. Fails only if memory runs out.
-pub fn push_open_calls(
-    lines: &mut Vec<u8>,
-    alloc: Global,
+pub fn push_open_calls<A: Allocator + Copy>(
+    lines: &mut Vec<u8, A>,
+    alloc: A,
     neutral: &[Cell],
     width: u32,
 ) -> Result<(), AllocError>
@@ -98,7 +102,7 @@ fn calls_in(neutral: &[Cell]) -> usize
 }
 
 // Adds how many open calls stand around the ones that are shown, if there are any.
-fn push_around(lines: &mut Vec<u8>, skip: usize) -> Result<(), AllocError>
+fn push_around<A: Allocator>(lines: &mut Vec<u8, A>, skip: usize) -> Result<(), AllocError>
     ensures { OnOk result (lines.new.items ≡ lines.old.items ++ around_text skip) }
 {
     if skip == 0 {
@@ -110,9 +114,9 @@ fn push_around(lines: &mut Vec<u8>, skip: usize) -> Result<(), AllocError>
 }
 
 // Adds the lines of the innermost open calls, leaving out the outermost `skip`.
-fn push_opened(
-    lines: &mut Vec<u8>,
-    alloc: Global,
+fn push_opened<A: Allocator + Copy>(
+    lines: &mut Vec<u8, A>,
+    alloc: A,
     neutral: &[Cell],
     skip: usize,
     width: u32,
@@ -146,9 +150,9 @@ fn skip_behind(skip: usize, cell: &Cell) -> usize
 }
 
 // Adds the line of a call if the cell is the mark of one that isn't left out.
-fn push_opened_at(
-    lines: &mut Vec<u8>,
-    alloc: Global,
+fn push_opened_at<A: Allocator + Copy>(
+    lines: &mut Vec<u8, A>,
+    alloc: A,
     skip: usize,
     cell: &Cell,
     behind: &[Cell],
@@ -166,9 +170,9 @@ fn push_opened_at(
 }
 
 // Adds the line of an open call with these arguments so far.
-fn push_open_call(
-    lines: &mut Vec<u8>,
-    alloc: Global,
+fn push_open_call<A: Allocator + Copy>(
+    lines: &mut Vec<u8, A>,
+    alloc: A,
     mode: Mode,
     arguments: &[Cell],
     width: u32,
@@ -222,7 +226,7 @@ impl Parts {
 }
 
 /// Adds the line of the cells that each part of a block holds. Fails only if memory runs out.
-pub fn push_parts(lines: &mut Vec<u8>, parts: &Parts) -> Result<(), AllocError>
+pub fn push_parts<A: Allocator>(lines: &mut Vec<u8, A>, parts: &Parts) -> Result<(), AllocError>
     ensures { OnOk result (lines.new.items ≡ lines.old.items
         ++ parts_text parts.now.forms parts.now.neutral parts.now.active parts.now.free) }
 {

@@ -6,14 +6,14 @@ ghost use Rattle.trac_views.specs.Told.{form_line, form_text};
 use crate::escapes::{push_cut, push_name};
 use crate::lines::push;
 use crate::printed::Printed;
-use std::alloc::{AllocError, Global};
+use std::alloc::{AllocError, Allocator};
 use trac_core::{Forms, StoredForm, show_form};
 
 /// Adds a form: its name and, behind a colon, its body as `pf` displays it, both cut to `width` bytes.
 /// Fails only if memory runs out.
-pub fn push_form(
-    line: &mut Vec<u8>,
-    alloc: Global,
+pub fn push_form<A: Allocator + Copy>(
+    line: &mut Vec<u8, A>,
+    alloc: A,
     form: &StoredForm,
     width: u32,
 ) -> Result<(), AllocError>
@@ -29,9 +29,9 @@ pub fn push_form(
 }
 
 /// Adds a line for each form. Fails only if memory runs out.
-pub fn push_forms(
-    lines: &mut Vec<u8>,
-    alloc: Global,
+pub fn push_forms<A: Allocator + Copy>(
+    lines: &mut Vec<u8, A>,
+    alloc: A,
     forms: Forms,
     width: u32,
 ) -> Result<(), AllocError>
@@ -45,9 +45,9 @@ pub fn push_forms(
 }
 
 // Adds the line of a form.
-fn push_form_line(
-    lines: &mut Vec<u8>,
-    alloc: Global,
+fn push_form_line<A: Allocator + Copy>(
+    lines: &mut Vec<u8, A>,
+    alloc: A,
     form: &StoredForm,
     width: u32,
 ) -> Result<(), AllocError>

@@ -6,7 +6,7 @@ ghost use Rattle.trac_views.specs.Largest.{largest_text, next_largest, sized_lin
 
 use crate::escapes::push_name;
 use crate::lines::{push, push_number};
-use std::alloc::{AllocError, Global};
+use std::alloc::{AllocError, Allocator};
 use trac_core::{Forms, Machine, StoredForm};
 
 // How many forms are shown at most.
@@ -21,9 +21,9 @@ pub struct SizedForm {
 
 /// Adds the lines of the five largest forms with their cells, the largest first. Of two that are
 /// equally large, the one that was defined first comes first. Fails only if memory runs out.
-pub fn push_largest_forms(
-    lines: &mut Vec<u8>,
-    alloc: Global,
+pub fn push_largest_forms<A: Allocator + Copy>(
+    lines: &mut Vec<u8, A>,
+    alloc: A,
     machine: &Machine,
     width: u32,
 ) -> Result<(), AllocError>
@@ -42,9 +42,9 @@ pub fn push_largest_forms(
 }
 
 // Adds the line of the form at a place, and of its cells.
-fn push_form_at(
-    lines: &mut Vec<u8>,
-    alloc: Global,
+fn push_form_at<A: Allocator + Copy>(
+    lines: &mut Vec<u8, A>,
+    alloc: A,
     forms: Forms,
     sized: SizedForm,
     width: u32,
@@ -63,9 +63,9 @@ fn push_form_at(
 }
 
 // Adds the line of a form and its number of cells.
-fn push_sized(
-    lines: &mut Vec<u8>,
-    alloc: Global,
+fn push_sized<A: Allocator + Copy>(
+    lines: &mut Vec<u8, A>,
+    alloc: A,
     form: &StoredForm,
     cells: u64,
     width: u32,

@@ -1,5 +1,5 @@
 //! The lines of a trace. Their form is this processor's own choice.
-ghost use Rattle.std.specs.Prelude.{◌≡◌, ◌++◌, IfOk, OnOk, decimal};
+ghost use Rattle.std.specs.Prelude.{◌≡◌, ◌++◌, IfOk, OnOk, codes, decimal, drop, min};
 ghost use Rattle.trac_views.specs.Lines.{byte_text, bytes_text, cell_text, cells_text, column_text};
 ghost use Rattle.trac_views.specs.Lines.{byte_at, column_behind, drop_line, folded_text, is_folded};
 ghost use Rattle.trac_views.specs.Lines.{end_text, fate_text, head_text, name_text, number_16};
@@ -55,8 +55,8 @@ pub fn head(views: &Views) -> &'static [u8]
 
 /// Adds the line of a step, with the cells of both strings after it, each cut to `width` cells
 /// unless that is 0. Fails only if memory runs out.
-pub fn push_step(
-    line: &mut Vec<u8>,
+pub fn push_step<A: Allocator>(
+    line: &mut Vec<u8, A>,
     step: &Step,
     neutral: &[Cell],
     active: &[Cell],
@@ -79,7 +79,7 @@ pub fn push_step(
 }
 
 /// Adds the line of what a step printed. Fails only if memory runs out.
-pub fn push_printed(line: &mut Vec<u8>, bytes: &[u8]) -> Result<(), AllocError>
+pub fn push_printed<A: Allocator>(line: &mut Vec<u8, A>, bytes: &[u8]) -> Result<(), AllocError>
     ensures { OnOk result (line.new.items ≡ line.old.items ++ printed_text bytes.now) }
 {
     push(line, b"        prints: ")?;
@@ -89,7 +89,7 @@ pub fn push_printed(line: &mut Vec<u8>, bytes: &[u8]) -> Result<(), AllocError>
 
 /// Adds the line of how many characters a step dropped, because its left parenthesis has no match.
 /// Fails only if memory runs out.
-pub fn push_dropped(line: &mut Vec<u8>, count: u32) -> Result<(), AllocError>
+pub fn push_dropped<A: Allocator>(line: &mut Vec<u8, A>, count: u32) -> Result<(), AllocError>
     ensures { OnOk result (line.new.items ≡ line.old.items ++ drop_line count) }
 {
     push(line, b"        drops: ")?;
@@ -103,9 +103,16 @@ pub fn push_dropped(line: &mut Vec<u8>, count: u32) -> Result<(), AllocError>
 /// Adds a text in lines of at most `columns` columns. A longer line goes on in the next one, behind
 /// ten blanks. 0 sets no bound. A column is a byte of ASCII or a whole character of UTF-8. Fails
 /// only if memory runs out.
-pub fn push_folded(lines: &mut Vec<u8>, text: &[u8], columns: u32) -> Result<(), AllocError>
+pub fn push_folded<A: Allocator>(
+    lines: &mut Vec<u8, A>,
+    text: &[u8],
+    columns: u32,
+) -> Result<(), AllocError>
     ensures { OnOk result (lines.new.items ≡ lines.old.items ++ folded_text columns 0 text.now) }
 {
+    if columns == 0 {
+        return push(lines, text);
+    }
     let mut at = 0;
     for byte in text {
         at = push_at(lines, *byte, at, columns)?;
@@ -114,7 +121,12 @@ pub fn push_folded(lines: &mut Vec<u8>, text: &[u8], columns: u32) -> Result<(),
 }
 
 // Adds a byte. `at` columns of its line are taken before it; gives how many are taken behind it.
-fn push_at(lines: &mut Vec<u8>, byte: u8, at: u32, columns: u32) -> Result<u32, AllocError>
+fn push_at<A: Allocator>(
+    lines: &mut Vec<u8, A>,
+    byte: u8,
+    at: u32,
+    columns: u32,
+) -> Result<u32, AllocError>
     ensures text { IfOk result (λ _. lines.new.items ≡ lines.old.items ++ byte_at columns at byte) }
     ensures at { IfOk result (λ behind. behind ≡ column_behind columns at byte) }
 {
@@ -198,18 +210,29 @@ pub fn push_number<A: Allocator>(line: &mut Vec<u8, A>, n: u64) -> Result<(), Al
 
 /// Adds a number at the right end of 6 columns, or of as many as it has digits. Fails only if
 /// memory runs out.
-pub fn push_column(line: &mut Vec<u8>, n: u64) -> Result<(), AllocError>
+pub fn push_column<A: Allocator>(line: &mut Vec<u8, A>, n: u64) -> Result<(), AllocError>
     ensures { OnOk result (line.new.items ≡ line.old.items ++ column_text n) }
 {
     let mut buffer = Buffer::new();
     let digits = buffer.format(n).as_bytes();
-    line.extend_from_slice(&BLANKS[digits.len().min(6)..])?;
+    line.extend_from_slice(blanks_before(digits.len()))?;
     line.extend_from_slice(digits)
+}
+
+// The blanks before a number of so many digits in 6 columns.
+fn blanks_before(len: usize) -> &'static [u8]
+    ensures { result.now ≡ drop (min len 6) (codes "      ") }
+{
+    &BLANKS[..6 - len.min(6)]
 }
 
 // Adds the cells of a string. Of one that is longer than `width` cells, adds the first and the last
 // half of that many, with two full stops between. A width of 0 sets no bound.
-fn push_string(line: &mut Vec<u8>, cells: &[Cell], width: u32) -> Result<(), AllocError>
+fn push_string<A: Allocator>(
+    line: &mut Vec<u8, A>,
+    cells: &[Cell],
+    width: u32,
+) -> Result<(), AllocError>
     ensures { OnOk result (line.new.items ≡ line.old.items ++ string_text width cells.now) }
 {
     let width = width as usize;
@@ -230,7 +253,7 @@ fn is_short(width: usize, len: usize) -> bool
 }
 
 // Adds the cells of a string.
-fn push_cells(line: &mut Vec<u8>, cells: &[Cell]) -> Result<(), AllocError>
+fn push_cells<A: Allocator>(line: &mut Vec<u8, A>, cells: &[Cell]) -> Result<(), AllocError>
     ensures { OnOk result (line.new.items ≡ line.old.items ++ cells_text cells.now) }
 {
     for cell in cells {
@@ -241,7 +264,7 @@ fn push_cells(line: &mut Vec<u8>, cells: &[Cell]) -> Result<(), AllocError>
 
 // Adds a cell of a string. A mark stands in angle brackets;
 // a gap and a head never stand in a string.
-fn push_cell(line: &mut Vec<u8>, cell: &Cell) -> Result<(), AllocError>
+fn push_cell<A: Allocator>(line: &mut Vec<u8, A>, cell: &Cell) -> Result<(), AllocError>
     ensures { OnOk result (line.new.items ≡ line.old.items ++ cell_text cell.now) }
 {
     match cell {
@@ -254,7 +277,7 @@ fn push_cell(line: &mut Vec<u8>, cell: &Cell) -> Result<(), AllocError>
 }
 
 // Adds bytes.
-fn push_bytes(line: &mut Vec<u8>, bytes: &[u8]) -> Result<(), AllocError>
+fn push_bytes<A: Allocator>(line: &mut Vec<u8, A>, bytes: &[u8]) -> Result<(), AllocError>
     ensures { OnOk result (line.new.items ≡ line.old.items ++ bytes_text bytes.now) }
 {
     for byte in bytes {

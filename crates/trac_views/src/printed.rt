@@ -1,19 +1,19 @@
 //! A sink that keeps what a step prints.
 ghost use Rattle.std.specs.Prelude.{◌≡◌, ◌+◌, ◌-◌, ◌<◌, []};
 
-use std::alloc::Global;
+use std::alloc::Allocator;
 use trac_core::{Sink, SinkFailed};
 
 /// What was printed since it was last cleared, in memory. It fails where there is no more memory.
 #[derive(Drop)]
-pub struct Printed {
-    bytes: Vec<u8>,
+pub struct Printed<A: Allocator> {
+    bytes: Vec<u8, A>,
     failures: u64,
 }
 
-impl Printed {
+impl<A: Allocator> Printed<A> {
     /// A sink to which nothing was printed yet.
-    pub fn new(alloc: Global) -> Printed
+    pub fn new(alloc: A) -> Printed<A>
         ensures empty { result.bytes.items ≡ [] }
         ensures none { result.failures ≡ 0 }
     {
@@ -39,7 +39,7 @@ impl Printed {
     }
 }
 
-impl Sink for Printed {
+impl<A: Allocator> Sink for Printed<A> {
     ghost tells = { λ _. Unit {0} };
 
     ghost written = { λ s. s.bytes.items };

@@ -1,5 +1,4 @@
 pub mod Suspicions
-pub mod Arguments
 pub mod Findings
 pub mod Gaps
 pub mod Origins

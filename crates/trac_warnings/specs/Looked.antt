@@ -1,5 +1,5 @@
 -- What is looked at before a step, and what is said of it.
-use Rattle.std.specs.Prelude.{◌≡◌, ℕ, ◌-◌, ◌&&◌, Bool, true, false, List, [], ◌++◌, length, take, drop}
+use Rattle.std.specs.Prelude.{◌≡◌, ℕ, ◌-◌, ◌&&◌, Bool, false, List, [], length, take, drop}
 use Rattle.std.specs.Prelude.{reverse, slice_get, Option, None, Some, unwrap_or, nat_le, nat_lt}
 use Rattle.std.specs.Bool.{nat_eq}
 use Rattle.std.specs.Option.{option_eq}

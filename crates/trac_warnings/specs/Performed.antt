@@ -8,16 +8,14 @@ use Rattle.std.specs.Option.{option_eq}
 use Rattle.trac_language.specs.Form.{Form}
 use Rattle.trac_language.specs.Function.{function_named}
 use Rattle.trac_language.specs.declared.function.Function.{Function}
-use Rattle.trac_language.specs.declared.function.Function.TheVariants.{Halt, ReadString, ReadCharacter}
-use Rattle.trac_language.specs.declared.function.Function.TheVariants.{SegmentString, CallForm, CallSegment}
-use Rattle.trac_language.specs.declared.function.Function.TheVariants.{CallCharacter, CallNumber}
+use Rattle.trac_language.specs.declared.function.Function.TheVariants.{SegmentString, CallForm, InitialPart}
+use Rattle.trac_language.specs.Table.{traits}
 use Rattle.trac_language.specs.declared.item.Item.{Item}
 use Rattle.trac_space.specs.declared.cell.Cell.{Cell}
 use Rattle.trac_space.specs.Cells.{is_comma}
 use Rattle.trac_space.specs.Texts.{text_of_cells}
 use Rattle.trac_events.specs.Calls.{argument_of}
-use Rattle.trac_events.specs.Changes.{form_of, needs_form}
-use Rattle.trac_warnings.specs.Arguments.{default_place, most_arguments, takes_branches}
+use Rattle.trac_events.specs.Changes.{form_of, takes_part}
 use Rattle.trac_warnings.specs.Gaps.{stands_in_name}
 use Rattle.trac_warnings.specs.Suspicions.{is_written, suspicion_of_name}
 use Rattle.trac_warnings.specs.Watched.{Said, said}
@@ -105,7 +103,7 @@ ignored_behind (Some most) ending =
 abbrev pub is_chosen : Option Function → ℕ → Bool
 is_chosen None place = false
 is_chosen (Some function) place =
-    option_eq nat_eq (default_place function) (Some place) || (takes_branches function && nat_le 3 place)
+    option_eq nat_eq (traits function).default (Some place) || ((traits function).chooses && nat_le 3 place)
 
 -- whether the last argument so far of a call is its default value, or one of the two from which the call chooses
 abbrev pub is_in_default : List Cell → Bool
@@ -113,10 +111,9 @@ is_in_default around = is_chosen (function_of around) (commas_of around)
 
 -- what is suspicious in a call that ends the run or reads and stands in the last argument of the call `around`
 abbrev pub inside : Function → List Cell → Option Suspicion
-inside Halt around = Some HaltInside
-inside ReadString around = if is_in_default around then Some ReadsAlways else None
-inside ReadCharacter around = if is_in_default around then Some ReadsAlways else None
-inside _ around = None
+inside function around =
+    if (traits function).ends then Some HaltInside
+    else (if (traits function).reads && is_in_default around then Some ReadsAlways else None)
 
 -- the warning of a call that ends the run or reads inside another call of the same text
 abbrev pub nested : Function → Ending → List Said
@@ -132,12 +129,12 @@ is_given_at (Some place) arguments = is_given (argument_of arguments place)
 
 -- whether a call of a function gives a default value
 abbrev pub has_default : Function → List Cell → Bool
-has_default function arguments = is_given_at (default_place function) arguments
+has_default function arguments = is_given_at (traits function).default arguments
 
 -- whether the function compares, and the argument at a place is one of the two that it compares
 abbrev pub compares_at : Option Function → ℕ → Bool
 compares_at None place = false
-compares_at (Some function) place = takes_branches function && nat_le place 2
+compares_at (Some function) place = (traits function).chooses && nat_le place 2
 
 -- whether the last argument so far of a call is compared
 abbrev pub is_compared : List Cell → Bool
@@ -184,12 +181,14 @@ abbrev pub segments : Function → Bool
 segments SegmentString = true
 segments _ = false
 
--- whether a function takes a part of a form
-abbrev pub takes_part : Function → Bool
-takes_part CallSegment = true
-takes_part CallCharacter = true
-takes_part CallNumber = true
-takes_part _ = false
+-- whether a function searches a form
+abbrev pub searches : Function → Bool
+searches InitialPart = true
+searches _ = false
+
+-- whether a function takes a part of a form without searching for it
+abbrev pub takes_next : Function → Bool
+takes_next function = takes_part function && not (searches function)
 
 -- whether something of a form is left to take, or the call provides for the case that nothing is
 abbrev pub is_provided : Function → Form → Ending → Bool
@@ -201,7 +200,7 @@ is_provided function form ending =
 abbrev pub of_body : Function → Form → Ending → List Said
 of_body function form ending =
     if segments function then gap_warnings form.body ending
-    else (if takes_part function && not (is_provided function form ending)
+    else (if takes_next function && not (is_provided function form ending)
     then of_text NothingLeft ending.begin form.name ∷ [] else [])
 
 -- the warnings of the form that a call names, or of the name if no form has it
@@ -213,7 +212,7 @@ of_form function (Some form) name ending = of_body function form ending
 abbrev pub form_warnings : Function → List Form → Ending → List Said
 form_warnings function forms ending =
     let name = argument_of ending.arguments.now 1 in
-    if needs_form function then of_form function (form_of name forms) name ending else []
+    if (traits function).needs_form then of_form function (form_of name forms) name ending else []
 
 -- the warnings of a call of a function
 abbrev pub function_warnings : Option Function → List Form → Ending → List Said
@@ -221,7 +220,7 @@ function_warnings None forms ending =
     let name = argument_of ending.arguments.now 0 in
     name_warnings (suspicion_of_call forms name) ending.begin name
 function_warnings (Some function) forms ending =
-    ignored_behind (most_arguments function) ending
+    ignored_behind (traits function).uses ending
     ++ (nested function ending ++ form_warnings function forms ending)
 
 -- the warnings of a call that is about to be performed, while `forms` are there

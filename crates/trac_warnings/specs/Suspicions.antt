@@ -1,5 +1,5 @@
 -- What is suspicious in a call, and what is said of it.
-use Rattle.std.specs.Prelude.{Bool, true, false, List, [], ◌∷◌, map, Option, Some, None, codes}
+use Rattle.std.specs.Prelude.{Bool, false, List, [], ◌∷◌, map, Option, Some, None, codes}
 use Rattle.std.specs.Prelude.{bytes_eq, if◌then◌else◌, is_some, ℕ, ◌==◌, ◌&&◌, ◌||◌}
 use Rattle.std.specs.List.{list_any}
 use Rattle.std.specs.Char.{to_ascii_lowercase}

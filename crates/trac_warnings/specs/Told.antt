@@ -25,7 +25,6 @@ use Rattle.trac_warnings.specs.declared.origin.Origin.{Origin}
 use Rattle.trac_warnings.specs.declared.warning.Suspicion.{Suspicion}
 use Rattle.trac_warnings.specs.declared.warning.Suspicion.TheVariants.{Dropped, EndInside, NoResult, OpenCall}
 use Rattle.trac_warnings.specs.declared.warning.Suspicion.TheVariants.{OpenString as NotEnded, Protection}
-use Rattle.trac_warnings.specs.declared.warning.Warning.{Warning}
 use Rattle.trac_warnings.specs.declared.watch.OpenString.{OpenString}
 use Rattle.trac_warnings.specs.declared.watch.Watch.{Watch}
 

@@ -1,12 +1,10 @@
 -- What a run that is watched keeps.
-use Rattle.std.specs.Prelude.{◌≡◌, ◌++◌, ◌∷◌, ℕ, Bool, true, false, List, [], length, map, min, reverse}
+use Rattle.std.specs.Prelude.{◌≡◌, ◌++◌, ◌∷◌, ℕ, true, List, [], length, map, min, reverse}
 use Rattle.std.specs.Prelude.{Some, slice_get}
 use Rattle.trac_space.specs.declared.cell.Cell.{Cell}
 use Rattle.trac_core.specs.Machine.{MachineState}
 use Rattle.trac_core.specs.declared.machine.session.Awaits.{Awaits}
 use Rattle.trac_core.specs.declared.machine.session.Awaits.TheVariants as awaits
-use Rattle.trac_core.specs.declared.rules.ScanningRule.{ScanningRule}
-use Rattle.trac_core.specs.declared.rules.ScanningRule.TheVariants as row
 use Rattle.trac_events.specs.Calls.{SeesValue, reads}
 use Rattle.trac_events.specs.declared.before.Before.{Before}
 use Rattle.trac_warnings.specs.Origins.{in_input, moved, more}

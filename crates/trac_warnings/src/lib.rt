@@ -3,7 +3,6 @@
 //! it is this processor's own choice; none of it is a fault of the language.
 #![tactic(auto)]
 
-mod arguments;
 mod findings;
 mod gaps;
 mod names;
@@ -16,7 +15,6 @@ mod warning;
 mod watch;
 mod written;
 
-pub use arguments::{default_place, most_arguments, takes_branches};
 pub use findings::Findings;
 pub use gaps::{body_of, stands_in_name};
 pub use names::{is_left_out, is_written, suspicion_of_name};

@@ -1,24 +1,23 @@
 //! What is suspicious in a call that is about to be performed.
 ghost use Rattle.std.specs.Prelude.{◌≡◌, ◌<◌, ◌-◌, ◌^◌, IfOk, OnOk};
 ghost use Rattle.trac_space.specs.Texts.{text_of_cells};
-ghost use Rattle.trac_warnings.specs.Arguments.{most_arguments};
+ghost use Rattle.trac_language.specs.Table.{traits};
 ghost use Rattle.trac_warnings.specs.Performed.{Warns, call_warnings, calls_form, commas_of, form_warnings};
 ghost use Rattle.trac_warnings.specs.Performed.{function_of, gap_behind, gap_warnings, has_default};
 ghost use Rattle.trac_warnings.specs.Performed.{ignored_behind, ignored_place, inside, is_compared};
 ghost use Rattle.trac_warnings.specs.Performed.{is_in_default, is_missing, nested, next_text, of_body};
-ghost use Rattle.trac_warnings.specs.Performed.{segments, suspicion_of_call, takes_part};
+ghost use Rattle.trac_warnings.specs.Performed.{segments, suspicion_of_call, takes_next};
 ghost use Rattle.trac_warnings.specs.Watched.{Adds, Kept};
 
-use crate::arguments::{default_place, most_arguments, takes_branches};
 use crate::gaps::{body_of, stands_in_name};
 use crate::names::{is_written, suspicion_of_name};
 use crate::origin::Origin;
 use crate::warning::{Suspicion, Warning};
 use std::alloc::{AllocError, Allocator};
 use trac_core::{Item, Machine, StoredForm};
-use trac_events::{argument, find_form, needs_form};
+use trac_events::{argument, find_form, takes_part};
 use trac_functions::function::function_named;
-use trac_language::Function;
+use trac_language::{Function, facts_of};
 use trac_space::{Cell, character_of};
 
 /// A call before it is performed, and where it was written.
@@ -88,9 +87,9 @@ fn look_at_ignored<A: Allocator + Copy>(
 ) -> Result<(), AllocError>
     ensures kept { Kept warnings.old.items warnings.new.items }
     ensures said { OnOk result (Warns warnings.old.items warnings.new.items
-        (ignored_behind (most_arguments function) ending.now)) }
+        (ignored_behind (traits function).uses ending.now)) }
 {
-    let Some(most) = most_arguments(function) else {
+    let Some(most) = facts_of(function).traits.uses else {
         return Ok(());
     };
     let Some(place) = ignored_place(most, ending) else {
@@ -140,16 +139,13 @@ fn look_at_nesting<A: Allocator + Copy>(
 fn suspicion_inside(function: Function, around: &[Cell]) -> Option<Suspicion>
     ensures { result ≡ inside function around.now }
 {
-    match function {
-        Function::Halt => Some(Suspicion::HaltInside),
-        Function::ReadString | Function::ReadCharacter => {
-            if is_in_default(around) {
-                Some(Suspicion::ReadsAlways)
-            } else {
-                None
-            }
-        }
-        _ => None,
+    let traits = facts_of(function).traits;
+    if traits.ends {
+        Some(Suspicion::HaltInside)
+    } else if traits.reads && is_in_default(around) {
+        Some(Suspicion::ReadsAlways)
+    } else {
+        None
     }
 }
 
@@ -161,7 +157,8 @@ fn is_in_default(arguments: &[Cell]) -> bool
     let place = commas_in(arguments);
     match function_named(argument(arguments, 0)) {
         Some(function) => {
-            default_place(function) == Some(place) || (takes_branches(function) && place >= 3)
+            let traits = facts_of(function).traits;
+            traits.default == Some(place) || (traits.chooses && place >= 3)
         }
         None => false,
     }
@@ -193,7 +190,7 @@ fn look_at_form<A: Allocator + Copy>(
     ensures said { OnOk result (Warns warnings.old.items warnings.new.items
         (form_warnings function machine.now.memory.forms ending.now)) }
 {
-    if !needs_form(function) {
+    if !facts_of(function).traits.needs_form {
         return Ok(());
     }
     let name = argument(ending.arguments, 1);
@@ -220,7 +217,7 @@ fn is_missing(function: Function, name: &[Cell], ending: &Ending) -> bool
 fn has_default(function: Function, arguments: &[Cell]) -> bool
     ensures { result ≡ has_default function arguments.now }
 {
-    match default_place(function) {
+    match facts_of(function).traits.default {
         Some(place) => !argument(arguments, place).is_empty(),
         None => false,
     }
@@ -231,7 +228,7 @@ fn is_compared(arguments: &[Cell]) -> bool
     ensures { result ≡ is_compared arguments.now }
 {
     match function_named(argument(arguments, 0)) {
-        Some(function) => takes_branches(function) && commas_in(arguments) <= 2,
+        Some(function) => facts_of(function).traits.chooses && commas_in(arguments) <= 2,
         None => false,
     }
 }
@@ -263,7 +260,7 @@ fn look_at_body<A: Allocator + Copy>(
         let items = body_of(alloc, form)?;
         return look_at_texts(warnings, alloc, &items, ending);
     }
-    if !takes_part(function)
+    if !takes_next(function)
         || form.pointer() < form.body_len()
         || has_default(function, ending.arguments)
         || is_compared(ending.around)
@@ -287,14 +284,11 @@ fn segments(function: Function) -> bool
     matches!(function, Function::SegmentString)
 }
 
-// Whether the value of a function is a part of a form.
-fn takes_part(function: Function) -> bool
-    ensures { result ≡ takes_part function }
+// Whether a function takes a part of a form without searching for it.
+fn takes_next(function: Function) -> bool
+    ensures { result ≡ takes_next function }
 {
-    matches!(
-        function,
-        Function::CallSegment | Function::CallCharacter | Function::CallNumber
-    )
+    takes_part(function) && !matches!(function, Function::InitialPart)
 }
 
 // Looks at the texts of a call of `ss`, whose form has these items.

@@ -18,7 +18,6 @@ ghost use Rattle.trac_warnings.specs.Told.{with_string, without_last};
 ghost use Rattle.trac_warnings.specs.Watched.{EndsText, IsFresh, Kept, KeepsNames, KeepsPlaces, KeepsRun};
 ghost use Rattle.trac_warnings.specs.Watched.{Moves, Reads, ReadsLen, Stays, end_of_text, said};
 
-use crate::arguments::{default_place, takes_branches};
 use crate::origin::Origin;
 use crate::performed::{Ending, characters_of, commas_in, look_at_call, warn};
 use crate::strings::layout_len;
@@ -29,7 +28,7 @@ use std::collections::BTreeMap;
 use trac_core::{Awaits, CallMark, Machine, ScanningRule};
 use trac_events::{Before, argument, arguments_of, is_same, pointer_of};
 use trac_functions::function::function_named;
-use trac_language::Function;
+use trac_language::{Function, Given, facts_of};
 use trac_space::{Cell, character_of};
 
 /// A string that was read and is being scanned.
@@ -390,10 +389,11 @@ impl<A: Allocator + Copy> Watch<A> {
     fn origin_of_argument(&self, value: &[Cell]) -> Option<Origin> {
         let arguments = self.arguments.as_slice();
         let function = function_named(argument(arguments, 0))?;
-        let (first, second) = if takes_branches(function) {
+        let traits = facts_of(function).traits;
+        let (first, second) = if traits.chooses {
             (3, 4)
         } else {
-            let place = default_place(function)?;
+            let place = traits.default?;
             (place, place)
         };
         let places = places_of(&self.commas, arguments);
@@ -858,14 +858,8 @@ fn argument_origin(comma: Origin, active: &[Cell]) -> Origin {
 
 // Whether the value of a function of this name is the body of a form, or a part of it.
 fn gives_body(name: &[Cell]) -> bool {
-    matches!(
-        function_named(name),
-        Some(
-            Function::CallForm
-                | Function::CallSegment
-                | Function::CallCharacter
-                | Function::CallNumber
-                | Function::InitialPart
-        )
-    )
+    match function_named(name) {
+        Some(function) => !matches!(facts_of(function).traits.gives, Given::Nothing),
+        None => false,
+    }
 }

@@ -1,5 +1,5 @@
 /* What is compiled, with a bit for each unit of those that are compiled beside each other: all; all but trac_check;
- * that alone; or one unit by -DTRAC_UNIT=1 to 6. The first four are enough where trac_check isn't called. What a unit
+ * that alone; or one unit by -DTRAC_UNIT=1 to 7. The first four are enough where trac_check isn't called. What a unit
  * has for another begins with trac_unit_, and is hidden from what they are linked with. */
 #ifndef TRAC_UNIT
 #define INTERNAL static
@@ -9,16 +9,16 @@
 #define INTERNAL
 #endif
 #if defined(TRAC_UNIT)
-#if TRAC_UNIT < 1 || TRAC_UNIT > 6
-#error "TRAC_UNIT is to be 1 to 6"
+#if TRAC_UNIT < 1 || TRAC_UNIT > 7
+#error "TRAC_UNIT is to be 1 to 7"
 #endif
 #define UNITS (1 << TRAC_UNIT)
 #elif defined(TRAC_WITHOUT_CHECK)
 #define UNITS 0x1e
 #elif defined(TRAC_CHECK_ALONE)
-#define UNITS 0x61
+#define UNITS 0xe1
 #else
-#define UNITS 0x7f
+#define UNITS 0xff
 #endif
 /* The units that have the functions of trac.h: the first has all but trac_check, and the fifth that. */
 #define HAS_API (UNITS & 0x22)
@@ -39,6 +39,8 @@ typedef uint64_t u64;
 typedef int8_t i8;
 typedef int32_t i32;
 typedef int64_t i64;
+/* An address, or a number of which no more bits matter. */
+typedef uintptr_t word;
 
 /* The machine is to be one of those that C is written for today: its int has 32 bits, a number that is made signed
  * keeps its bits, the negative ones are the complement of two, and a shift to the right keeps the sign. */
@@ -48,7 +50,11 @@ typedef char machine_is_known[sizeof(int) == 4 && (i32)~(u32)0 == -1 && (i64)~(u
  * need. */
 #if defined(__GNUC__) && !defined(__TINYC__)
 #define trap() __builtin_trap()
+#ifdef __OPTIMIZE_SIZE__
+#define INLINE inline __attribute__((unused))
+#else
 #define INLINE inline __attribute__((always_inline))
+#endif
 #define HELPER static inline __attribute__((unused))
 #else
 #define INLINE inline
@@ -63,9 +69,10 @@ static void trap(void) {
 }
 #endif
 
-HELPER u8 *at(u64 address) { return (u8 *)(uintptr_t)address; }
+HELPER u8 *at(word address) { return (u8 *)address; }
+HELPER word address_of(const void *place) { return (word)place; }
 
-#define TABLES ((u64)(uintptr_t)tables)
+#define TABLES ((word)tables)
 
 /* The numbers of the engine stand in memory with the lowest byte first. These take a number from this machine's order
  * of bytes to that one, and back. A compiler that doesn't tell the order leaves it to be seen when the program runs. */
@@ -91,32 +98,34 @@ HELPER u64 order64(u64 x) {
 }
 #endif
 
-HELPER u8 load8(u64 address) { return *at(address); }
-HELPER u16 load16(u64 address) {
+HELPER u32 load8(word address) { return *at(address); }
+HELPER u32 load16(word address) {
     u16 value;
     memcpy(&value, at(address), sizeof value);
     return order16(value);
 }
-HELPER u32 load32(u64 address) {
+HELPER u32 load32(word address) {
     u32 value;
     memcpy(&value, at(address), sizeof value);
     return order32(value);
 }
-HELPER u64 load64(u64 address) {
+HELPER u64 load64(word address) {
     u64 value;
     memcpy(&value, at(address), sizeof value);
     return order64(value);
 }
-HELPER void store8(u64 address, u8 value) { *at(address) = value; }
-HELPER void store16(u64 address, u16 value) {
-    value = order16(value);
+/* The lowest bits of a number of 64. */
+HELPER word load_word(word address) { return sizeof(word) == 4 ? load32(address) : (word)load64(address); }
+HELPER void store8(word address, u32 value) { *at(address) = (u8)value; }
+HELPER void store16(word address, u32 number) {
+    const u16 value = order16((u16)number);
     memcpy(at(address), &value, sizeof value);
 }
-HELPER void store32(u64 address, u32 value) {
+HELPER void store32(word address, u32 value) {
     value = order32(value);
     memcpy(at(address), &value, sizeof value);
 }
-HELPER void store64(u64 address, u64 value) {
+HELPER void store64(word address, u64 value) {
     value = order64(value);
     memcpy(at(address), &value, sizeof value);
 }
@@ -128,18 +137,18 @@ HELPER u32 clz32(u32 x) {
         count--;
     return count;
 }
-HELPER u64 clz64(u64 x) {
+HELPER u32 clz64(u64 x) {
     return x >> 32 ? clz32((u32)(x >> 32)) : 32 + clz32((u32)x);
 }
 
 /* Moves and fills memory. With no bytes nothing is asked of the places, so they may be any. */
-HELPER void copy(u64 to, u64 from, u64 count) {
+HELPER void copy(word to, word from, word count) {
     if (count)
-        memmove(at(to), at(from), (size_t)count);
+        memmove(at(to), at(from), count);
 }
-HELPER void fill(u64 to, u32 byte, u64 count) {
+HELPER void fill(word to, u32 byte, word count) {
     if (count)
-        memset(at(to), (int)(byte & 255u), (size_t)count);
+        memset(at(to), (int)(byte & 255u), count);
 }
 
 /* Divisions by a number that isn't known here, or by which they end the program as in WebAssembly. Proved code never

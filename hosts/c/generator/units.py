@@ -4,20 +4,23 @@ The first units are all that a run needs, those behind them what trac_check need
 unit, but for the small ones that become parts of those that call them: these stand in each unit that needs them. What
 is compiled is a number, UNITS, with a bit for each unit; bit 0 is what trac_check shares with a run, for a compiler
 that gets trac_check alone."""
+import textwrap
 from itertools import groupby
 
-OF_RUNS, OF_CHECK = 4, 2
+OF_RUNS, OF_CHECK = 4, 3
 SHARED = 1
 # A function of twice the lines takes two times and a half as long: 2 to this power. Measured with gcc 12.
 LONG = 1.35
 
 
 class Piece:
-    """A function: the text of its head, its lines, how often it calls which others, and who needs it."""
+    """A function: where it stands in the sources, its crate first, what is said of it, the text of its head, its lines,
+    how often it calls which others, and who needs it."""
 
-    def __init__(self, head, lines, calls, is_small, of_runs, of_check):
-        self.head, self.lines, self.calls, self.is_small = head, lines, calls, is_small
-        self.of_runs, self.of_check = of_runs, of_check
+    def __init__(self, place, said, head, lines, calls, is_small):
+        self.place, self.said, self.head, self.lines, self.calls, self.is_small = (
+            place, said, head, lines, calls, is_small)
+        self.of_runs = self.of_check = True
         # The bits of the units that it stands in, and of those that know it.
         self.bits = self.known = 0
 
@@ -114,28 +117,28 @@ def print_rows(rows):
         around = [f'count && offset + (count - 1) - {rows[0][0]}u < {rows[-1][1] - rows[0][0] - 1}u + count && (' +
                   ' || '.join(f'({one})' for one in around) + ')']
     print('\n/* Whether so many bytes behind the beginning of the tables have one of an address. */')
-    print(f'HELPER int has_address(u64 offset, u64 count) {{\n    return {around[0]};\n}}' if rows else
-          'HELPER int has_address(u64 offset, u64 count) { return (void)offset, (void)count, 0; }')
+    print(f'HELPER int has_address(word offset, word count) {{\n    return {around[0]};\n}}' if rows else
+          'HELPER int has_address(word offset, word count) { return (void)offset, (void)count, 0; }')
     print("""/* A place where so many bytes have none of them, of the tables or elsewhere. */
-HELPER u64 no_address(u64 place, u64 count) {
+HELPER word no_address(word place, word count) {
     if (has_address(place - TABLES, count))
         trap();
     return place;
 }
 /* A word, which may be an address of the tables: it stands there as how far behind their beginning it is. */
-HELPER u64 table64(u64 place) {
-    const u64 offset = place - TABLES;
+HELPER u64 table64(word place) {
+    const word offset = place - TABLES;
     if (!has_address(offset, 8))
         return load64(place);
     if (offset % 8)
         trap();
-    return TABLES + load64(place);
+    return TABLES + load_word(place);
 }""")
 
 
 def print_groups(names, bits_of, show):
-    """Shows each of the names, those in the same units together."""
-    for bits, group in groupby(sorted(names, key=bits_of), key=bits_of):
+    """Shows each of the names, those behind each other that are in the same units together."""
+    for bits, group in groupby(names, key=bits_of):
         print(f'\n#if UNITS & {bits:#x}')
         for name in group:
             show(name)
@@ -154,12 +157,18 @@ def print_all(pieces, table, rows):
         return f'{kind} {pieces[name].head}'
 
     def show(name):
-        print(f'\n{head(name)} {{', *pieces[name].lines, '}', sep='\n')
+        said = textwrap.fill(f'{pieces[name].said} */', 117, initial_indent='/* ', subsequent_indent=' * ')
+        print(f'\n{said}' if pieces[name].said else '')
+        print(textwrap.fill(f'{head(name)} {{', 120, subsequent_indent='    '), *pieces[name].lines, '}', sep='\n')
+    names = sorted(pieces, key=lambda name: (*pieces[name].place[:1], *pieces[name].place[2:], name))
     print('\n#ifdef TRAC_UNIT')
-    for name in ('tables', *filter(lambda name: is_shared(pieces[name]), pieces)):
+    for name in ('tables', *(name for name in names if is_shared(pieces[name]))):
         print(f'#define {name} trac_unit_{name}')
     print('#endif')
     print_table(table)
     print_rows(rows)
-    print_groups(pieces, lambda name: pieces[name].known, lambda name: print(f'{head(name)};'))
-    print_groups(pieces, lambda name: pieces[name].bits, show)
+    print_groups(names, lambda name: pieces[name].known, lambda name: print(
+        textwrap.fill(f'{head(name)};', 120, subsequent_indent='    ')))
+    for crate, group in groupby(names, key=lambda name: pieces[name].place[1]):
+        print(f'\n/* ---- {crate} ---- */')
+        print_groups(group, lambda name: pieces[name].bits, show)

@@ -1,5 +1,5 @@
-"""python -m trac_t64: runs scripts, with the words, the lines and the statuses of `trac`, or checks them, with those
-of `trac_terminal --check`."""
+"""python -m trac_t64: runs scripts, with the words, the lines and the statuses of `trac`; shows their steps, with the
+lines of `trac_trace`; or checks them, with those of `trac_terminal --check`."""
 from __future__ import annotations
 
 import argparse
@@ -14,7 +14,7 @@ from typing import Any, NamedTuple, NoReturn
 
 from ._engine import MOST_CELLS
 from .reading import Reading, fault_words, is_idle
-from .session import DEFAULT_CELLS, DEFAULT_STEPS, Fate, Session, check, shown_name
+from .session import DEFAULT_CELLS, DEFAULT_STEPS, MOST_WIDTH, Fate, Session, Trace, check, shown_name
 
 PROGRAM = 'trac_t64'
 MOST_STEPS = 1000000000000
@@ -36,11 +36,11 @@ class Once(argparse.Action):
         setattr(namespace, self.dest, True if self.nargs == 0 else values)
 
 
-def number_to(most: int) -> Callable[[str], int]:
-    """What reads a number from 1 to `most`."""
+def number_to(most: int, least: int = 1) -> Callable[[str], int]:
+    """What reads a number from `least` to `most`."""
     def read(word: str) -> int:
-        if not re.fullmatch(r'\+?0*[0-9]{1,20}', word, re.ASCII) or not 1 <= int(word) <= most:
-            raise argparse.ArgumentTypeError(f'{word!r} is not in 1..={most}')
+        if not re.fullmatch(r'\+?0*[0-9]{1,20}', word, re.ASCII) or not least <= int(word) <= most:
+            raise argparse.ArgumentTypeError(f'{word!r} is not in {least}..={most}')
         return int(word)
     return read
 
@@ -70,8 +70,34 @@ def parser() -> Parser:
     made.add_argument('--steps', metavar='N', action=Once, type=number_to(MOST_STEPS),
                       help=f'steps that each script is allowed, 1 to {MOST_STEPS} [default: {DEFAULT_STEPS}]')
     made.add_argument('--report', action=Once, nargs=0, help='print the steps and the peak')
+    add_views(made)
     made.add_argument('-h', '--help', action='store_true', help='print this help')
     return made
+
+
+# What the options give that go with --trace.
+VIEWS = ('calls', 'forms', 'first', 'to', 'width', 'columns')
+
+
+def add_views(to: Parser) -> None:
+    """The options of a trace."""
+    to.add_argument('--trace', action=Once, nargs=0, help='show each step in the place of what a script prints')
+    to.add_argument('--calls', action=Once, nargs=0, help='with --trace: show the calls that are performed')
+    to.add_argument('--forms', action=Once, nargs=0,
+                    help='with --trace: show the forms that change, and all at the end')
+    to.add_argument('--from', dest='first', metavar='N', action=Once, type=number_to(MOST_STEPS),
+                    help='with --trace: the first step to show [default: 1]')
+    to.add_argument('--to', metavar='N', action=Once, type=number_to(MOST_STEPS),
+                    help=f'with --trace: the last step to show [default: {MOST_STEPS}]')
+    to.add_argument('--width', metavar='N', action=Once, type=number_to(MOST_WIDTH, 0),
+                    help='with --trace: bytes of a text in a line, 0 for all [default: 100]')
+    to.add_argument('--columns', metavar='N', action=Once, type=number_to(MOST_WIDTH, 0),
+                    help='with --trace: columns of a line, 0 for any number [default: 0]')
+
+
+def views_of(given: argparse.Namespace) -> dict[str, Any]:
+    """The options of a trace that were given."""
+    return {name: value for name in VIEWS if (value := getattr(given, name)) is not None}
 
 
 # ---- The devices.
@@ -138,11 +164,16 @@ def need_of_read(session: Session) -> int:
     return session.cells - session.parts.free - 1 + text
 
 
-def play(session: Session, source: Source) -> Ending:
-    """Runs a script to its end. Each print is out before the next step, and so before the next read."""
+def lines_of(trace: Trace) -> Iterator[bytes]:
+    """The lines of a run that is shown, as they go out."""
+    return (line.encode(errors='replace') + b'\n' for line in trace)
+
+
+def play(session: Session, source: Source, trace: Trace | None) -> Ending:
+    """Runs a script to its end, or shows it. Each print is out before the next step, and so before the next read."""
     while True:
         try:
-            for output in session.outputs():
+            for output in lines_of(trace) if trace else session.outputs():
                 write_all(1, output)
         except OSError:
             return Ending(OUTPUT_FAILED, f'output failed at step {session.steps}', session.steps - 1, session.peak)
@@ -155,22 +186,23 @@ def play(session: Session, source: Source) -> Ending:
             return Ending(INPUT_FAILED, f'input failed at step {session.steps + 1}', session.steps, peak)
 
 
-def run_source(session: Session, source: Source, reports: bool) -> int:
-    """Runs a script, says how it ended, and gives the status."""
+def run_source(session: Session, source: Source, given: argparse.Namespace) -> int:
+    """Runs a script, or shows it, says how it ended, and gives the status."""
     session.again()
-    ending = play(session, source)
-    if reports:
+    ending = play(session, source, session.trace(**views_of(given)) if given.trace else None)
+    session.feed(most=0)
+    if given.report:
         say(f'{source.name}: {ending.steps} steps, peak {ending.peak} cells')
     if ending.words:
         say(f'{source.place(session)}: {ending.words}')
     return ending.status
 
 
-def run_file(session: Session, name: str, reports: bool) -> int:
+def run_file(session: Session, name: str, given: argparse.Namespace) -> int:
     """Runs the script in a file, and gives the status."""
     try:
         with opened(name) as source:
-            return run_source(session, source, reports)
+            return run_source(session, source, given)
     except OSError as error:
         say(f"{PROGRAM}: can't read {shown_name(name)}: {error.strerror}")
         return INPUT_FAILED
@@ -180,11 +212,11 @@ def run_all(session: Session, given: argparse.Namespace) -> int:
     """Runs the scripts, up to the first one that ends badly."""
     status = DONE
     for name in given.files:
-        status = status or run_file(session, name, given.report)
+        status = status or run_file(session, name, given)
     for script in given.scripts:
-        status = status or run_source(session, Source('-e', io.BytesIO(os.fsencode(script)).read1), given.report)
+        status = status or run_source(session, Source('-e', io.BytesIO(os.fsencode(script)).read1), given)
     if not (given.files or given.scripts or given.stays):
-        status = run_source(session, Source('<stdin>', lambda most: os.read(0, most)), given.report)
+        status = run_source(session, Source('<stdin>', lambda most: os.read(0, most)), given)
     return status
 
 
@@ -335,8 +367,12 @@ def main(words: Sequence[str] | None = None) -> int:
     """Runs the program with these words, and gives its status."""
     made = parser()
     given = made.parse_intermixed_args(words)
-    if given.check and (given.stays or given.report):
-        made.error(f'argument --check cannot be used with {"-i" if given.stays else "--report"}')
+    if given.check and (given.stays or given.report or given.trace):
+        made.error('argument --check cannot be used with '
+                   + ('-i' if given.stays else '--report' if given.report else '--trace'))
+    if views_of(given) and not given.trace:
+        made.error('argument --trace is missing, which goes with ' + ', '.join(
+            '--from' if name == 'first' else f'--{name}' for name in views_of(given)))
     try:
         if not given.help:
             return perform(given)

@@ -85,6 +85,7 @@ typedef struct {
     buffer input, output;
     int has_ended; /* whether the input ends behind what the buffer holds */
     int is_busy;   /* whether a call uses it. Whoever asks meanwhile, as an object's finaliser does, is refused */
+    uint8_t *lent; /* for the lists of a step that is shown, and behind them for its lines; null before one was */
     trac_report report;
     uint64_t consumed;
 } machine_object;
@@ -119,7 +120,9 @@ static void release(machine_object *self) {
     free(self->block);
     free(self->input.bytes);
     free(self->output.bytes);
+    free(self->lent);
     self->block = NULL;
+    self->lent = NULL;
     self->input = self->output = (buffer){NULL, 0, 0, 0};
 }
 
@@ -509,6 +512,67 @@ static PyObject *machine_take_peak(machine_object *self, PyObject *nothing) {
     return is_usable(self) ? PyLong_FromUnsignedLong(trac_take_peak(&self->machine)) : NULL;
 }
 
+/* ---- A run that is shown. */
+
+/* The bytes for the lists of a step, and as many for its lines: what a step can need. Memory that isn't used costs
+ * nothing. */
+static size_t lent_length(const machine_object *self) { return ((size_t)1 << 20) + 256 * self->cells; }
+
+/* The words of a trace before its first step: what is shown. */
+static PyObject *module_trace(PyObject *module, PyObject *args) {
+    trac_trace trace = TRAC_NO_TRACE;
+    unsigned long long from, to;
+    unsigned int width, columns;
+    int calls, forms;
+    (void)module;
+    if (!PyArg_ParseTuple(args, "KKIIpp", &from, &to, &width, &columns, &calls, &forms))
+        return NULL;
+    trace.from = from;
+    trace.to = to;
+    trace.width = width;
+    trace.columns = columns;
+    trace.calls = (uint32_t)calls;
+    trace.forms = (uint32_t)forms;
+    return PyBytes_FromStringAndSize((const char *)&trace, sizeof trace);
+}
+
+/* Makes a step that is shown. Gives 0 where there is no memory. */
+static int show_step(machine_object *self, trac_trace *trace) {
+    const size_t length = lent_length(self);
+    buffer *const input = &self->input, *const output = &self->output;
+    do {
+        if (!reserve(output, self->report.wanted) || (!self->lent && !(self->lent = (uint8_t *)malloc(2 * length))))
+            return 0;
+        const trac_report told = trac_trace_step(
+            &self->machine, trace, front_of(input), length_of(input), self->has_ended,
+            output->bytes ? output->bytes + output->end : NULL, room_in(output), self->lent, length,
+            self->lent + length, length);
+        discard(input, told.consumed);
+        output->end += told.written;
+        self->consumed += told.consumed;
+        if (told.fate == TRAC_NO_MEMORY)
+            return 0;
+        self->report = told;
+    } while (self->report.fate == TRAC_WANTS_OUTPUT);
+    return 1;
+}
+
+/* Makes a step by the words of a trace. Gives the words behind it, and the lines. */
+static PyObject *machine_show(machine_object *self, PyObject *words) {
+    trac_trace trace;
+    char *bytes;
+    Py_ssize_t length;
+    if (!is_usable(self) || PyBytes_AsStringAndSize(words, &bytes, &length) < 0)
+        return NULL;
+    if (length != (Py_ssize_t)sizeof trace)
+        return PyErr_Format(PyExc_ValueError, "words must be %d bytes", (int)sizeof trace);
+    memcpy(&trace, bytes, sizeof trace);
+    if (!show_step(self, &trace))
+        return PyErr_NoMemory();
+    return Py_BuildValue("y#y#", (const char *)&trace, (Py_ssize_t)sizeof trace,
+                         (const char *)self->lent + lent_length(self), (Py_ssize_t)trace.lines);
+}
+
 /* ---- What is suspicious in a script. */
 
 /* The bytes for the lists of a check, and those for its lines, that are tried first. */
@@ -586,6 +650,7 @@ static PyMethodDef machine_methods[] = {
     METHOD(end, METH_NOARGS, "Ends the input behind what it holds."),
     METHOD(go, METH_VARARGS, "Makes at most so many steps, up to the next print where the second argument is true."),
     METHOD(take, METH_NOARGS, "Takes what was printed."),
+    METHOD(show, METH_O, "Makes a step by the words of a trace. Gives the words behind it, and its lines."),
     METHOD(again, METH_O, "Begins a new run with an allowance of so many steps; drops the input."),
     METHOD(take_peak, METH_NOARGS, "The peak in cells, which then counts from 0 again."),
     METHOD(report, METH_NOARGS, "The fate in words, the steps, the peak in cells, and the bytes consumed."),
@@ -629,8 +694,46 @@ static int fill_module(PyObject *module) {
 
 static PyModuleDef_Slot module_slots[] = {{Py_mod_exec, (void *)fill_module}, {0, NULL}};
 
+/* A text about a function of the language, which is ASCII. */
+static PyObject *text_of(size_t which, uint32_t kind) {
+    char text[256];
+    const size_t length = trac_function_text(which, kind, text, sizeof text);
+    return PyUnicode_FromStringAndSize(text, (Py_ssize_t)(length < sizeof text ? length : sizeof text));
+}
+
+/* The texts and the facts of a function. */
+static PyObject *function_row(size_t which) {
+    trac_function_facts facts;
+    if (trac_function(which, &facts) != 0)
+        return PyErr_Format(PyExc_IndexError, "there is no function %zu", which);
+    return Py_BuildValue("(NNNNN)(kkkkkkkkkkk)", text_of(which, TRAC_TEXT_NAME), text_of(which, TRAC_TEXT_CALL),
+                         text_of(which, TRAC_TEXT_TITLE), text_of(which, TRAC_TEXT_SENTENCE),
+                         text_of(which, TRAC_TEXT_GROUP), (unsigned long)facts.uses, (unsigned long)facts.forms,
+                         (unsigned long)facts.needs_form, (unsigned long)facts.changes_forms,
+                         (unsigned long)facts.gives, (unsigned long)facts.default_argument,
+                         (unsigned long)facts.chooses, (unsigned long)facts.reads, (unsigned long)facts.prints,
+                         (unsigned long)facts.changes_meta, (unsigned long)facts.ends);
+}
+
+static PyObject *module_functions_of_the_language(PyObject *module, PyObject *nothing) {
+    const size_t count = trac_function_count();
+    PyObject *const rows = PyTuple_New((Py_ssize_t)count);
+    (void)module;
+    (void)nothing;
+    for (size_t which = 0; rows && which < count; which++) {
+        PyObject *const row = function_row(which);
+        if (!row || PyTuple_SetItem(rows, (Py_ssize_t)which, row) < 0) {
+            Py_DECREF(rows);
+            return NULL;
+        }
+    }
+    return rows;
+}
+
 static PyMethodDef module_functions[] = {
+    {"functions", module_functions_of_the_language, METH_NOARGS, "The texts and the facts of each function."},
     {"check", module_check, METH_VARARGS, "The fate of a script, its steps, its peak, and what is suspicious."},
+    {"trace", module_trace, METH_VARARGS, "The words of a trace before its first step, by what is shown."},
     {NULL, NULL, 0, NULL},
 };
 

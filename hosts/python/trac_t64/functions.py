@@ -1,38 +1,61 @@
-"""The functions of the language, by name: how each is called, and what it is, as in the manual."""
+"""The functions of the language, by name, as the engine's table has them."""
+from typing import NamedTuple
 
-FUNCTIONS = {
-    'rs': ('rs', 'read string'),
-    'rc': ('rc', 'read character'),
-    'cm': ('cm,X', 'change meta'),
-    'ps': ('ps,X', 'print string'),
-    'hl': ('hl', 'halt'),
-    'ds': ('ds,N,X', 'define string'),
-    'ss': ('ss,N,X1,X2,..', 'segment string'),
-    'dd': ('dd,N1,N2,..', 'delete definition'),
-    'da': ('da', 'delete all'),
-    'ln': ('ln,X', 'list names'),
-    'pf': ('pf,N', 'print form'),
-    'cl': ('cl,N,X1,X2,..', 'call'),
-    'cs': ('cs,N,Z', 'call segment'),
-    'cc': ('cc,N,Z', 'call character'),
-    'cn': ('cn,N,D,Z', 'call n characters'),
-    'in': ('in,N,X,Z', 'initial'),
-    'cr': ('cr,N', 'call restore'),
-    'eq': ('eq,A,B,X,Y', 'equal'),
-    'gr': ('gr,A,B,X,Y', 'greater'),
-    'ad': ('ad,A,B,Z', 'add'),
-    'su': ('su,A,B,Z', 'subtract'),
-    'ml': ('ml,A,B,Z', 'multiply'),
-    'dv': ('dv,A,B,Z', 'divide'),
-    'bu': ('bu,A,B', 'Boolean union'),
-    'bi': ('bi,A,B', 'Boolean intersection'),
-    'bc': ('bc,A', 'Boolean complement'),
-    'bs': ('bs,D,A', 'Boolean shift'),
-    'br': ('br,D,A', 'Boolean rotate'),
-}
+from . import _engine
+
+_ALL_ARGUMENTS = 2 ** 32 - 1
+_FORMS = ('none', 'first', 'each', 'all')
+_GIVES = ('nothing', 'body', 'part')
+
+
+class Function(NamedTuple):
+    """A function: how it is called, what it is, and what is true of every call of it."""
+    name: str
+    call: str
+    """A call of it without the marks, with letters for arguments: `cs,N,Z`."""
+    title: str
+    """What the name is short for."""
+    sentence: str
+    """What it does, in one sentence with the letters of its call."""
+    group: str
+    """The heading under which the manual tells of it."""
+    uses: int | None
+    """How many arguments behind its name it uses; None if all."""
+    forms: str
+    """The forms that a call concerns: `none`, the `first` argument's, `each` argument's, or `all`."""
+    needs_form: bool
+    """Whether a call does nothing if no form has the name that its first argument is."""
+    changes_forms: bool
+    """Whether a call can make, change or remove the forms that it concerns."""
+    gives: str
+    """What of a form is its value: `nothing`, its `body` from the pointer on, or a `part` of it."""
+    default_argument: int | None
+    """Which argument is its default value; None if it has none."""
+    chooses: bool
+    """Whether its value is its third or its fourth argument."""
+    reads: bool
+    """Whether it reads."""
+    prints: bool
+    """Whether it can print."""
+    changes_meta: bool
+    """Whether it can change the meta character."""
+    ends: bool
+    """Whether it ends the run."""
+
+
+def _function(texts: tuple[str, str, str, str, str], facts: tuple[int, ...]) -> Function:
+    uses, forms, needs_form, changes_forms, gives, default, chooses, reads, prints, changes_meta, ends = facts
+    return Function(
+        *texts, uses=None if uses == _ALL_ARGUMENTS else uses, forms=_FORMS[forms], needs_form=bool(needs_form),
+        changes_forms=bool(changes_forms), gives=_GIVES[gives], default_argument=default or None, chooses=bool(chooses),
+        reads=bool(reads), prints=bool(prints), changes_meta=bool(changes_meta), ends=bool(ends))
+
+
+FUNCTIONS = {function.name: function for function in (_function(*row) for row in _engine.functions())}
+"""Each function by its name in letters of lower case, in the order of the manual."""
 
 
 def names_a_form(function: str) -> bool:
     """Whether the first argument of a function is the name of a form."""
-    usage, _ = FUNCTIONS.get(function.lower(), ('', ''))
-    return usage.split(',')[1:2] in (['N'], ['N1'])
+    known = FUNCTIONS.get(function.lower())
+    return known is not None and known.forms in ('first', 'each')

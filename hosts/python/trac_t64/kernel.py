@@ -20,7 +20,7 @@ from typing import Any
 from ._engine import MOST_CELLS, VERSION
 from .functions import FUNCTIONS, names_a_form
 from .reading import Reading, fault_words, is_idle
-from .session import DEFAULT_CELLS, DEFAULT_STEPS, MOST_STEPS, Fate, Session, check, shown
+from .session import DEFAULT_CELLS, DEFAULT_STEPS, MOST_STEPS, Fate, Session, Trace, check, shown
 
 try:
     from IPython.core.error import StdinNotImplementedError
@@ -31,14 +31,16 @@ except ModuleNotFoundError as missing:
     raise ImportError(f'the kernel needs ipykernel, and {missing.name} is missing') from None
 
 NAME = 'trac_t64'
-# The rows of a table of steps, where no other number is given.
-ROWS = 100
+# The steps that are shown, where no other number is given.
+SHOWN_STEPS = 100
 COMMANDS = {
     '%forms': 'a table of the forms',
     '%cells N': 'a new session with so many cells',
     '%steps N': 'so many steps are allowed to each cell',
     '%reset': 'a new session, without forms',
-    '%trace [N]': 'a table of the first N steps of the script below',
+    '%trace [N]': 'the first N steps of the script below, as lines',
+    '%trace calls [N]': 'the calls that these steps perform',
+    '%trace forms [N]': 'the forms that these steps change',
     '%check': 'a table of what is suspicious in the script below, which is run by itself, without forms',
     '%help': 'these commands, and the functions',
 }
@@ -109,7 +111,7 @@ def completions(code: str, names: Iterable[str]) -> tuple[list[str], int]:
     else:
         return [], len(code)
     begin = found[found.lastindex or 0]
-    return sorted(word for word in words if word.startswith(begin)), len(code) - len(begin)
+    return sorted({word for word in words if word.startswith(begin)}), len(code) - len(begin)
 
 
 class Printer:
@@ -139,9 +141,10 @@ class TracKernel(Kernel):
         super().__init__(**more)
         self._session = Session(DEFAULT_CELLS, DEFAULT_STEPS)
         self._steps = DEFAULT_STEPS
-        # the steps that a cell shows in a table, and how many it shows at the most
-        self._rows: list[Sequence[str]] = []
-        self._most_rows = 0
+        # what a cell shows of its steps, how many it shows, and the lines of them
+        self._view: dict[str, bool] = {}
+        self._shown_steps = 0
+        self._lines: list[str] = []
         # whether a cell's script is checked
         self._is_checked = False
 
@@ -152,6 +155,11 @@ class TracKernel(Kernel):
 
     def _send_table(self, head: Sequence[str], rows: Table) -> None:
         data = {'text/html': as_html(head, rows), 'text/plain': as_text(head, rows)}
+        self.send_response(self.iopub_socket, 'display_data', {'data': data, 'metadata': {}})
+
+    def _send_lines(self, lines: Sequence[str]) -> None:
+        text = '\n'.join(lines)
+        data = {'text/html': f'<pre>{html.escape(text)}</pre>', 'text/plain': text}
         self.send_response(self.iopub_socket, 'display_data', {'data': data, 'metadata': {}})
 
     def _failed(self, fault: Fault) -> dict[str, Any]:
@@ -178,7 +186,8 @@ class TracKernel(Kernel):
         elif command == '%steps':
             self._steps = number_of(command, words, MOST_STEPS)
         elif command == '%trace':
-            self._most_rows = number_of(command, words or [str(ROWS)], MOST_STEPS)
+            self._view = {word: True for word in words[:1] if word in ('calls', 'forms')}
+            self._shown_steps = number_of(command, words[len(self._view):] or [str(SHOWN_STEPS)], MOST_STEPS)
         elif command == '%check' and not words:
             self._is_checked = True
         elif command == '%reset' and not words:
@@ -187,19 +196,18 @@ class TracKernel(Kernel):
             self._send_table(('name', 'form', 'pointer'), forms_table(self._session))
         elif command == '%help' and not words:
             self._send_table(('command', ''), list(COMMANDS.items()))
-            self._send_table(('call', ''), [(f'#({usage})', what) for usage, what in FUNCTIONS.values()])
+            self._send_table(('call', ''), [(f'#({each.call})', each.sentence) for each in FUNCTIONS.values()])
         else:
             raise Fault('command', f'{line}: there is no such command; there are ' + ', '.join(COMMANDS))
 
     # ---- Scripts.
 
-    def _run_on(self, printer: Printer) -> None:
-        """Makes steps until there is none to make."""
+    def _run_on(self, trace: Trace, printer: Printer) -> None:
+        """Makes steps until there is none to make, the first ones by a trace."""
         session = self._session
-        while len(self._rows) < self._most_rows and (step := session.step()):
-            printer.put(step.output)
-            self._rows.append((
-                str(step.number), step.rule, shown(session.neutral), shown(session.active), shown(step.output)))
+        while session.steps < self._shown_steps and (lines := trace.step()) is not None:
+            self._lines += lines
+            printer.put(session.feed(most=0))
         for output in session.outputs():
             printer.put(output)
 
@@ -220,11 +228,12 @@ class TracKernel(Kernel):
         """Runs a script that begins in this line of its cell."""
         session, reading = self._session, Reading(line)
         session.again(self._steps)
+        trace = session.trace(**self._view)
         reading.give(session, script.encode(errors='replace'))
-        self._run_on(printer)
+        self._run_on(trace, printer)
         while session.fate is Fate.WANTS_INPUT:
             self._give_more(reading)
-            self._run_on(printer)
+            self._run_on(trace, printer)
         if words := fault_words(session):
             at = 'line {}, column {}'.format(*reading.place(session))
             raise Fault(session.fate.value, f'{at}: {words}')
@@ -240,7 +249,7 @@ class TracKernel(Kernel):
 
     def _run_cell(self, code: str) -> None:
         """Runs the commands and the script of a cell, or checks the script, and shows what it asked for."""
-        self._rows, self._most_rows, self._is_checked = [], 0, False
+        self._view, self._shown_steps, self._lines, self._is_checked = {}, 0, [], False
         commands, line, script = parted(code)
         for command in commands:
             self._command(command)
@@ -253,8 +262,8 @@ class TracKernel(Kernel):
                 self._run_script(script, line, printer)
         finally:
             printer.put(b'', is_last=True)
-            if self._rows:
-                self._send_table(('step', 'rule', 'neutral string', 'active string', 'prints'), self._rows)
+            if self._lines:
+                self._send_lines(self._lines)
 
     def do_execute(
         self, code: str, silent: bool, store_history: bool = True, user_expressions: Any = None,
@@ -285,8 +294,8 @@ class TracKernel(Kernel):
         """How the function at the cursor is called."""
         begin = WORD_AROUND.search(code[:cursor_pos])
         word = (begin[0] if begin else '') + re.split('[^A-Za-z]', code[cursor_pos:], 1)[0]
-        usage, what = FUNCTIONS.get(word.lower(), ('', ''))
-        data = {'text/plain': f'#({usage}): {what}'} if usage else {}
+        known = FUNCTIONS.get(word.lower())
+        data = {'text/plain': f'#({known.call}): {known.title}. {known.sentence}'} if known else {}
         return {'status': 'ok', 'found': bool(data), 'data': data, 'metadata': {}}
 
     def do_is_complete(self, code: str) -> dict[str, str]:

@@ -25,6 +25,9 @@ COMMA_MARK = 258
 # The gap with ordinal 1 among the items of a form; that with ordinal N is N - 1 more.
 FIRST_GAP = 256
 
+# The widest that a trace can make a text or a line.
+MOST_WIDTH = 16777216
+
 DEFAULT_CELLS = 65536
 DEFAULT_STEPS = 1000000
 MOST_STEPS = 2**64 - 1
@@ -247,6 +250,32 @@ def check(script: Text, cells: SupportsIndex = DEFAULT_CELLS, steps: SupportsInd
                  ''.join(line for line, each in zip(said, found) if not each))
 
 
+class Trace:
+    """A run of a session that is shown as lines. A trace is of one run: behind `again` ask for another. Its steps count
+    the session's `peak` from there on; the greatest of all steps stands in its last line."""
+
+    __slots__ = ('_machine', '_words')
+
+    def __init__(self, machine: Machine, words: bytes) -> None:
+        self._machine, self._words = machine, words
+
+    def step(self) -> list[str] | None:
+        """Makes one step, and gives its lines, without line ends. None where there is none to make: the script wants
+        input, or the run is over. What it prints stands in the lines, and the next `feed` or `end` gives it too."""
+        if Fate(self._machine.report()[0]).is_end:
+            return None
+        self._words, lines = self._machine.show(self._words)
+        if self._machine.report()[0] == Fate.WANTS_INPUT.value:
+            return None
+        return lines.decode(errors='replace').split('\n')[:-1]
+
+    def __iter__(self) -> Iterator[str]:
+        """Makes steps until there is none to make, and gives the lines of each when it was made. Behind input that was
+        fed meanwhile another iteration goes on."""
+        while (lines := self.step()) is not None:
+            yield from lines
+
+
 class Session:
     """A machine that is kept. Input is fed to it in pieces, and its forms and its meta character stay
     from one run to the next.
@@ -327,6 +356,21 @@ class Session:
         """Makes steps until there is none to make, and gives each one when it was made."""
         while (made := self.step()) is not None:
             yield made
+
+    def trace(
+        self, *, first: SupportsIndex = 1, to: SupportsIndex = MOST_STEPS, calls: bool = False, forms: bool = False,
+        width: SupportsIndex = 100, columns: SupportsIndex = 0,
+    ) -> Trace:
+        """The run from here on as lines, which are those of `trac_trace`: an iteration makes steps until there is none
+        to make, and gives the lines of each when it was made.
+
+        The steps `first` to `to` are shown, from 1 to 2**64 - 1: the steps themselves; or, with `calls`, the calls that
+        they perform, and with `forms` the forms that change, with all of them at the end of the run. A text is cut to
+        `width` bytes, and a line folded at `columns`; both are from 0, for no bound, to 16777216.
+        """
+        return Trace(self._machine, _engine.trace(
+            _whole('first', first, 1, MOST_STEPS), _whole('to', to, 1, MOST_STEPS),
+            _whole('width', width, 0, MOST_WIDTH), _whole('columns', columns, 0, MOST_WIDTH), calls, forms))
 
     def outputs(self) -> Iterator[bytes]:
         """Makes steps until there is none to make, and gives each print before the next step."""

@@ -26,7 +26,7 @@ impl Session<'_> {
         }
     }
 
-    /// Whether the next step reads more than what waits. A string that the cells can't hold isn't waited for.
+    /// Whether the next step reads more than what waits. A string too long for the workspace ends the run.
     fn lacks_input(&self) -> bool {
         let free = (self.machine.room() - self.machine.size()) as usize;
         match self.machine.awaits() {

@@ -39,7 +39,9 @@ pub use trac_devices::{
 };
 pub use trac_devices::{Characters, Next, Sink, SinkFailed, SliceSink, SliceSource, Source, write_characters};
 pub use trac_forms::{Forms, StoredForm, Work};
-pub use trac_language::{Fate, Function, Item, Mode, Report};
+pub use trac_language::{
+    Concerned, Facts, Fate, Function, Given, Group, Item, Mode, Report, Traits, facts_of, function_at, function_count,
+};
 pub use trac_space::{Cell, Neutral};
 
 #[cfg(test)]

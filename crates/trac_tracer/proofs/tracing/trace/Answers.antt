@@ -12,10 +12,10 @@ use Rattle.trac_tracer.proofs.tracing.trace.Goals as goal
 
 pub loop-last-init : goal.loop-last-init
 loop-last-init g c =
-    let settings = c.args.options.now.settings in
+    let asked = c.args.options.now in
     let shown = c.in_ok-shown.ensures in
-    let cells : length c.deref_mut.result.now ≡ settings.cells = ap length c.deref_mut.ensures.value ∙ ap length c.in_ok-block.ensures ∙ length-replicate settings.cells _ in
-    let machine_is : c.over-machine.result ≡ made settings.cells settings.steps = c.over-machine.ensures ∙ ap (λ n. made n settings.steps) cells in
+    let cells : length c.deref_mut.result.now ≡ asked.cells = ap length c.deref_mut.ensures.value ∙ ap length c.in_ok-block.ensures ∙ length-replicate asked.cells _ in
+    let machine_is : c.over-machine.result ≡ made asked.cells asked.steps = c.over-machine.ensures ∙ ap (λ n. made n asked.steps) cells in
     record {
       not_over = ap (λ (m : MachineState). m.fate) machine_is;
       source_failures = refl;
@@ -27,7 +27,7 @@ loop-last-init g c =
       views = shown.0;
       told = λ told. told;
       shows = λ told.
-          shown-first c.args.options.now.views settings.cells settings.steps (g.I.Source.stream c.args.source.now) _ _ c.in_ok-shown.shown.peak c.over-machine.result c.in_ok-shown.shown.depth c.new-last.result c.lines.result.now
+          shown-first c.args.options.now.views asked.cells asked.steps (g.I.Source.stream c.args.source.now) _ _ c.in_ok-shown.shown.peak c.over-machine.result c.in_ok-shown.shown.depth c.new-last.result c.lines.result.now
           machine_is shown.1 shown.2 c.new-last.ensures (c.lines.ensures ∙ shown.3) c.in_ok-write_folded.ensures;
     }
 
@@ -36,7 +36,7 @@ returns-in-Some g c =
     let i = c.loop-last.invariant in
     let h = c.in-Some.ensures in
     let views = c.args.options.now.views in
-    let settings = c.args.options.now.settings in
+    let asked = c.args.options.now in
     let m = c.loop-last.machine in
     let looked = c.in_ok-before.ensures.views ∙ i.views in
     let failures = last-failures m.fate c.in-Some.fate i.not_over in
@@ -50,7 +50,7 @@ returns-in-Some g c =
           let line_of = are-lines views c.loop-last.shown.views c.look.new.self.views m after c.in_ok-before.before c.loop-last.shown.depth c.tell.new.self.depth (Some c.in-Some.fate) c.take_peak-need.result c.look.new.self.arguments.items c.look.new.self.named c.look.new.self.deleted.items c.as_bytes.result.now printed c.look.new.self.lines.items lines
           i.views looked c.as_bytes.ensures c.in_ok-before.ensures.cleared c.in_ok-before.ensures.seen
           (c.in_ok-tell.ensures.depth ∙ ap (depth_in c.in_ok-before.before after) c.in_ok-before.ensures.depth) c.in_ok-tell.ensures.hidden c.in_ok-tell.ensures.steps c.in_ok-before.ensures.kept (λ told others. subst (λ a. TellsCall c.look.new.self.views c.in_ok-before.before a c.tell.new.self.depth c.look.new.self.arguments.items c.look.new.self.named c.look.new.self.deleted.items c.as_bytes.result.now after c.look.new.self.lines.items lines) c.in-Some.is (c.in_ok-tell.ensures.calls told others)) in
-          shown-over views c.tell.new.self.views settings.cells settings.steps (g.I.Source.stream c.args.source.now) _ _ _ c.loop-last.shown.peak c.tell.new.self.peak c.take_peak-need.result c.steps.result c.first-first.result c.in-Some.fate
+          shown-over views c.tell.new.self.views asked.cells asked.steps (g.I.Source.stream c.args.source.now) _ _ _ c.loop-last.shown.peak c.tell.new.self.peak c.take_peak-need.result c.steps.result c.first-first.result c.in-Some.fate
           m c.step-fate.new.self after c.loop-last.shown.depth c.tell.new.self.depth stream (g.I.Source.stream c.step-fate.new.source) c.loop-last.last c.add.new.self c.loop-last.printed.bytes.items printed lines c.tell_end.new.self.lines.items
           i.room i.allowance i.no_peak i.empty (h.answers i.not_over (i.told told) tt) (i.shows told) line_of
           c.take_peak-need.ensures.peak c.take_peak-need.ensures.after
@@ -66,7 +66,7 @@ loop-last-preserved g c =
     let i = c.loop-last.invariant in
     let h = c.in_default.ensures in
     let views = c.args.options.now.views in
-    let settings = c.args.options.now.settings in
+    let asked = c.args.options.now in
     let m = c.loop-last.machine in
     let after = c.take_peak-need.new.self in
     let after_is = c.take_peak-need.ensures.after in
@@ -91,7 +91,7 @@ loop-last-preserved g c =
           let line_of = are-lines views c.loop-last.shown.views c.look.new.self.views m after c.in_ok-before.before c.loop-last.shown.depth c.tell.new.self.depth None c.take_peak-need.result c.look.new.self.arguments.items c.look.new.self.named c.look.new.self.deleted.items c.as_bytes.result.now printed c.look.new.self.lines.items lines
           i.views looked c.as_bytes.ensures c.in_ok-before.ensures.cleared c.in_ok-before.ensures.seen
           (c.in_ok-tell.ensures.depth ∙ ap (depth_in c.in_ok-before.before after) c.in_ok-before.ensures.depth) c.in_ok-tell.ensures.hidden c.in_ok-tell.ensures.steps c.in_ok-before.ensures.kept (λ told others. subst (λ a. TellsCall c.look.new.self.views c.in_ok-before.before a c.tell.new.self.depth c.look.new.self.arguments.items c.look.new.self.named c.look.new.self.deleted.items c.as_bytes.result.now after c.look.new.self.lines.items lines) c.in_default.is (c.in_ok-tell.ensures.calls told others)) in
-          shown-on views (made settings.cells settings.steps) (g.I.Source.stream c.args.source.now) (folded_text views.columns 0 (head_text views.calls views.forms)) _ _ _ c.loop-last.shown.peak c.tell.new.self.peak c.take_peak-need.result c.steps.result
+          shown-on views (made asked.cells asked.steps) (g.I.Source.stream c.args.source.now) (folded_text views.columns 0 (head_text views.calls views.forms)) _ _ _ c.loop-last.shown.peak c.tell.new.self.peak c.take_peak-need.result c.steps.result
           m c.step-fate.new.self after c.loop-last.shown.depth c.tell.new.self.depth stream (g.I.Source.stream c.step-fate.new.source) c.loop-last.last c.add.new.self c.loop-last.printed.bytes.items printed lines took.0
           i.room i.no_peak i.empty took.1.consumed (h.answers i.not_over (i.told told) tt) (i.shows told) line_of
           c.take_peak-need.ensures.peak after_is

@@ -13,13 +13,13 @@ invariant-loop-last g l =
       sink_failures : l.printed.failures ≡ 0;
       empty : l.printed.bytes.items ≡ [];
       no_peak : l.machine.peak ≡ 0;
-      room : l.machine.room ≡ l.options.settings.cells;
-      allowance : l.machine.allowance ≡ l.options.settings.steps;
+      room : l.machine.room ≡ l.options.cells;
+      allowance : l.machine.allowance ≡ l.options.steps;
       views : l.shown.views ≡ l.options.views;
       told : g.I.Source.tells l.initial.source → g.I.Source.tells l.source;
       shows :
           g.I.Source.tells l.initial.source →
-          IsShown l.options.views (made l.options.settings.cells l.options.settings.steps) (g.I.Source.stream l.initial.source)
+          IsShown l.options.views (made l.options.cells l.options.steps) (g.I.Source.stream l.initial.source)
           (folded_text l.options.views.columns 0 (head_text l.options.views.calls l.options.views.forms))
           (g.W.Write.contents l.fn.output) (g.W.Write.contents l.output)
           l.shown.peak l.machine l.shown.depth (g.I.Source.stream l.source) l.last;

@@ -3,6 +3,7 @@ use Rattle.trac_devices.specs.Devices.{Stream}
 use Rattle.trac_devices.specs.Slices.{slice_input, stream_in}
 use Rattle.trac_views.specs.declared.views.Views.{Views}
 use Rattle.trac_tracer.specs.ShownRuns.{ShowsRun, views_from}
+use Rattle.trac_tracer.specs.declared.options.Options.{Options}
 use Rattle.trac_tracer.proofs.tracing.trace_last.Goals as goal
 
 if_ok : {A E : Type 0} (r : Result A E) (P Q : A → Type 0) → ((a : A) → P a → Q a) → IfOk r P → IfOk r Q
@@ -17,7 +18,6 @@ not_ended bytes (Some place) = refl
 pub returns : goal.returns
 returns g c =
     let options = c.args.options.now in
-    let settings = options.settings in
     let first = c.in_ok-once.once.first in
     let source = c.new-source.result in
     let left = stream_in c.trace.new.source in
@@ -34,8 +34,9 @@ returns g c =
             first,
             (
               shown.1.0,
-              subst (λ (s : Stream). ShowsRun (views_from first options.views) settings.cells settings.steps s left traced.fate traced.first shown.0) stream_is
-                  (subst (λ (v : Views). ShowsRun v settings.cells settings.steps (stream_in source) left traced.fate traced.first shown.0) c.beginning_at.ensures shown.1.1),
+              subst (λ (s : Stream). ShowsRun (views_from first options.views) options.cells options.steps s left traced.fate traced.first shown.0) stream_is
+                  (subst (λ (v : Views). ShowsRun v options.cells options.steps (stream_in source) left traced.fate traced.first shown.0) c.beginning_at.ensures
+                  (subst (λ (o : Options). ShowsRun o.views o.cells o.steps (stream_in source) left traced.fate traced.first shown.0) c.showing-options.ensures shown.1.1)),
             ),
           ),
         ),

@@ -2,7 +2,7 @@ use Rattle.std.proofs.Common.{◌≡◌, ◌∙◌, ap, subst, sym, List, ℕ}
 use Rattle.std.specs.Prelude.{OnOk}
 use Rattle.std.specs.Io.KnownBytes.{Appends}
 use Rattle.trac_views.specs.Lines.{folded_text}
-use Rattle.trac_tracer.proofs.StepByStep.{folded-none}
+use Rattle.trac_views.proofs.Folded.{folded-none}
 use Rattle.trac_tracer.proofs.tracing.write_folded.Goals as goal
 
 pub returns-then-columns-eq0 : goal.returns-then-columns-eq0

@@ -2,7 +2,7 @@ use Rattle.trac_views.proofs.Texts.{after, on_ok}
 use Rattle.trac_views.proofs.calls.push_call.Goals as goal
 
 pub returns : goal.returns
-returns c =
+returns g c =
     let to_1 = after _ _ _ _ _ c.in_ok-push_column.ensures c.in_ok-push_indent.ensures in
     let to_2 = after _ _ _ _ _ to_1 (rw c.opening.ensures at c.in_ok-push.ensures) in
     let to_3 = after _ _ _ _ _ (after _ _ _ _ _ to_2 c.in_ok-push_cells_cut.ensures) c.in_ok-push-2.ensures in

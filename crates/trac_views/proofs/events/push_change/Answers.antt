@@ -2,7 +2,7 @@ use Rattle.trac_views.proofs.Texts.{after, on_ok}
 use Rattle.trac_views.proofs.events.push_change.Goals as goal
 
 pub returns : goal.returns
-returns c =
+returns g c =
     let to_1 = after _ _ _ _ _ c.in_ok-push_column.ensures c.in_ok-push.ensures in
     let to_2 = after _ _ _ _ _ to_1 (rw (c.unless_empty.ensures, c.is_empty.ensures) at c.in_ok-push-2.ensures) in
     let to_3 = after _ _ _ _ _ (after _ _ _ _ _ to_2 c.in_ok-push-3.ensures) c.in_ok-push-4.ensures in

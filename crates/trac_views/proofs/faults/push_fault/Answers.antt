@@ -11,7 +11,7 @@ four : (old one two three new a b c d e f : List ℕ) → one ≡ old ++ a → a
 four old one two three new a b c d e f first same second third last told = cc
 
 pub returns : goal.returns
-returns c =
+returns g c =
     let step = c.saturating_add.ensures ∙ ap one_more c.steps.ensures in
     let parts = ap parts_line c.of.ensures in
     on_ok c.push_parts.result _ _

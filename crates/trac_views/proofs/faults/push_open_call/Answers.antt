@@ -5,7 +5,7 @@ use Rattle.trac_views.proofs.Texts.{after, on_ok}
 use Rattle.trac_views.proofs.faults.push_open_call.Goals as goal
 
 pub returns : goal.returns
-returns c =
+returns g c =
     let old = c.args.lines.now.items in
     let upto-1 : c.push.new.line.items ≡ old ++ (codes "open call: ") = c.in_ok-push.ensures in
     let upto-2 : c.push-2.new.line.items ≡ old ++ (codes "open call: " ++ opening_text c.args.mode) = after old c.push.new.line.items c.push-2.new.line.items (codes "open call: ") (opening_text c.args.mode) upto-1 (c.in_ok-push-2.ensures ∙ ap (λ (t : List ℕ). c.push.new.line.items ++ t) c.opening.ensures) in

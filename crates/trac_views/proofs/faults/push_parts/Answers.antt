@@ -4,7 +4,7 @@ use Rattle.trac_views.proofs.Texts.{after, on_ok}
 use Rattle.trac_views.proofs.faults.push_parts.Goals as goal
 
 pub returns : goal.returns
-returns c =
+returns g c =
     let old = c.args.lines.now.items in
     let upto-1 : c.push.new.line.items ≡ old ++ (codes "cells: forms ") = c.in_ok-push.ensures in
     let upto-2 : c.push_number.new.line.items ≡ old ++ (codes "cells: forms " ++ decimal c.args.parts.now.forms) = after old c.push.new.line.items c.push_number.new.line.items (codes "cells: forms ") (decimal c.args.parts.now.forms) upto-1 c.in_ok-push_number.ensures in

@@ -5,6 +5,6 @@ use Rattle.trac_views.proofs.Texts.{text-more}
 use Rattle.trac_views.proofs.lines.push_cells.Goals as goal
 
 pub loop-cell-preserved : goal.loop-cell-preserved
-loop-cell-preserved c =
+loop-cell-preserved g c =
     c.in_ok-push_cell.ensures ∙ ap (λ t. t ++ cell_text (get_or c.args.cells.now c.loop-cell.cell-index (Byte 0))) c.loop-cell.invariant
     ∙ text-more cell_text cells_text refl (λ x xs. refl) c.args.line.now.items c.args.cells.now c.loop-cell.cell-index (Byte 0) c.loop-cell-test.true

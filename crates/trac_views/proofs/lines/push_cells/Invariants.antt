@@ -4,4 +4,4 @@ use Rattle.trac_views.proofs.lines.push_cells.Given as goal
 
 -- the cells so far stand in the line
 abbrev pub invariant-loop-cell : goal.invariant-loop-cell
-invariant-loop-cell l = l.line.items ≡ l.initial.line.items ++ cells_text (take l.cell-index l.cells)
+invariant-loop-cell g l = l.line.items ≡ l.initial.line.items ++ cells_text (take l.cell-index l.cells)

@@ -3,7 +3,7 @@ use Rattle.trac_views.proofs.Texts.{after, on_ok}
 use Rattle.trac_views.proofs.lines.push_dropped.Goals as goal
 
 pub returns : goal.returns
-returns c =
+returns g c =
     let old = c.args.line.now.items in
     let first : c.push.new.line.items ≡ old ++ codes "        drops: " = c.in_ok-push.ensures in
     let counted = after old c.push.new.line.items c.push_number.new.line.items (codes "        drops: ") (decimal c.args.count) first

@@ -2,7 +2,7 @@ use Rattle.trac_views.proofs.Texts.{after, on_ok}
 use Rattle.trac_views.proofs.lines.push_step.Goals as goal
 
 pub returns : goal.returns
-returns c =
+returns g c =
     let name = after _ _ _ _ _ (after _ _ _ _ _ c.in_ok-push_column.ensures c.in_ok-push.ensures) (rw c.name.ensures at c.in_ok-push-2.ensures) in
     let size = after _ _ _ _ _ name (rw c.from.ensures at c.in_ok-push_column-2.ensures) in
     let need = after _ _ _ _ _ size (rw c.from-2.ensures at c.in_ok-push_column-3.ensures) in

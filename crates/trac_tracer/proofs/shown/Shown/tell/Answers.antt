@@ -43,7 +43,7 @@ undone-lines views before depth arguments named deleted printed value m old seco
     last ∙ ap (λ t. t ++ []) same ∙ ap (λ b. old ++ step_lines b views before depth arguments named deleted value printed m) (sym done)
 
 pub returns-clause-calls : goal.returns-clause-calls
-returns-clause-calls c = λ told not_steps.
+returns-clause-calls g c = λ told not_steps.
     let self = c.args.self.now in
     let before = c.args.before.now in
     let m = c.args.machine.now in
@@ -57,8 +57,8 @@ returns-clause-calls c = λ told not_steps.
     ] in
     let views_is : s.views ≡ self.views =
     elim c.if-steps-before.branch [
-      | then-steps-before+in_ok-tell_step+in_ok-tell_call w ↦ ap (λ (s : Shown). s.views) w.self-is ∙ w.tell_call.ensures.views ∙ w.tell_step.ensures.views
-      | else-steps-before w ↦ ap (λ (s : Shown). s.views) w.self-is
+      | then-steps-before+in_ok-tell_step+in_ok-tell_call w ↦ ap (λ (s : Shown g.row.A.Denot). s.views) w.self-is ∙ w.tell_call.ensures.views ∙ w.tell_step.ensures.views
+      | else-steps-before w ↦ ap (λ (s : Shown g.row.A.Denot). s.views) w.self-is
     ] in
     on_ok c.show.result _ _
     (λ last. (
@@ -71,13 +71,13 @@ returns-clause-calls c = λ told not_steps.
                   let step = w.tell_step.new.self in
                   let on = w.tell_step.ensures in
                   done-lines self.views step.views before shown.depth step.depth self.arguments.items step.arguments.items self.named step.named self.deleted.items step.deleted.items c.args.printed.now value m self.lines.items step.lines.items w.tell_call.new.self.lines.items shown.lines.items
-                  on.views (sym (c.show.ensures.depth ∙ ap (λ (s : Shown). s.depth) w.self-is ∙ w.tell_call.ensures.depth)) (ap (λ a. a.items) on.arguments) on.named (ap (λ a. a.items) on.deleted)
+                  on.views (sym (c.show.ensures.depth ∙ ap (λ (s : Shown g.row.A.Denot). s.depth) w.self-is ∙ w.tell_call.ensures.depth)) (ap (λ a. a.items) on.arguments) on.named (ap (λ a. a.items) on.deleted)
                   (lt-ltb before.done m.steps (omega (arith, w.if-steps-before.true, c.steps.ensures)))
                   (w.in_ok-tell_step.ensures.dropped not_steps) (w.in_ok-tell_call.ensures.called (ap has_steps on.views ∙ not_steps))
-                  (new_is ∙ ap (λ (s : Shown). s.lines.items ++ []) w.self-is)
+                  (new_is ∙ ap (λ (s : Shown g.row.A.Denot). s.lines.items ++ []) w.self-is)
               | else-steps-before w ↦
                   undone-lines self.views before shown.depth self.arguments.items self.named self.deleted.items c.args.printed.now value m self.lines.items s.lines.items shown.lines.items
-                  (le-ltb before.done m.steps (omega (arith, w.if-steps-before.false, c.steps.ensures))) (ap (λ (s : Shown). s.lines.items) w.self-is) new_is
+                  (le-ltb before.done m.steps (omega (arith, w.if-steps-before.false, c.steps.ensures))) (ap (λ (s : Shown g.row.A.Denot). s.lines.items) w.self-is) new_is
             ],
       ),
     ))

@@ -11,7 +11,7 @@ asked true old one new a b on first last = last ∙ ap (λ (x : List ℕ). x ++ 
 asked false old one new a b on first last = absurd cc
 
 pub returns-clause-lines : goal.returns-clause-lines
-returns-clause-lines c =
+returns-clause-lines g c =
     let memory = c.args.machine.now.memory in
     let width = c.args.self.now.views.width in
     on_ok c.push_meta.result _ _

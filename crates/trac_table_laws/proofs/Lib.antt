@@ -1,0 +1,4 @@
+pub mod Deeds
+pub mod Following
+pub mod Values
+mod Imports

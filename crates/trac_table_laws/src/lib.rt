@@ -1,0 +1,67 @@
+//! That the table of functions is true: a law for each column, for all calls in all worlds. Each function proves its
+//! law and does nothing. The crate exists for the prover alone: no program stands on it.
+#![tactic(auto)]
+
+ghost use Rattle.trac_table_laws.specs.Columns.{Chooses, EndsOnly, GivesBody, GivesDefault, GivesNothing};
+ghost use Rattle.trac_table_laws.specs.Columns.{GivesPart, LeavesForms, LeavesInput, LeavesMeta, LeavesOthers};
+ghost use Rattle.trac_table_laws.specs.Columns.{NeedsForm, OnlyDefault, PrintsNothing, UsesFew};
+
+/// How many arguments a function uses: what stands behind them makes no difference.
+pub fn uses_few()
+    ensures { UsesFew }
+{}
+
+/// Which forms a call concerns: all others are as they were.
+pub fn leaves_others()
+    ensures { LeavesOthers }
+{}
+
+/// A call that needs a form does nothing where there is none of that name, and has a null value.
+pub fn needs_form()
+    ensures { NeedsForm }
+{}
+
+/// A function that changes no form leaves all of them.
+pub fn leaves_forms()
+    ensures { LeavesForms }
+{}
+
+/// What of a form is the value: all of it from its pointer on, a part of it that its pointer then goes past, or
+/// nothing, whatever the bodies are.
+pub fn gives_forms()
+    ensures body { GivesBody }
+    ensures part { GivesPart }
+    ensures nothing { GivesNothing }
+{}
+
+/// The default value is that argument of which the table says so; it is given in some call, and no other function has
+/// one.
+pub fn gives_default()
+    ensures only { OnlyDefault }
+    ensures given { GivesDefault }
+{}
+
+/// A function that chooses has its third or its fourth argument as its value.
+pub fn chooses()
+    ensures { Chooses }
+{}
+
+/// A function that doesn't read leaves the input.
+pub fn leaves_input()
+    ensures { LeavesInput }
+{}
+
+/// A function that doesn't print prints nothing.
+pub fn prints_nothing()
+    ensures { PrintsNothing }
+{}
+
+/// A function that doesn't change the meta character leaves it.
+pub fn leaves_meta()
+    ensures { LeavesMeta }
+{}
+
+/// Just the function that ends the run halts it.
+pub fn ends_only()
+    ensures { EndsOnly }
+{}

@@ -1,0 +1,279 @@
+/* Old listings: how they differ from scripts of this processor, and what of that can be made right. */
+#include "terminal.h"
+
+#include <strings.h>
+
+/* The characters of a typewriter by which the one before was taken back. */
+enum { RUBOUT = 127, BACKSPACE = 8 };
+
+/* Functions of the language that this processor leaves out: their names, what to do without, and how often each is
+ * called in a listing. */
+enum { LEFT_OUT = 6 };
+static const struct {
+    const char *name, *instead;
+} left_out[LEFT_OUT] = {
+    {"sb", "keep the forms in a file: :save FILE"},
+    {"fb", "give the file of its forms: --with FILE"},
+    {"eb", "remove the file of its forms"},
+    {"tn", "trac_trace shows the steps"},
+    {"tf", "trac_trace shows the steps"},
+    {"mo", "there are no modes"},
+};
+
+/* What was made right, and what was found that is left as it is. */
+typedef struct {
+    size_t line_ends, rubouts, apostrophes, bare_names;
+    size_t calls[LEFT_OUT], first_line[LEFT_OUT];
+    size_t capitals, small, numbered, lines;
+    int has_other_quotes;
+} findings;
+
+/* The length of an apostrophe as typesetters have it, U+2018, U+2019 or U+00B4; 0 where there is none. */
+static size_t quote_length(const uint8_t *at, size_t left) {
+    if (left > 2 && at[0] == 0xE2 && at[1] == 0x80 && (at[2] == 0x98 || at[2] == 0x99))
+        return 3;
+    return left > 1 && at[0] == 0xC2 && at[1] == 0xB4 ? 2 : 0;
+}
+
+/* Takes the last character of a line back, with all its bytes. */
+static void take_back(text *of) {
+    size_t length = of->length;
+    while (length && (of->bytes[length - 1] & 0xC0) == 0x80)
+        length--;
+    if (length && of->bytes[length - 1] != '\n')
+        of->length = length - 1;
+}
+
+/* Adds the characters of a listing with one kind of line ends and of apostrophes, and without what was taken back. */
+static void add_plain(text *to, const text *from, findings *found) {
+    const int has_apostrophe = from->length && memchr(from->bytes, '\'', from->length) != NULL;
+    for (size_t i = 0, length; i < from->length; i += length) {
+        const uint8_t *const at = from->bytes + i;
+        const size_t quote = quote_length(at, from->length - i);
+        length = quote ? quote : 1;
+        if (*at == RUBOUT || *at == BACKSPACE) {
+            take_back(to);
+            found->rubouts++;
+        } else if (*at == '\r') {
+            length = i + 1 < from->length && at[1] == '\n' ? 2 : 1;
+            add_text(to, "\n");
+            found->line_ends++;
+        } else {
+            found->has_other_quotes |= quote && has_apostrophe;
+            found->apostrophes += (size_t)(quote && !has_apostrophe);
+            add_bytes(to, quote && !has_apostrophe ? (const uint8_t *)"'" : at, quote && !has_apostrophe ? 1 : length);
+        }
+    }
+}
+
+/* The length of the name behind `#(`, up to a comma or a right parenthesis; 0 where something else comes first. */
+static size_t name_length(const uint8_t *at, size_t left) {
+    size_t length = 0;
+    while (length < left && !strchr("#(),'\n", at[length]))
+        length++;
+    return length < left && (at[length] == ',' || at[length] == ')') ? length : 0;
+}
+
+/* A name in a script. */
+typedef struct {
+    const uint8_t *bytes;
+    size_t length;
+} name_part;
+
+static int compare_names(const void *one, const void *other) {
+    const name_part *const a = (const name_part *)one, *const b = (const name_part *)other;
+    const int order = memcmp(a->bytes, b->bytes, a->length < b->length ? a->length : b->length);
+    return order ? order : (a->length > b->length) - (a->length < b->length);
+}
+
+/* Whether a name stands in a sorted list of names. */
+static int has_name(const text *names, const uint8_t *bytes, size_t length) {
+    const name_part name = {bytes, length};
+    return names->length && bsearch(&name, names->bytes, names->length / sizeof name, sizeof name, compare_names);
+}
+
+/* What is called at a place of a script: the function, where it is one, and its name. */
+typedef struct {
+    const uint8_t *name;
+    size_t length;
+    const known_function *function;
+} called;
+
+/* The call whose `#(` stands in front of a place. */
+static called call_at(const text *script, size_t at) {
+    called of = {script->bytes + at, name_length(script->bytes + at, script->length - at), NULL};
+    of.function = of.length ? function_named(of.name, of.length) : NULL;
+    return of;
+}
+
+/* Goes behind the next `#(`. Gives 0 where there is none. */
+static size_t next_call(const text *script, size_t from) {
+    while (from + 1 < script->length && (script->bytes[from] != '#' || script->bytes[from + 1] != '('))
+        from++;
+    return from + 1 < script->length ? from + 2 : 0;
+}
+
+static void add_name(text *names, const uint8_t *bytes, size_t length) {
+    const name_part name = {bytes, length};
+    if (length)
+        add_bytes(names, &name, sizeof name);
+}
+
+/* The names of the forms that a script makes where it stands, sorted: a function makes one that changes a form which
+ * needn't be there. */
+static void find_names(text *names, const text *script) {
+    for (size_t at = next_call(script, 0); at; at = next_call(script, at)) {
+        const called of = call_at(script, at);
+        const size_t begin = at + of.length + 1;
+        if (of.function && of.function->facts.forms == TRAC_FORMS_FIRST && of.function->facts.changes_forms &&
+            !of.function->facts.needs_form && begin < script->length)
+            add_name(names, script->bytes + begin, name_length(script->bytes + begin, script->length - begin));
+    }
+    if (names->length)
+        qsort(names->bytes, names->length / sizeof(name_part), sizeof(name_part), compare_names);
+}
+
+/* Notes how the name of a call is written, and whether it is one that is left out. */
+static void note_call(findings *found, const called *of, size_t line, const text *names) {
+    for (size_t i = 0; i < of->length; i++) {
+        found->capitals += (size_t)(of->function && of->name[i] >= 'A' && of->name[i] <= 'Z');
+        found->small += (size_t)(of->function && of->name[i] >= 'a' && of->name[i] <= 'z');
+    }
+    for (size_t i = 0; i < LEFT_OUT; i++)
+        if (of->length == 2 && !strncasecmp((const char *)of->name, left_out[i].name, 2) &&
+            !has_name(names, of->name, of->length)) {
+            found->first_line[i] = found->calls[i]++ ? found->first_line[i] : line;
+        }
+}
+
+/* Adds a script, and makes calls of forms of the calls of bare names of forms that it makes. */
+static void add_called(text *to, const text *script, const text *names, findings *found) {
+    size_t from = 0, line = 1;
+    for (size_t at = next_call(script, 0); at; at = next_call(script, at)) {
+        const called of = call_at(script, at);
+        for (size_t i = from; i < at; i++)
+            line += script->bytes[i] == '\n';
+        add_bytes(to, script->bytes + from, at - from);
+        note_call(found, &of, line, names);
+        if (of.length && !of.function && has_name(names, of.name, of.length)) {
+            add_text(to, "cl,");
+            found->bare_names++;
+        }
+        from = at;
+    }
+    add_bytes(to, script->bytes + from, script->length - from);
+}
+
+/* Counts the lines, and those that begin with a number. */
+static void count_lines(findings *found, const text *script) {
+    for (size_t i = 0; i < script->length; i++)
+        if (!i || script->bytes[i - 1] == '\n') {
+            found->lines++;
+            found->numbered += script->bytes[i] >= '0' && script->bytes[i] <= '9';
+        }
+}
+
+/* Adds a listing as a script of this processor, and notes what was changed and what wasn't. */
+static void convert(text *to, const text *from, findings *found) {
+    text plain = {NULL, 0, 0, 0}, names = {NULL, 0, 0, 0};
+    add_plain(&plain, from, found);
+    count_lines(found, &plain);
+    find_names(&names, &plain);
+    add_called(to, &plain, &names, found);
+    to->is_short |= plain.is_short | names.is_short;
+    free(plain.bytes);
+    free(names.bytes);
+}
+
+/* Adds a number of things, behind a comma where others stand in front. */
+static void add_count(text *to, size_t count, const char *one, const char *many) {
+    char number[32];
+    if (!count)
+        return;
+    (void)snprintf(number, sizeof number, "%s%zu ", to->length ? ", " : "", count);
+    add_text(to, number);
+    add_text(to, count == 1 ? one : many);
+}
+
+/* Adds what was made right; nothing where nothing was. */
+static void add_changes(text *to, const findings *found) {
+    add_count(to, found->line_ends, "line end", "line ends");
+    add_count(to, found->rubouts, "rubout", "rubouts");
+    add_count(to, found->apostrophes, "apostrophe", "apostrophes");
+    add_count(to, found->bare_names, "bare name", "bare names");
+}
+
+static size_t calls_left_out(const findings *found) {
+    size_t count = 0;
+    for (size_t i = 0; i < LEFT_OUT; i++)
+        count += found->calls[i];
+    return count;
+}
+
+/* Says what stays as it is. */
+static void say_left(const char *name, const findings *found) {
+    for (size_t i = 0; i < LEFT_OUT; i++)
+        if (found->calls[i])
+            (void)say_line(DONE, "trac_terminal: %s: line %zu: %s is left out here; %s\n", name, found->first_line[i],
+                           left_out[i].name, left_out[i].instead);
+    if (found->has_other_quotes)
+        (void)say_line(DONE, "trac_terminal: %s: typographic quotes stay, since apostrophes stand there too\n", name);
+    if (found->numbered > 2 && found->numbered == found->lines)
+        (void)say_line(DONE, "trac_terminal: %s: the numbers in front of the lines stay\n", name);
+}
+
+/* Says what was made right, and what stays. */
+static void say_changes(const char *name, const findings *found) {
+    text changes = {NULL, 0, 0, 0}, shown = {NULL, 0, 0, 0};
+    const char *const file = shown_in(&shown, name, strlen(name));
+    add_changes(&changes, found);
+    if (changes.length && !changes.is_short)
+        (void)say_line(DONE, "trac_terminal: %s: made right: %.*s\n", file, (int)changes.length,
+                       (const char *)changes.bytes);
+    else
+        (void)say_line(DONE, "trac_terminal: %s: nothing to make right\n", file);
+    say_left(file, found);
+    free(changes.bytes);
+    free(shown.bytes);
+}
+
+int convert_file(const char *name) {
+    text listing = {NULL, 0, 0, 0}, script = {NULL, 0, 0, 0};
+    findings found = {0};
+    int status = DONE;
+    if (!read_file(&listing, name)) {
+        say_not_read(name);
+        return INPUT_FAILED;
+    }
+    convert(&script, &listing, &found);
+    if (script.is_short)
+        status = say_line(NO_MEMORY, "trac_terminal: no memory to convert a file\n");
+    else if (!write_all(STDOUT_FILENO, script.bytes, script.length))
+        status = OUTPUT_FAILED;
+    else
+        say_changes(name, &found);
+    free(listing.bytes);
+    free(script.bytes);
+    return status;
+}
+
+void add_looks(text *to, const char *name, const text *listing) {
+    text script = {NULL, 0, 0, 0}, changes = {NULL, 0, 0, 0};
+    findings found = {0};
+    convert(&script, listing, &found);
+    add_changes(&changes, &found);
+    const int is_in_capitals = found.capitals && !found.small;
+    if (found.line_ends || found.rubouts || found.apostrophes || calls_left_out(&found) ||
+        (found.bare_names && is_in_capitals)) {
+        add_shown(to, name, strlen(name));
+        add_text(to, ": it looks like an old listing");
+        add_text(to, is_in_capitals ? ", all in capitals" : "");
+        if (changes.length) {
+            add_text(to, "; trac_terminal --convert would make right: ");
+            add_bytes(to, changes.bytes, changes.length);
+        }
+        add_text(to, "\n");
+    }
+    free(script.bytes);
+    free(changes.bytes);
+}

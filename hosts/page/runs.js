@@ -1,0 +1,148 @@
+/**
+ * Runs that were made: what they printed, how they ended, and what was done in them up to a step.
+ * @module
+ */
+
+import { bytesOfText, textOfBytes } from './boxes.js';
+import { counted, isSameRow, several } from './codes.js';
+import { changedForms } from './forms.js';
+import { History } from './history.js';
+import { pause } from './machines.js';
+
+/** @type {Record<string, (limits: {cells: number, steps: number}) => string>} */
+const FATES = {
+    halted: () => 'Ended: the script called hl.',
+    'input ended': () => 'Ended: all input is read.',
+    workspace: ({ cells }) => `Workspace full: the next step needs more than the ${
+        several(cells, 'cell')} there are.`,
+    steps: ({ steps }) => `Allowance used up: the script goes on after ${several(steps, 'step')}.`,
+    going: () => 'Stopped by you.',
+};
+
+/**
+ * A run that was made.
+ * @typedef {object} Run
+ * @property {History} history
+ * @property {{script: string, input: string}} texts those of the boxes
+ * @property {Uint8Array} input
+ * @property {Uint8Array} output
+ */
+
+/**
+ * What has been done in a run up to the step that is looked at.
+ * @typedef {{scanned: Uint32Array, forms: import('../js/trac.mjs').StoredForm[], printed: Uint8Array}} Done
+ */
+
+/**
+ * Rows of bytes as one.
+ * @param {Uint8Array[]} rows
+ * @param {number} length of all
+ */
+function joinedOutput(rows, length) {
+    const output = new Uint8Array(length);
+    let place = 0;
+    for (const row of rows) {
+        output.set(row, place);
+        place += row.length;
+    }
+    return output;
+}
+
+/**
+ * The part of the texts that the string takes which is scanned at a step, without layout in front of it.
+ * @param {Run} run
+ * @param {number} step
+ */
+export function stringPart({ history, input }, step) {
+    const part = history.strings.at(step);
+    if (!part) return null;
+    let { from } = part;
+    while (from < part.to && [9, 10, 13].includes(input[from])) from += 1;
+    const before = (/** @type {number} */ place) => textOfBytes(input.subarray(0, place)).length;
+    return { from: before(from), to: before(part.to) };
+}
+
+/**
+ * Where the string begins that was being scanned when a run ended, in words.
+ * @param {Run} run
+ */
+export function placeWords(run) {
+    const part = stringPart(run, run.history.end.step);
+    if (!part) return '';
+    const { script, input } = run.texts;
+    const inScript = part.from < script.length;
+    const front = (script + input).slice(inScript ? 0 : script.length, part.from);
+    const line = front.split('\n').length;
+    const column = [...front.slice(front.lastIndexOf('\n') + 1)].length + 1;
+    return `The string that was being scanned begins in line ${counted(line)}, column ${
+        counted(column)}${inScript ? '' : ' of the further input'}.`;
+}
+
+/**
+ * Makes a run of texts, to its end or until it is stopped.
+ * @param {{script: string, input: string}} texts
+ * @param {{cells: number, steps: number}} limits
+ * @param {AbortSignal} signal
+ * @param {number} most after how many steps it is stopped
+ * @param {(step: number) => void} [onStep] told of the step from time to time
+ * @returns {Promise<Run>}
+ */
+export async function makeRun(texts, limits, signal, most, onStep = () => {}) {
+    const input = bytesOfText(texts.script + texts.input);
+    const history = await History.of(input, limits);
+    history.most = most;
+    await history.run(signal, onStep);
+    const output = joinedOutput(history.output, history.end.printed);
+    history.output = [];
+    return { history, texts, input, output };
+}
+
+/**
+ * How a run ended, in words.
+ * @param {History} history
+ */
+export function fateWords(history) {
+    if (history.isCut) return 'Stopped: a link alone runs no further. Run makes all steps.';
+    return FATES[history.end.fate](history.limits);
+}
+
+/**
+ * How much a run did, in words.
+ * @param {Run} run
+ */
+export function amountWords({ history: { end }, input }) {
+    return `${several(end.step, 'step')}, peak ${several(end.peak, 'cell')}, ${
+        counted(end.consumed)} of ${several(input.length, 'byte')} read`;
+}
+
+/**
+ * @param {Run} run
+ * @returns {Done}
+ */
+export function doneIn({ history, output }) {
+    return {
+        scanned: history.machine.neutral(),
+        forms: history.forms(),
+        printed: output.subarray(0, history.shown.state.printed),
+    };
+}
+
+/**
+ * A step, where the same has been done up to it in a run as in another one; else null.
+ * @param {number} step
+ * @param {Done} done in the other one
+ * @param {Run} run which goes to that step
+ * @param {AbortSignal} signal
+ */
+export async function sameStep(step, done, run, signal) {
+    const { history } = run;
+    if (step > history.end.step) return null;
+    while (!history.approach(step)) {
+        await pause();
+        if (signal.aborted) return null;
+    }
+    const { scanned, forms, printed } = doneIn(run);
+    const isSame = isSameRow(done.scanned, scanned) && isSameRow(done.printed, printed)
+        && done.forms.length === forms.length && !changedForms(done.forms, forms).size;
+    return isSame ? step : null;
+}
