@@ -181,8 +181,7 @@ const other = await Session.open({ cells: 10 });
 other.turn('abc', { ended: true });
 before.restore(other.save());
 console.log(JSON.stringify({
-    errors, looks, longCalls, traces, suspicions, endless, many: many.warnings.length, needs, failed, again, kept, buffer,
-    mark,
-    parts, large: large.output.length, json,
+    errors, looks, longCalls, traces, suspicions, endless, many: many.warnings.length, needs, failed, again, kept,
+    buffer, mark, parts, large: large.output.length, json,
     shown: Object.keys(before),
 }));

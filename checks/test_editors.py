@@ -21,8 +21,9 @@ FILES = ['gtksourceview/trac.lang', 'nano/trac.nanorc', 'vim/syntax/trac.vim']
 
 def made(place, *words):
     """Has the names of a tree written anew, by the library of this one."""
-    return subprocess.run([sys.executable, 'checks/function_names.py', os.path.join(TOP, 'build', SHARED), *words], cwd=place,
-                          capture_output=True, text=True)
+    library = os.path.join(TOP, 'build', SHARED)
+    return subprocess.run([sys.executable, 'checks/function_names.py', library, *words], cwd=place, capture_output=True,
+                          text=True)
 
 
 def text_of(name):

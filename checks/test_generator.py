@@ -219,7 +219,8 @@ class Crafted(unittest.TestCase):
                         '$__stack_pointer (i64.add (local.get 3) (i64.const 96))) (i64.const 7)')
                 with self.subTest(shape=shape, how=how):
                     made = self.gives(body, '0' * 15 + '7')
-                    self.assertIn(f'room[{14 if "112" in shape else 12}]', made.text)
+                    # as many bytes, in words of 8
+                    self.assertIn(f'room[{(112 if "112" in shape else 96) // 8}]', made.text)
 
     def test_frames_that_are_refused(self):
         end, frame = '(global.get $__stack_pointer)', '(global.set $__stack_pointer {}) (i64.const 0)'

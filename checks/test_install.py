@@ -367,7 +367,9 @@ class Make(unittest.TestCase):
         self.assertEqual(done.returncode, 0, done.stderr)
         with open(log, encoding='utf-8') as file:
             calls = re.findall(r'^\d+ +(fsync|rename)\w*\(', file.read(), re.MULTILINE)
-        self.assertEqual((calls.count('fsync'), calls.count('rename')), (9, 9))
+        # seven units of the engine and two programs
+        self.assertEqual(sorted(os.listdir(os.path.join(self.top, 'build', 'units'))), [f'{n}.o' for n in range(1, 8)])
+        self.assertEqual((calls.count('fsync'), calls.count('rename')), (7 + 2, 7 + 2))
 
     def test_flags_for_the_linker(self):
         lines = self.make('-n', 'all', f'build/{SHARED}', 'LDFLAGS=--of-the-linker').stdout.splitlines()

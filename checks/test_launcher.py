@@ -277,6 +277,15 @@ chmod +x '{self.top}/{program}'
 """)
             self.assertEqual(self.ran(name), ('built: --cells 18\n', '', 3))
 
+    def test_without_make(self):
+        """What make builds is not built without it, and that is said."""
+        path = os.path.join(self.folder, 'without make')
+        os.mkdir(path)
+        for tool in ('sh', 'mkdir', 'readlink', 'find'):
+            os.symlink(shutil.which(tool), os.path.join(path, tool))
+        self.assertEqual(self.ran('trac_trace', path=path), (
+            '', 'trac_trace: it is not built yet, and make, which builds it, is not here\n', 70))
+
     def test_the_proved_program_that_shows_steps(self):
         """It is run where it is newer than the sources, and else the one in C."""
         proved = os.path.join('crates', 'trac_trace', 'out', 'trac_trace')

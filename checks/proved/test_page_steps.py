@@ -111,7 +111,8 @@ class Traces(Saving):
         script = example('factorial.trac')
         self.run_script(script.decode())
         lines = self.saved('save-trace', 'trace.txt').decode().splitlines()
-        self.assertEqual(lines, whole_trace(script, '--steps', '1000000')[0])
+        wanted = whole_trace(script, '--steps', '1000000')[0]
+        self.assertEqual(lines, wanted)
 
 
 if __name__ == '__main__':
