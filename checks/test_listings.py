@@ -127,6 +127,10 @@ def test_forms_stand_in_front(tmp_path):
     saved = tmp_path / 'saved.trac'
     assert ran(TERMINAL, '--quiet', '--batch', '--save', saved, front).returncode == 0
     assert ran(TERMINAL, '--batch', '--quiet', '--with', saved, listing).stdout == b'a\n'
+    clean = tmp_path / 'clean.trac'
+    clean.write_text("#(ps,a)'\n")
+    done = ran(TERMINAL, '--check', '--with', front, clean)
+    assert (done.stdout, done.returncode) == (b'', 0)
     missing = ran(TERMINAL, '--check', '--with', tmp_path / 'none', listing)
     assert missing.returncode == 4 and b"can't read" in missing.stderr and not missing.stdout
 

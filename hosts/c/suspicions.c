@@ -26,13 +26,13 @@ int check_script(checker *with, const text *script, trac_report *report) {
     return 0;
 }
 
-/* The status of a check, by how the run ended and by whether there are lines. */
-static int status_of(const trac_report *report) {
+/* The status of a check, by how the run ended and by whether there are lines of it. */
+static int status_of(const trac_report *report, int has_lines) {
     if (report->fate == TRAC_WORKSPACE)
         return WORKSPACE;
     if (report->fate == TRAC_STEPS)
         return STEPS;
-    return report->written ? SUSPICIOUS : DONE;
+    return has_lines ? SUSPICIOUS : DONE;
 }
 
 /* Adds a line of a check behind the name of the file. The lines in front of the file aren't counted. */
@@ -55,6 +55,7 @@ static void add_line(checker *with, const char *name, const char *line, size_t l
 
 /* Prints the lines of a check of a file. Gives the status. */
 static int print_lines(checker *with, const char *name, const trac_report *report) {
+    const size_t looks = with->print.length;
     const char *line = (const char *)with->lines.bytes, *const end = line + report->written;
     size_t before = 0;
     for (size_t i = 0; i < with->front.length; i++)
@@ -66,7 +67,9 @@ static int print_lines(checker *with, const char *name, const trac_report *repor
     }
     if (with->print.is_short)
         return NO_MEMORY;
-    return write_all(STDOUT_FILENO, with->print.bytes, with->print.length) ? status_of(report) : OUTPUT_FAILED;
+    if (!write_all(STDOUT_FILENO, with->print.bytes, with->print.length))
+        return OUTPUT_FAILED;
+    return status_of(report, with->print.length > looks);
 }
 
 /* Makes of a file what is checked: a first line that begins with `#!` becomes layout, so that the others keep their
