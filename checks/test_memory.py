@@ -5,7 +5,7 @@ import subprocess
 import tempfile
 import unittest
 
-from trac import PROGRAM, TOP
+from trac import PROGRAM, TOP, TRACER_IN_C
 
 HELLO = b"#(ps,hello)'"
 LONG = (b"#(ds,F,(abcabc))#(ss,F,b)#(ps,#(cl,F,(xyz))#(ad,99,1)#(gr,10,9,a,b))#(pf,F)'"
@@ -20,12 +20,9 @@ OTHER_WAYS = {'mmap', 'mmap64', 'mremap', 'brk', 'sbrk', 'valloc', 'pvalloc', 'r
               'strdup', 'syscall'}
 
 
-class Refused(unittest.TestCase):
-    # Of the program in C: the line of a refused request before the last; whether that ends it at once; how many
-    # requests there are at the least; and the bytes of the last for each cell, with room for a string beside the block.
-    LINE, ENDS_AT_ONCE, FEWEST, BYTES = BLOCK_LINE, False, 2, CELL + 1
-    # Its ways to memory.
-    WAYS = frozenset({'calloc', 'malloc', 'realloc'})
+class Refusing(unittest.TestCase):
+    """Runs a program whose requests are noted, and one of them refused."""
+    PROGRAM = PROGRAM
 
     @classmethod
     def setUpClass(cls):
@@ -48,12 +45,20 @@ class Refused(unittest.TestCase):
             given.seek(0)
             environment = dict(os.environ, LD_PRELOAD=self.library, REFUSED=str(number),
                                REQUESTS=str(requests.fileno()))
-            done = subprocess.run([PROGRAM, *words], stdin=given, capture_output=True, timeout=60,
+            done = subprocess.run([self.PROGRAM, *words], stdin=given, capture_output=True, timeout=60,
                                   pass_fds=[requests.fileno()], env=environment)
             left = os.read(given.fileno(), len(script))
             requests.seek(0)
             sizes = [int(line) for line in requests.read().split()]
         return done.stdout, done.stderr, done.returncode, left, sizes
+
+
+class Refused(Refusing):
+    # Of the program in C: the line of a refused request before the last; whether that ends it at once; how many
+    # requests there are at the least; and the bytes of the last for each cell, with room for a string beside the block.
+    LINE, ENDS_AT_ONCE, FEWEST, BYTES = BLOCK_LINE, False, 2, CELL + 1
+    # Its ways to memory.
+    WAYS = frozenset({'calloc', 'malloc', 'realloc'})
 
     def test_each_request_in_turn(self):
         words = ['--cells', '18', '--report']
@@ -93,3 +98,17 @@ class Refused(unittest.TestCase):
         names = {line.split()[1].split('@')[0] for line in lines.splitlines()}
         self.assertEqual(names & ALLOCATORS, self.WAYS)
         self.assertEqual(names & OTHER_WAYS, set())
+
+
+class Tracer(Refusing):
+    PROGRAM = TRACER_IN_C
+
+    def test_the_lines_that_are_made_are_written(self):
+        """They are, where there is no memory for more of them."""
+        script = b"#(ds,A,(%s))#(ps,#(cl,A))'" % (b'x' * 3000)
+        ample, *_, sizes = self.run_refusing(0, script)
+        few, lines, status, _, _ = self.run_refusing(len(sizes), script)
+        self.assertEqual((lines, status), (b'trac_trace: no memory\n', 6))
+        self.assertTrue(ample.startswith(few) and few.endswith(b'\n'))
+        longest = max(map(len, ample.splitlines(True)))
+        self.assertGreater(len(few) + longest, sizes[-2])

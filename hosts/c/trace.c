@@ -134,7 +134,7 @@ static trac_report run(tracer *of, last_steps *last) {
             last->numbers[last->count++ % last->most] = noted;
         }
     } while (report.fate == TRAC_GOING);
-    if (report.fate != TRAC_OUTPUT_FAILED && report.fate != TRAC_NO_MEMORY && !flush(of))
+    if (report.fate != TRAC_OUTPUT_FAILED && !flush(of))
         report.fate = TRAC_OUTPUT_FAILED;
     return report;
 }
