@@ -250,5 +250,5 @@ clean:
 check-tools:
 	@checks/tools
 
-.PHONY: all help prove programs check check-machines test proofs check-proved check-timed edits generate rust types \
-    dist libraries page npm install uninstall needs-prefix package clean check-tools
+.PHONY: all help prove programs check check-machines test proofs check-proved check-timed edits new-function generate \
+    rust editors types dist libraries page npm install uninstall needs-prefix package clean check-tools

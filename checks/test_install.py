@@ -358,6 +358,13 @@ class Make(unittest.TestCase):
         for line in lines[:-1]:
             self.assertRegex(line, r'^make( [\w-]+)? .*\([^;)]+; [^;)]+\)')
 
+    def test_no_word_is_taken_for_a_file(self):
+        with open(os.path.join(TOP, 'Makefile'), encoding='utf-8') as file:
+            text, _, phony = file.read().replace('\\\n', ' ').partition('.PHONY:')
+        words = re.findall(r'^([a-z-]+):', text, re.MULTILINE)
+        self.assertGreater(len(words), 20)
+        self.assertEqual(set(words) - set(phony.split()), set())
+
     def test_nothing_takes_what_lost_power_leaves(self):
         """What is renamed is on the disk by then: else the name could be there, and nothing in the file."""
         log = os.path.join(self.top, 'log')
