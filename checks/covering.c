@@ -66,9 +66,12 @@ static void see_both(size_t room) {
     }
     const size_t arguments = trac_argument_count(&proved.machine);
     must(arguments == c_trac_argument_count(&in_c.machine), "the arguments");
-    for (size_t i = 0; i <= arguments; i++)
+    for (size_t i = 0; i <= arguments; i++) {
+        memset(lines[0], 0, room);
+        memset(lines[1], 0, room);
         must(trac_argument(&proved.machine, i, lines[0], room) == c_trac_argument(&in_c.machine, i, lines[1], room) &&
-                 (room == 0 || memcmp(lines[0], lines[1], 1) == 0), "an argument");
+                 memcmp(lines[0], lines[1], room) == 0, "an argument");
+    }
 }
 
 /* Opens both machines over blocks of zeros. Gives 0 where both are refused. */
@@ -130,9 +133,13 @@ static void functions_of_both(void) {
         memset(&a, 0, sizeof a);
         memset(&b, 0, sizeof b);
         must(trac_function(which, &a) == c_trac_function(which, &b) && memcmp(&a, &b, sizeof a) == 0, "a function");
-        for (uint32_t text = 0; text < 8; text++)
-            must(trac_function_text(which, text, lines[0], text * 9) ==
-                     c_trac_function_text(which, text, lines[1], text * 9), "the text of a function");
+        for (uint32_t text = 0; text < 8; text++) {
+            const size_t room = text * 9;
+            memset(lines[0], 0, room);
+            memset(lines[1], 0, room);
+            must(trac_function_text(which, text, lines[0], room) == c_trac_function_text(which, text, lines[1], room) &&
+                     memcmp(lines[0], lines[1], room) == 0, "the text of a function");
+        }
     }
 }
 
