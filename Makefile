@@ -60,11 +60,12 @@ help:
 build/trac: hosts/c/trac.c hosts/c/words.h $(RUN_UNITS)
 	$(CC) -std=c11 $(CPPFLAGS) $(CFLAGS) $(LDFLAGS) -o $(NEW) hosts/c/trac.c $(RUN_UNITS) && $(DONE)
 
-build/trac_terminal: $(TERMINAL) hosts/c/terminal.h hosts/c/words.h $(UNITS)
+# The launcher takes these for old where any file of hosts/c is newer.
+build/trac_terminal: hosts/c/*.[ch] $(UNITS)
 	{ $(CC) -std=c11 $(CPPFLAGS) $(CFLAGS) $(LDFLAGS) -o $(NEW) $(TERMINAL) $(UNITS) $(EDITING) 2>/dev/null || \
 	    $(CC) -std=c11 $(CPPFLAGS) $(CFLAGS) $(LDFLAGS) -o $(NEW) $(TERMINAL) $(UNITS); } && $(DONE)
 
-build/trac_trace: $(TRACER) hosts/c/terminal.h hosts/c/words.h $(UNITS)
+build/trac_trace: hosts/c/*.[ch] $(UNITS)
 	$(CC) -std=c11 $(CPPFLAGS) $(CFLAGS) $(LDFLAGS) -o $(NEW) $(TRACER) $(UNITS) && $(DONE)
 
 ## make prove      the proved program, crates/trac_cli/out/trac_cli (the Rattle kit; 12 minutes)

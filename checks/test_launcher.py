@@ -24,6 +24,7 @@ printf '#!/bin/sh\\necho "C: $*"; exit 3\\n' >"$2"
 chmod +x "$2"
 """
 CHANGED = 'trac: the sources changed, and this is the engine as it was; make prove proves it\n'
+CHANGED_OF_MAKE = '{}: the sources changed, and this is the engine as it was; make generate makes it anew\n'
 # What a run by a user gets who may write nothing.
 NOBODY = 65534
 AS_NOBODY = {'user': NOBODY, 'group': NOBODY} if os.getuid() == 0 else {}
@@ -277,6 +278,16 @@ chmod +x '{self.top}/{program}'
 """)
             self.assertEqual(self.ran(name), ('built: --cells 18\n', '', 3))
 
+    def test_make_builds_what_the_launcher_finds_old(self):
+        typing = os.path.join('hosts', 'c', 'typing.c')
+        for name in ('trac_terminal', 'trac_trace'):
+            self.ran(name)
+            self.put(os.path.join('build', name), 'echo old')
+            self.assertEqual(self.ran(name)[0], 'old\n')
+            self.date(typing, 5)
+            self.assertEqual(self.ran(name)[::2], ('C: --cells 18\n', 3))
+            self.date(typing, -5)
+
     def test_without_make(self):
         """What make builds is not built without it, and that is said."""
         path = os.path.join(self.folder, 'without make')
@@ -289,11 +300,19 @@ chmod +x '{self.top}/{program}'
     def test_the_proved_program_that_shows_steps(self):
         """It is run where it is newer than the sources, and else the one in C."""
         proved = os.path.join('crates', 'trac_trace', 'out', 'trac_trace')
-        self.put(os.path.join('build', 'trac_trace'), 'echo in C')
+        for name in ('trac_trace', 'trac_terminal'):
+            self.put(os.path.join('build', name), 'echo in C')
         self.put(proved, 'echo "proved: $*"')
         self.assertEqual(self.ran('trac_trace'), ('proved: --cells 18\n', '', 0))
+        self.assertEqual(self.ran('trac_terminal'), ('in C\n', '', 0))
         self.edit('crates.txt')
         self.assertEqual(self.ran('trac_trace'), ('in C\n', '', 0))
+        self.edit(SOURCE)
+        for name in ('trac_trace', 'trac_terminal'):
+            self.assertEqual(self.ran(name), ('in C\n', CHANGED_OF_MAKE.format(name), 0))
+        os.remove(os.path.join(self.top, proved))
+        for name in ('trac_trace', 'trac_terminal'):
+            self.assertEqual(self.ran(name), ('in C\n', '', 0))
 
 
 class Clone(unittest.TestCase):
