@@ -1,5 +1,5 @@
-"""The documents: each link leads to a file and a heading that are there, the words are spelt right, and the index of
-the checks names each file of checks/ once."""
+"""The documents: each link leads to a file and a heading that are there, the words are spelt right, the page of the
+library has each fate, and the index of the checks names each file of checks/ once."""
 import glob
 import os
 import re
@@ -53,6 +53,13 @@ class Documents(unittest.TestCase):
         code += glob.glob(os.path.join(TOP, 'hosts', '*', '*.js')) + [os.path.join(TOP, 'hosts', 'c', 'trac.h')]
         told = subprocess.run(['codespell', '-L', WORDS, *pages, *code], capture_output=True, text=True, check=False)
         self.assertEqual(told.stdout, '')
+
+    def test_the_page_of_the_library_has_each_fate(self):
+        _, _, fates = read(os.path.join(TOP, 'hosts', 'c', 'trac.h')).partition('/* How a run or a turn ended')
+        names = re.findall(r'^#define (TRAC_\w+)', fates.partition('\n\n')[0], re.MULTILINE)
+        self.assertGreater(len(names), 10)
+        told = read(os.path.join(TOP, 'docs', 'trac.3')).partition('.SH RETURN VALUE')[2].partition('.SH ')[0]
+        self.assertEqual(set(names) - set(re.findall(r'TRAC_\w+', told)), set())
 
     def test_the_index_of_the_checks(self):
         found = subprocess.run(['git', 'ls-files', '-z', '--cached', '--others', '--exclude-standard'], text=True,

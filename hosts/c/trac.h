@@ -319,8 +319,8 @@ TRAC_API size_t trac_form_count(const trac_machine *machine);
  *     trac_form form = TRAC_NO_FORM;
  *     while (trac_next_form(machine, &form)) ...
  *
- * A place is good until the machine's next trac_turn, trac_again, trac_moved or trac_open: then it is no form's any
- * more, and this gives 0. It is good while the machine's words stay where they are. */
+ * A place is good until the machine's next trac_turn, trac_trace_step, trac_again, trac_moved or trac_open: then it is
+ * no form's any more, and this gives 0. It is good while the machine's words stay where they are. */
 TRAC_API int trac_next_form(const trac_machine *machine, trac_form *form);
 
 /* The name of a form. */
