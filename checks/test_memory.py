@@ -112,3 +112,18 @@ class Tracer(Refusing):
         self.assertTrue(ample.startswith(few) and few.endswith(b'\n'))
         longest = max(map(len, ample.splitlines(True)))
         self.assertGreater(len(few) + longest, sizes[-2])
+
+
+class Listing(Refusing):
+    PROGRAM = os.path.join(TOP, 'build', 'trac_terminal')
+
+    def test_a_listing_is_made_right_as_a_whole_or_not_at_all(self):
+        with tempfile.NamedTemporaryFile() as listing:
+            listing.write(b"#(DS,A,b)\r\n#(PS,#(A))'")
+            listing.flush()
+            words = ['--convert', listing.name]
+            ample, *_, sizes = self.run_refusing(0, b'', *words)
+            self.assertEqual(ample, b"#(DS,A,b)\n#(PS,#(cl,A))'")
+            for number in range(1, len(sizes) + 1):
+                with self.subTest(request=number, of=len(sizes)):
+                    self.assertIn(self.run_refusing(number, b'', *words)[0], (ample, b''))

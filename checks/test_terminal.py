@@ -727,6 +727,7 @@ class Devices(Room):
                 (output, lines, status), _ = run_refusing(number)
                 self.assertIn(status, (0, 4, 5, 6))
                 self.assertTrue(ample[0].startswith(output), output)
+                self.assertLessEqual(set(re.findall(r'no function (\w+)', lines)), {'foo'})
                 if status == 0:
                     self.assertEqual((output, self.got('saved')), (ample[0], saved))
                 else:

@@ -77,7 +77,7 @@ static int take_argument(text *to, const trac_machine *machine, size_t which) {
 
 /* Looks at the call that the next step performs. */
 static void look_at_call(watch *of, const trac_machine *machine) {
-    if (!take_argument(&of->function, machine, 0))
+    if (!function_at(0) || !take_argument(&of->function, machine, 0))
         return;
     const known_function *const function = function_named(of->function.bytes, of->function.length);
     if (!function) {

@@ -176,6 +176,7 @@ static void count_lines(findings *found, const text *script) {
 /* Adds a listing as a script of this processor, and notes what was changed and what wasn't. */
 static void convert(text *to, const text *from, findings *found) {
     text plain = {NULL, 0, 0, 0}, names = {NULL, 0, 0, 0};
+    to->is_short |= !function_at(0);
     add_plain(&plain, from, found);
     count_lines(found, &plain);
     find_names(&names, &plain);
