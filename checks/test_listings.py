@@ -95,6 +95,10 @@ def test_rubouts_take_whole_characters_and_stop_at_a_line(tmp_path):
     path = tmp_path / 'listing.trac'
     path.write_bytes("a\u00e9\x7fb\n\x7f\x08c\x08".encode())
     assert ran(TERMINAL, '--convert', path).stdout == b'ab\n'
+    for listing, script in [(b'ab\xb4\x7f', b'ab'), (b'\xb4\x7fb', b'b'), (b'a\n\xb4\xb4\x7f', b'a\n\xb4'),
+                            (b'a\xc3\x7f', b'a'), ('a\u2022\U0001d11e\x7f\x7f'.encode(), b'a')]:
+        path.write_bytes(listing)
+        assert ran(TERMINAL, '--convert', path).stdout == script
 
 
 def test_what_is_left_out_is_told_with_its_line(tmp_path):

@@ -35,13 +35,17 @@ static size_t quote_length(const uint8_t *at, size_t left) {
     return left > 1 && at[0] == 0xC2 && at[1] == 0xB4 ? 2 : 0;
 }
 
-/* Takes the last character of a line back, with all its bytes. */
+/* Takes the last character of a line back, with all its bytes; of what is no character, one byte. */
 static void take_back(text *of) {
-    size_t length = of->length;
-    while (length && (of->bytes[length - 1] & 0xC0) == 0x80)
-        length--;
-    if (length && of->bytes[length - 1] != '\n')
-        of->length = length - 1;
+    uint8_t last[4] = {0, 0, 0, 0};
+    size_t length = of->length < 4 ? of->length : 4;
+    for (; length > 1; length--) {
+        memcpy(last, of->bytes + of->length - length, length);
+        if (length_of_character(last) == length)
+            break;
+    }
+    if (length && of->bytes[of->length - 1] != '\n')
+        of->length -= length;
 }
 
 /* Adds the characters of a listing with one kind of line ends and of apostrophes, and without what was taken back. */
