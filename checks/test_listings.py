@@ -135,6 +135,11 @@ def test_forms_stand_in_front(tmp_path):
     clean.write_text("#(ps,a)'\n")
     done = ran(TERMINAL, '--check', '--with', front, clean)
     assert (done.stdout, done.returncode) == (b'', 0)
+    front.write_text("#!/usr/bin/trac_terminal (\n#(ds,LIB,a)'\n#(ds,LUB,a)")
+    done = ran(TERMINAL, '--check', '--with', front, listing)
+    assert (done.stdout, done.returncode) == (b'', 0)
+    front.write_text("#(hl)'")
+    assert ran(TERMINAL, '--check', '--with', front, listing).stdout == b''
     missing = ran(TERMINAL, '--check', '--with', tmp_path / 'none', listing)
     assert missing.returncode == 4 and b"can't read" in missing.stderr and not missing.stdout
 

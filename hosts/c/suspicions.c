@@ -72,16 +72,20 @@ static int print_lines(checker *with, const char *name, const trac_report *repor
     return status_of(report, with->print.length > looks);
 }
 
-/* Makes of a file what is checked: a first line that begins with `#!` becomes layout, so that the others keep their
- * numbers, and what is to stand in front does so. Notes where it looks like an old listing. Gives 0 where there is no
- * memory. */
+/* Makes layout of a first line that begins with `#!`, so that the others keep their numbers. */
+static void blank_head(text *of) {
+    const size_t head = head_length(of);
+    if (head)
+        memset(of->bytes, '\r', head - (of->bytes[head - 1] == '\n'));
+}
+
+/* Makes of a file what is checked: what is to stand in front does so. Notes where it looks like an old listing. Gives 0
+ * where there is no memory. */
 static int prepare(checker *with, const char *name, text *script) {
     text whole = {NULL, 0, 0, 0};
-    const size_t head = head_length(script);
     with->print.length = 0;
     add_looks(&with->print, name, script);
-    if (head)
-        memset(script->bytes, '\r', head - (script->bytes[head - 1] == '\n'));
+    blank_head(script);
     if (!with->front.length)
         return 1;
     add_bytes(&whole, with->front.bytes, with->front.length);
@@ -120,6 +124,7 @@ int check_files(char *const *names, size_t count, const char *with_file, trac_ce
         say_not_read(with_file);
         return INPUT_FAILED;
     }
+    blank_head(&with.front);
     if (with.front.length)
         add_text(&with.front, "\n");
     for (size_t i = 0; i < count && worst != OUTPUT_FAILED; i++)
