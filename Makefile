@@ -44,7 +44,7 @@ COMPILE = compile() { \
         -DTRAC_UNIT=$$1 -c -o $$file.$$$$ hosts/c/trac_engine.c && sync $$file.$$$$ && \
     mv -f $$file.$$$$ $$file; }
 WAIT = for process in $$started; do wait $$process || exit; done
-# In trac_check one function has ten thousand lines, which gcc compiles in half the time by -O1, and no worse.
+# In trac_check one function has seven thousand lines, which gcc compiles in half the time by -O1, and no worse.
 CHECK_CFLAGS = -O1
 # The shared library is another wherever trac_abi refuses a program: where the version differs but for the patch.
 ABI != cut -d . -f 1,2 VERSION
