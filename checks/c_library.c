@@ -318,7 +318,7 @@ static int pointers(void) {
     if (traces())
         return 11;
     if (places() || moves() || refusals())
-        return 11;
+        return 12;
     return sizeof cells != 512 || !trac_abi(TRAC_VERSION_NUMBER, sizeof machine, sizeof(trac_report)) ||
            trac_abi(TRAC_VERSION_NUMBER + 1000, sizeof machine, sizeof(trac_report)) ||
            trac_abi(TRAC_VERSION_NUMBER, sizeof form - 1, sizeof(trac_report)) ||

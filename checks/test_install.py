@@ -340,7 +340,7 @@ class Make(unittest.TestCase):
         return subprocess.run(['make', *words], cwd=self.top, capture_output=True, text=True, check=False)
 
     def test_nothing_takes_what_a_kill_leaves(self):
-        for name in ('build/units/1.o', 'build/units/5.o', 'build/trac', 'build/trac_terminal'):
+        for name in ('build/units/1.o', 'build/units/5.o', 'build/trac', 'build/trac_terminal', 'build/trac_trace'):
             with self.subTest(name=name):
                 open(self.killed, 'wb').close()
                 self.assertNotEqual(self.make(name, f'CC={self.compiler}').returncode, 0)
@@ -369,18 +369,18 @@ class Make(unittest.TestCase):
         """What is renamed is on the disk by then: else the name could be there, and nothing in the file."""
         log = os.path.join(self.top, 'log')
         done = subprocess.run(['strace', '-f', '-e', 'trace=fsync,rename,renameat,renameat2', '-o', log,
-                               'make', 'build/trac', 'build/trac_terminal', f'CC={self.compiler}'],
+                               'make', 'build/trac', 'build/trac_terminal', 'build/trac_trace', f'CC={self.compiler}'],
                               cwd=self.top, capture_output=True, text=True, check=False)
         self.assertEqual(done.returncode, 0, done.stderr)
         with open(log, encoding='utf-8') as file:
             calls = re.findall(r'^\d+ +(fsync|rename)\w*\(', file.read(), re.MULTILINE)
-        # seven units of the engine and two programs
+        # seven units of the engine and three programs
         self.assertEqual(sorted(os.listdir(os.path.join(self.top, 'build', 'units'))), [f'{n}.o' for n in range(1, 8)])
-        self.assertEqual((calls.count('fsync'), calls.count('rename')), (7 + 2, 7 + 2))
+        self.assertEqual((calls.count('fsync'), calls.count('rename')), (7 + 3, 7 + 3))
 
     def test_flags_for_the_linker(self):
         lines = self.make('-n', 'all', f'build/{SHARED}', 'LDFLAGS=--of-the-linker').stdout.splitlines()
-        for target in ('build/trac.', 'build/trac_terminal.', 'build/libtrac.so'):
+        for target in ('build/trac.', 'build/trac_terminal.', 'build/trac_trace.', 'build/libtrac.so'):
             linked = [line for line in lines if f'-o {target}' in line]
             self.assertGreater(len(linked), 0)
             for line in linked:
