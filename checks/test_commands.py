@@ -132,9 +132,9 @@ class Commands(unittest.TestCase):
         told = done.stdout + ('\n' if done.stdout and not done.stdout.endswith('\n') else '') + done.stderr
         if shown is not None:
             self.assertEqual(told, shown)
-        # The tracer says on standard output how a run ended.
-        if 'trac_trace' not in command and (shown is None or not done.stderr):
-            self.assertEqual(done.returncode, 0, told)
+        # The tracer says on standard output how a run ended, and what is suspicious.
+        if shown is None or not done.stderr:
+            self.assertIn(done.returncode, (0, 1, 3, 7) if 'trac_trace' in command else (0,), told)
 
     def follow(self, each, place):
         """Does what a page shows: writes a file, or runs commands."""
@@ -159,7 +159,7 @@ class Commands(unittest.TestCase):
 
     def test_a_command_that_ends_otherwise_fails(self):
         wrong = ('    ./trac --sells 18 < examples/hanoi.trac\n', "    $ printf 'abc' | ./trac\n    abd\n",
-                 '```sh\nnosuch --help\n```\n')
+                 '```sh\nnosuch --help\n```\n', '    ./trac_trace --sells 18 < examples/hanoi.trac\n')
         with TemporaryDirectory() as place:
             copied(place)
             for text in wrong:
