@@ -27,6 +27,8 @@ import wasm_to_c  # noqa: E402
 
 PLACES = (65536, 196608)
 COMPILERS = (['gcc', '-O2'], ['clang', '-O2'], ['tcc'])
+# One that sees what leaves a function's frame.
+WATCHING = ['gcc', '-O1', '-fsanitize=address']
 BATCH, GATE, LEAST = 20, 300, 100
 ENTRIES = """static const struct entry {{
     const char *name; u64 (*function)(word, u32, u64);
@@ -168,11 +170,12 @@ class Crafted(unittest.TestCase):
     """Modules that are written by hand."""
 
     def gives(self, body, *results, more=''):
-        """What the function gives for the first arguments of modules.c, with every compiler and in Node."""
+        """What the function gives for the first arguments of modules.c, with every compiler and in Node; no frame is
+        left."""
         with tempfile.TemporaryDirectory() as folder:
             made = Translation(folder, 'm', *(placed(crafted(body, more=more), bytes_and_words, at) for at in PLACES))
             file = program_of(folder, [made])
-            for answers in (answers_of_node([made]), *(answers_in_c(file, compiler) for compiler in COMPILERS)):
+            for answers in (answers_of_node([made]), *(answers_in_c(file, each) for each in (*COMPILERS, WATCHING))):
                 found = [line.split()[1] for line in answers if line.startswith('f ')]
                 self.assertEqual(found[:len(results)], list(results), made.text)
         return made
