@@ -564,10 +564,8 @@ static int refuse_together(const command *given) {
 /* Prints old listings as scripts. Gives the worst status. */
 static int convert_files(const command *given) {
     int worst = DONE;
-    for (size_t i = 0; i < given->file_count && worst != OUTPUT_FAILED; i++) {
-        const int status = convert_file(given->files[i]);
-        worst = status > worst ? status : worst;
-    }
+    for (size_t i = 0; i < given->file_count && worst != OUTPUT_FAILED; i++)
+        worst = worse(worst, convert_file(given->files[i]));
     return worst;
 }
 
