@@ -10,6 +10,8 @@ import subprocess
 import sys
 import tempfile
 
+from function_names import functions
+
 TOP = os.path.dirname(os.path.dirname(os.path.abspath(__file__)))
 ROWS = re.compile(r'^## Where a function is named\n.*?^\|---.*?\n(.*?)^(?!\|)', re.MULTILINE | re.DOTALL)
 LANGUAGE = 'crates/trac_language'
@@ -176,7 +178,7 @@ def find(place):
             'gtksourceview/trac.lang', 'nano/trac.nanorc', 'vim/syntax/trac.vim')),
         'the fuzzers': '"id,"' in read(place, 'checks/fuzz/words.dict'),
         'the page': 'The value is X.'.encode() in module_of(place),
-        'the names': b'id' in names_of(library),
+        'the names': 'id' in dict(functions(library)),
     }
     return sorted(name for name, is_found in found.items() if not is_found)
 
@@ -184,18 +186,6 @@ def find(place):
 def module_of(place):
     with open(os.path.join(place, 'hosts', 'wasm', 'trac.wasm'), 'rb') as file:
         return file.read()
-
-
-def names_of(library):
-    import ctypes
-    engine = ctypes.CDLL(library)
-    engine.trac_function_text.argtypes = [ctypes.c_size_t, ctypes.c_uint32, ctypes.c_char_p, ctypes.c_size_t]
-    names = []
-    for which in range(engine.trac_function_count()):
-        name = ctypes.create_string_buffer(8)
-        engine.trac_function_text(which, 0, name, 7)
-        names.append(name.value)
-    return names
 
 
 def main():

@@ -1,5 +1,6 @@
 """Each function of the engine's table stands wherever a function must be named by hand: in the manual and its page, in
-the cases of conformance, among the edits that are refused, and among the jobs that grow."""
+the cases of conformance, and among the jobs that grow. No other code of bench/, editors/ and hosts/ quotes more than a
+few of their names, and the grammar of scripts.py has none that is no function's."""
 import os
 import re
 import sys
@@ -10,10 +11,8 @@ from trac import TOP
 
 sys.path.append(os.path.join(TOP, 'bench'))
 QUOTED = re.compile(r"""(['"`])(\w\w)\1""")
-# Where two letters in quotes are no function's name, or the texts for people on functions.
-NAMES_BY_HAND = {
-    'bench/growing.py', 'hosts/page/functions.js', 'checks/fuzz/words.dict',
-}
+# The jobs that grow.
+NAMES_BY_HAND = {'bench/growing.py'}
 
 
 def read(*name):
@@ -92,4 +91,9 @@ def test_no_list_of_functions_stands_beside_the_table(functions):
                 names = {quoted for _, quoted in QUOTED.findall(read(path))} & set(functions)
                 if len(names) > 4:
                     found[path] = len(names)
-    assert set(found) <= NAMES_BY_HAND, found
+    assert set(found) == NAMES_BY_HAND, found
+
+
+def test_the_grammar_of_scripts_has_functions_alone(functions):
+    from scripts import FUNCTIONS
+    assert set(FUNCTIONS) - set(functions) == {'zz'}
