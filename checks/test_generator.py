@@ -196,6 +196,18 @@ class Crafted(unittest.TestCase):
         made = self.gives(body, '0000000080000000', '0' * 16, '0' * 16, '0000000080000000')
         self.assertIn('(u32)((i32)a2 < 1) << 31', made.text)
 
+    def test_what_is_read_before_a_call_that_changes_it(self):
+        more = '(func $g (param i64) (result i64) (i64.store (local.get 0) (i64.const 5)) (i64.const 0))'
+        self.gives('(i64.store (local.get 0) (i64.const 7)) (i64.add (i64.load (local.get 0)) (call $g (local.get 0)))',
+                   '0' * 15 + '7', more=more)
+
+    def test_a_call_in_a_condition_is_always_made(self):
+        more = '(func $h (param i64) (result i32) (i64.store (local.get 0) (i64.const 5)) (i32.const 1))'
+        both = ('(i32.and (i32.eq (i32.add (local.get 1) (i32.const 3)) (i32.const 77)) '
+                '(i32.ne (call $h (local.get 0)) (i32.const 0)))')
+        self.gives(f'(if {both} (then (i64.store offset=8 (local.get 0) (i64.const 3)))) (i64.load (local.get 0))',
+                   '0' * 15 + '5', more=more)
+
     def test_a_value_that_nothing_reads(self):
         more = '(func $g (param i64 i32) (result i32) (i32.store (local.get 0) (local.get 1)) (local.get 1))'
         body = '(drop (call $g (local.get 0) (i32.const 9))) (i64.load32_u (local.get 0))'

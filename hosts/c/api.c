@@ -328,7 +328,7 @@ size_t trac_argument(const trac_machine *machine, size_t which, void *to, size_t
 size_t trac_function_count(void) { return trac_engine_function_count(); }
 
 uint32_t trac_function(size_t which, trac_function_facts *facts) {
-    if (!facts || which >= trac_engine_function_count())
+    if (!facts || !is_aligned(facts, sizeof(uint32_t)) || which >= trac_engine_function_count())
         return TRAC_REFUSED;
     uint32_t *const each[] = {&facts->uses,    &facts->forms,        &facts->needs_form, &facts->changes_forms,
                               &facts->gives,   &facts->default_argument, &facts->chooses, &facts->reads,

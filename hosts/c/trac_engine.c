@@ -4,13 +4,13 @@
  * and what compilers make of it (memcpy, memset) alone.
  *
  * Crates: trac_language trac_space trac_values trac_store trac_forms trac_devices trac_functions trac_laws trac_core trac_events trac_warnings trac_lent trac_views trac_tracer trac_checker trac_c
- * Sources: eca469a7b9f78a40e1bff356ce53f946728189c39c9d7c5436dd143377c40b4e
+ * Sources: f007f21f154ed429432d9c914ec51ebe8f71aa23b20529d93e4697e4a0f56b8a
  * Kit: rattle-kit-13f logic dac8208d650f15bf
  * Tools: wasm-opt version 108, wabt 1.0.32
  */
-/* What is compiled, with a bit for each unit of those that are compiled beside each other: all; all but trac_check;
- * that alone; or one unit by -DTRAC_UNIT=1 to 7. The first four are enough where trac_check isn't called. What a unit
- * has for another begins with trac_unit_, and is hidden from what they are linked with. */
+/* What is compiled, with a bit for each unit of those that are compiled beside each other: all; all but trac_check and
+ * trac_trace_step; these alone; or one unit by -DTRAC_UNIT=1 to 7. The first four are enough where neither of the two
+ * is called. What a unit has for another begins with trac_unit_, and is hidden from what they are linked with. */
 #ifndef TRAC_UNIT
 #define INTERNAL static
 #elif (defined(__GNUC__) || defined(__TINYC__)) && !defined(_WIN32)
@@ -30,7 +30,7 @@
 #else
 #define UNITS 0xff
 #endif
-/* The units that have the functions of trac.h: the first has all but trac_check, and the fifth that. */
+/* The units that have the functions of trac.h: the first has all but these two, and the fifth has them. */
 #define HAS_API (UNITS & 0x22)
 #if defined(TRAC_UNIT) && TRAC_UNIT < 5 && !defined(TRAC_WITHOUT_CHECK)
 #define TRAC_WITHOUT_CHECK
@@ -637,7 +637,14 @@ const u8 tables[7888] = {
 
 /* Whether so many bytes behind the beginning of the tables have one of an address. */
 HELPER int has_address(word offset, word count) {
-    return count && offset + (count - 1) - 6488u < 1343u + count && ((count && offset + (count - 1) - 6488u < 7u + count) || (count && offset + (count - 1) - 6976u < 31u + count) || (count && offset + (count - 1) - 7040u < 95u + count) || (count && offset + (count - 1) - 7184u < 119u + count) || (count && offset + (count - 1) - 7328u < 23u + count) || (count && offset + (count - 1) - 7536u < 183u + count) || (count && offset + (count - 1) - 7752u < 79u + count));
+    return count && offset + (count - 1) - 6488u < 1343u + count && (
+        (count && offset + (count - 1) - 6488u < 7u + count) ||
+        (count && offset + (count - 1) - 6976u < 31u + count) ||
+        (count && offset + (count - 1) - 7040u < 95u + count) ||
+        (count && offset + (count - 1) - 7184u < 119u + count) ||
+        (count && offset + (count - 1) - 7328u < 23u + count) ||
+        (count && offset + (count - 1) - 7536u < 183u + count) ||
+        (count && offset + (count - 1) - 7752u < 79u + count));
 }
 /* A place where so many bytes have none of them, of the tables or elsewhere. */
 HELPER word no_address(word place, word count) {
@@ -44731,7 +44738,7 @@ size_t trac_argument(const trac_machine *machine, size_t which, void *to, size_t
 size_t trac_function_count(void) { return trac_engine_function_count(); }
 
 uint32_t trac_function(size_t which, trac_function_facts *facts) {
-    if (!facts || which >= trac_engine_function_count())
+    if (!facts || !is_aligned(facts, sizeof(uint32_t)) || which >= trac_engine_function_count())
         return TRAC_REFUSED;
     uint32_t *const each[] = {&facts->uses,    &facts->forms,        &facts->needs_form, &facts->changes_forms,
                               &facts->gives,   &facts->default_argument, &facts->chooses, &facts->reads,

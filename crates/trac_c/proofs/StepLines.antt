@@ -7,7 +7,8 @@ use Rattle.trac_devices.specs.Devices.{Stream}
 use Rattle.trac_devices.specs.Slices.{SliceInput, slice_input}
 use Rattle.trac_language.specs.declared.fate.Fate.TheVariants.{Halted, InputEnded, InputFailed, OutputFailed, Steps, Workspace}
 use Rattle.trac_c.specs.Reports.{number}
-use Rattle.trac_c.specs.Turns.{TellsTurn}
+use Rattle.trac_core.specs.Machine.{Moment}
+use Rattle.trac_c.specs.Turns.{TellsTurn, waits_for_input}
 use Rattle.trac_c.specs.declared.turn.Turn.TheVariants.{Waits}
 use Rattle.std.specs.Prelude.{OnOk, is_ok}
 use Rattle.std.specs.declared.result.Result.{Result}
@@ -39,30 +40,39 @@ number-not-7 Steps is = omega (arith, is)
 number-not-7 InputFailed is = omega (arith, is)
 number-not-7 OutputFailed is = omega (arith, is)
 
--- a turn that waits leaves the machine as it was
+-- a turn that waits leaves the machine as it was, whose run isn't over, and whose next step waits for input
 module _ (ended : Bool) (input buffer : Text) (old new : MachineState) (told : TracReport) (waits : told.fate ≡ 7) where
-  by-last : (last : Turn) (left : Stream) → TellsTurn ended 1 input buffer old new told last left → new ≡ old
-  by-last Went left tells =
+  abbrev pub WaitsThere : Type 0
+  WaitsThere = (new ≡ old) × (old.fate ≡ None) × (waits_for_input ended old input ≡ true)
+
+  by-last : (last : Turn) (left : Stream) → old.fate ≡ None → TellsTurn ended 1 input buffer old new told last left → WaitsThere
+  by-last Went left going tells =
       let is = tells.fate in
       absurd (omega (arith, waits, is))
-  by-last Waits left tells =
+  by-last Waits left going tells =
       let ends = tells.turned.1.1.ends in
       go tells.turned.0 ends.0 tells.turned.1.1.goes
     where
-      go : (done : ℕ) → done < 1 → Goes ended done (moment old (record { bytes = input; ended = false }) []) tells.turned.1.0 → new ≡ old
-      go zero less goes = ap (λ m. m.machine) (tells.turned.1.1.ends.1.1 ∙ goes)
+      go : (done : ℕ) → done < 1 → Goes ended done (moment old (record { bytes = input; ended = false }) []) tells.turned.1.0 → WaitsThere
+      go zero less goes = (
+        ap (λ m. m.machine) (tells.turned.1.1.ends.1.1 ∙ goes),
+        going,
+        subst (λ (m : Moment). waits_for_input ended m.machine m.source.bytes ≡ true) goes tells.turned.1.1.ends.1.0,
+      )
       go (suc n) less goes = absurd (omega (arith, less))
-  by-last (Full printed) left tells =
+  by-last (Full printed) left going tells =
       let is = tells.fate in
       absurd (omega (arith, waits, is))
-  by-last (Over fate) left tells = absurd (number-not-7 fate (sym tells.fate ∙ waits))
+  by-last (Over fate) left going tells = absurd (number-not-7 fate (sym tells.fate ∙ waits))
 
-  pub waits-same : TurnedOrOver ended 1 input buffer old told new → new ≡ old
+  pub waits-same : TurnedOrOver ended 1 input buffer old told new → WaitsThere
   waits-same h = go old.fate refl
     where
-      go : (fate : Option Fate) → old.fate ≡ fate → new ≡ old
-      go None is = by-last (h.turn is).0 (h.turn is).1.0 (h.turn is).1.1
-      go (Some fate) is = (h.over fate is).0
+      go : (fate : Option Fate) → old.fate ≡ fate → WaitsThere
+      go None is = by-last (h.turn is).0 (h.turn is).1.0 is (h.turn is).1.1
+      go (Some fate) is =
+          let told_is = ap (λ (t : TracReport). t.fate) (h.over fate is).1 in
+          absurd (number-not-7 fate (sym told_is ∙ waits))
 
 -- a source over all bytes, behind which it fails
 all-of : (bytes : List ℕ) → take (length bytes) bytes ≡ bytes

@@ -1,5 +1,5 @@
 -- What C is told of a step that is shown.
-use Rattle.std.specs.Prelude.{◌≡◌, ◌≢◌, ℕ, ◌==◌, ◌⊎◌, ◌++◌, [], List, Bool, true, false, not, nat_eq, max, length, take}
+use Rattle.std.specs.Prelude.{◌≡◌, ◌≢◌, ℕ, ◌-◌, ◌==◌, ◌⊎◌, ◌++◌, [], List, Bool, true, false, not, nat_eq, max, length, take}
 use Rattle.std.specs.Prelude.{Option, Some, None, if◌then◌else◌}
 use Rattle.trac_language.specs.declared.fate.Fate.{Fate}
 use Rattle.trac_language.specs.declared.fate.Fate.TheVariants.{Halted, InputEnded, Workspace, Steps}
@@ -16,7 +16,7 @@ use Rattle.trac_tracer.specs.ShownRuns.{AreLinesOf, StepDone, first_progress}
 use Rattle.trac_tracer.specs.declared.shown.Progress.{Progress}
 use Rattle.trac_c.specs.Buffers.{laid}
 use Rattle.trac_c.specs.Reports.{number}
-use Rattle.trac_c.specs.Turns.{TurnedOrOver}
+use Rattle.trac_c.specs.Turns.{TurnedOrOver, waits_for_input}
 use Rattle.trac_c.specs.declared.report.TracReport.{TracReport}
 use Rattle.trac_c.specs.declared.trace.TracTrace.{TracTrace}
 
@@ -85,6 +85,7 @@ abbrev pub FailsBehind : (input buffer : Text) → (old : MachineState) → Trac
 FailsBehind input buffer old told new =
     (answer : Option Fate) × ((left : Stream)
     × ((told.fate ≡ answer_number answer) × (told.steps ≡ new.steps) × (told.peak ≡ new.peak)
+    × (told.consumed ≡ length input - length left.bytes) × (told.wanted ≡ 0)
     × (old.fate ≡ None → Answers (moment old (record { bytes = input; ended = false }) []) answer
     (moment new left (take told.written buffer)))))
 
@@ -94,7 +95,8 @@ abbrev pub Stepped : (ended : ℕ) → (input buffer : Text) → (old : MachineS
     → Type 0
 Stepped ended input buffer old told new =
     (TurnedOrOver (nat_eq ended 1) 1 input buffer old told new × (ended ≡ 2 → told.fate ≢ 7))
-    ⊎ ((ended ≡ 2) × FailsBehind input buffer old told new)
+    ⊎ ((ended ≡ 2) × (old.fate ≡ None) × (waits_for_input false old input ≡ true)
+    × FailsBehind input buffer old told new)
 
 -- the lines of a step, and those on the end of the run where the step ended it
 abbrev pub WithEnd : Views → Option Fate → (peak : ℕ) → MachineState → (lines all : List ℕ) → Type 0

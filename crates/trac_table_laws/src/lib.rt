@@ -26,7 +26,7 @@ pub fn leaves_forms()
     ensures { LeavesForms }
 {}
 
-/// What of a form is the value: all of it from its pointer on, a part of it that its pointer then goes past, or
+/// What of a form is the value: all of it from its pointer on, a part of it by which its pointer moves, or
 /// nothing, whatever the bodies are.
 pub fn gives_forms()
     ensures body { GivesBody }

@@ -79,7 +79,7 @@ impl<A: Allocator + Copy> Shown<A> {
     /// What is shown of a run that has come so far. There are no lines yet.
     pub fn resumed(alloc: A, views: Views, progress: Progress) -> Shown<A>
         ensures { (result.views ≡ views) × (result.depth ≡ progress.depth) × (result.peak ≡ progress.peak)
-            × (result.lines.items ≡ []) }
+            × (result.lines.items ≡ []) × (result.reading ≡ progress.reading) }
     {
         Shown {
             alloc,
@@ -100,7 +100,8 @@ impl<A: Allocator + Copy> Shown<A> {
 
     /// How far the run has come.
     pub fn progress(&self) -> Progress
-        ensures { (result.depth ≡ self.now.depth) × (result.peak ≡ self.now.peak) }
+        ensures { (result.depth ≡ self.now.depth) × (result.peak ≡ self.now.peak)
+            × (result.reading ≡ self.now.reading) }
     {
         Progress {
             reading: self.reading,

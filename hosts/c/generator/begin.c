@@ -1,6 +1,6 @@
-/* What is compiled, with a bit for each unit of those that are compiled beside each other: all; all but trac_check;
- * that alone; or one unit by -DTRAC_UNIT=1 to 7. The first four are enough where trac_check isn't called. What a unit
- * has for another begins with trac_unit_, and is hidden from what they are linked with. */
+/* What is compiled, with a bit for each unit of those that are compiled beside each other: all; all but trac_check and
+ * trac_trace_step; these alone; or one unit by -DTRAC_UNIT=1 to 7. The first four are enough where neither of the two
+ * is called. What a unit has for another begins with trac_unit_, and is hidden from what they are linked with. */
 #ifndef TRAC_UNIT
 #define INTERNAL static
 #elif (defined(__GNUC__) || defined(__TINYC__)) && !defined(_WIN32)
@@ -20,7 +20,7 @@
 #else
 #define UNITS 0xff
 #endif
-/* The units that have the functions of trac.h: the first has all but trac_check, and the fifth that. */
+/* The units that have the functions of trac.h: the first has all but these two, and the fifth has them. */
 #define HAS_API (UNITS & 0x22)
 #if defined(TRAC_UNIT) && TRAC_UNIT < 5 && !defined(TRAC_WITHOUT_CHECK)
 #define TRAC_WITHOUT_CHECK

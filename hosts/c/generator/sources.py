@@ -97,8 +97,9 @@ class Sources:
 
     def add_structs(self, text):
         for name, body in re.findall(r'^pub(?:\([a-z]+\))? struct (\w+) \{(.*?)^\}', text, re.MULTILINE | re.DOTALL):
-            self.fields[name] = [(field, SCALARS.get(kind.strip())) for field, kind in re.findall(
-                r'^ +(?:pub(?:\([a-z]+\))? )?(\w+): ([^,\n]+),', body, re.MULTILINE)]
+            # A name that two crates have is that of the lower one.
+            self.fields.setdefault(name, [(field, SCALARS.get(kind.strip())) for field, kind in re.findall(
+                r'^ +(?:pub(?:\([a-z]+\))? )?(\w+): ([^,\n]+),', body, re.MULTILINE)])
 
     def of(self, name):
         """The source of a function, None where it has none."""

@@ -78,7 +78,7 @@ def opposite(condition):
 
 def short_end(statements):
     """The statements up to a branch, a return or a trap, if they may stand in the place of a branch to them: at most
-    two steps before it. None where they don't."""
+    SHORT steps before it. None where they don't."""
     for i, one in enumerate(statements[:SHORT + 1]):
         if isinstance(one, (Return, Branch, Trap)):
             is_alone = isinstance(one, Branch) and i > 0

@@ -69,7 +69,8 @@ class Texts:
         """The text of a value as a condition, or of its opposite."""
         if value.name in COMPARED:
             return self.comparison(value, is_not)
-        if value.name == 'and' and not is_not and value.kind == 'i32' and all(
+        # what && may leave out is no call
+        if value.name == 'and' and not is_not and value.kind == 'i32' and not value.args[1].is_call and all(
                 most_of(arg) <= 1 for arg in value.args):
             return Text(' && '.join(self.condition(arg).within(COMPARISON) for arg in value.args), 'int', CHOICE)
         found = self.of(value)

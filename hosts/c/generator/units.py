@@ -1,9 +1,9 @@
 """Cuts the functions of the engine into units that are compiled beside each other, and prints them.
 
-The first units are all that a run needs, those behind them what trac_check needs beside. Each function stands in one
-unit, but for the small ones that become parts of those that call them: these stand in each unit that needs them. What
-is compiled is a number, UNITS, with a bit for each unit; bit 0 is what trac_check shares with a run, for a compiler
-that gets trac_check alone."""
+The first units are all that a run needs, those behind them what trac_check and trac_trace_step need beside. Each
+function stands in one unit, but for the small ones that become parts of those that call them: these stand in each unit
+that needs them. What is compiled is a number, UNITS, with a bit for each unit; bit 0 is what these two share with a
+run, for a compiler that gets them alone."""
 import textwrap
 from itertools import groupby
 
@@ -114,8 +114,9 @@ def print_rows(rows):
     # One comparison tells of most places that they lie before the first row or behind the last.
     around = [f'count && offset + (count - 1) - {begin}u < {end - begin - 1}u + count' for begin, end in rows]
     if len(rows) > 1:
-        around = [f'count && offset + (count - 1) - {rows[0][0]}u < {rows[-1][1] - rows[0][0] - 1}u + count && (' +
-                  ' || '.join(f'({one})' for one in around) + ')']
+        ways = ' ||\n        '.join(f'({one})' for one in around)
+        around = [f'count && offset + (count - 1) - {rows[0][0]}u < {rows[-1][1] - rows[0][0] - 1}u + count && (\n'
+                  f'        {ways})']
     print('\n/* Whether so many bytes behind the beginning of the tables have one of an address. */')
     print(f'HELPER int has_address(word offset, word count) {{\n    return {around[0]};\n}}' if rows else
           'HELPER int has_address(word offset, word count) { return (void)offset, (void)count, 0; }')

@@ -294,7 +294,9 @@ def fits(later, variable, value):
             whole = one
     others = [one for one in later.values if one is not whole]
     if not value.is_call:
-        return True
+        # C may read memory behind a call of the same statement, unless the call is handed what is read
+        return not value.is_memory or all(variable in part.reads for one in later.values for part in one.walk()
+                                          if part.name == 'call')
     # a call, or a division that may end the program, is all that a statement does
     if isinstance(later, (Assign, Return, If)) or len(others) == 0:
         return not any(one.is_call or one.is_memory for one in later.values) and not is_chosen(whole, variable)
