@@ -1,5 +1,6 @@
 """What the page does while one types: what comes of it and what is suspicious stand there, the step stays, and a key is
 quick in a long script."""
+import time
 import unittest
 
 import page
@@ -128,6 +129,31 @@ class Suspicions(Lecture):
         self.wait(lambda: self.script(self.SPOTS) == [['script-marks', 7, ')']])
         self.put('script', "#(ps,(a'")
         self.wait(lambda: self.script(self.SPOTS) == [['script-marks', 5, '('], ['script-marks', 7, "'"]])
+
+    def sheet(self):
+        return self.script("return document.getElementById('script-marks').textContent")
+
+    def test_two_warnings_at_one_place_are_one_mark(self):
+        self.find('script').send_keys(Keys.CONTROL, 'a')
+        self.find('script').send_keys('#(ps,hello')
+        self.wait(lambda: self.is_shown('suspicions'))
+        self.assertEqual(len(browser.find_elements('css selector', '#warnings button')), 2)
+        self.assertEqual(self.script(self.SPOTS), [['script-marks', 0, '#']])
+        self.assertEqual(self.sheet(), self.value('script') + '\n')
+
+    def test_places_in_the_order_of_the_text(self):
+        self.put('script', "#(zz)#(ps,😀(a)\nü#(zz))'\n'#(yy)")
+        self.wait(lambda: self.is_shown('suspicions'))
+        places = [place for _, place, _ in self.script(self.SPOTS)]
+        self.assertEqual(places, sorted(set(places)))
+        self.assertEqual(self.sheet(), self.value('script') + '\n')
+
+    def test_many_warnings_in_a_long_line_take_little_time(self):
+        self.put('script', ')' * 20000 + "'" + 'x' * 200000)
+        start = time.monotonic()
+        self.wait(lambda: self.is_shown('suspicions'))
+        self.assertIn('The first 200 of ', self.text('suspicions-told'))
+        self.assertLess(time.monotonic() - start, 8)
 
     def test_the_place_of_what_was_clicked_is_marked_too(self):
         self.put('script', "#(zz)#(yy)'")
