@@ -252,6 +252,18 @@ class Parts(Lecture):
         self.type('#(zz)')
         self.wait(lambda: self.is_shown('suspicions'))
 
+    def test_a_part_that_was_typed_has_no_marks_when_it_is_chosen_again(self):
+        spots = "return document.querySelectorAll('.spot').length"
+        self.open(f'{PLACE}?lesson=2')
+        self.wait(self.is_at_rest)
+        self.type('x')
+        self.find('script').send_keys(Keys.BACKSPACE)
+        self.wait(lambda: self.script(spots))
+        self.press('first')
+        self.choose('2. A comma parts, parentheses protect', 'part')
+        self.wait(self.is_at_rest)
+        self.assertEqual((self.script(spots), self.is_shown('suspicions')), (0, False))
+
     def test_a_part_on_a_phone(self):
         browser.execute_cdp_cmd('Emulation.setDeviceMetricsOverride', {
             'width': 390, 'height': 844, 'deviceScaleFactor': 1, 'mobile': True})

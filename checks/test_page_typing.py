@@ -155,6 +155,17 @@ class Suspicions(Lecture):
         self.assertIn('The first 200 of ', self.text('suspicions-told'))
         self.assertLess(time.monotonic() - start, 8)
 
+    def test_what_is_filled_in_has_no_marks_of_the_former_text(self):
+        for fill in (lambda: self.script("document.getElementById('functions').querySelector('button').click()"),
+                     lambda: self.press('bring-back'), lambda: self.choose('6. Gaps')):
+            self.type('abc#(zz)')
+            self.wait(lambda: self.script(self.SPOTS))
+            before = self.value('script')
+            fill()
+            self.assertNotEqual(self.value('script'), before)
+            self.assertEqual(self.script(self.SPOTS), [])
+            self.assertEqual(self.sheet(), self.value('script') + '\n')
+
     def test_the_place_of_what_was_clicked_is_marked_too(self):
         self.put('script', "#(zz)#(yy)'")
         self.wait(lambda: self.is_shown('suspicions'))

@@ -130,10 +130,9 @@ class Box {
         if (this.text !== text) this.box.value = text;
         this.box.setSelectionRange(0, 0);
         this.box.scrollTop = 0;
-        this.centre = 0;
         this.box.blur();
         at.focus({ preventScroll: true });
-        this.draw();
+        this.refresh();
     }
 
     /**

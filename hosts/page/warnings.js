@@ -58,6 +58,7 @@ export class Warnings {
         this.looks += 1;
         find('suspicions').hidden = true;
         find('warnings').replaceChildren();
+        this.onSpots([]);
     }
 
     /**
