@@ -71,6 +71,14 @@ function limitsIn(read) {
 }
 
 /**
+ * Why something that was begun came to nothing, in words.
+ * @param {unknown} error
+ */
+function failureWords(error) {
+    return error instanceof RangeError ? 'This browser can’t give the memory for so many cells.' : String(error);
+}
+
+/**
  * Closes what is opened beside the script around an element, and puts the focus on its heading.
  * @param {EventTarget | null} target
  */
@@ -169,8 +177,7 @@ class Page {
         } catch (error) {
             this.become({ kind: 'idle' });
             this.view.output.forget();
-            find('fate').textContent = error instanceof RangeError
-                ? 'This browser can’t give the memory for so many cells.' : String(error);
+            find('fate').textContent = failureWords(error);
         }
     }
 
@@ -414,8 +421,12 @@ class Page {
         if (!run) return;
         tell('Writing the trace …');
         const { history: { limits, end }, input } = run;
-        saveFile('trace.txt', await traceOf(input, limits, end.step));
-        tell('The trace is saved.');
+        try {
+            saveFile('trace.txt', await traceOf(input, limits, end));
+            tell('The trace is saved.');
+        } catch (error) {
+            tell(failureWords(error));
+        }
     }
 
     /** @param {KeyboardEvent} event */
