@@ -239,6 +239,22 @@ class Parts(Lecture):
         self.press('lesson')
         self.assertEqual(self.value('part'), '6. Gaps')
 
+    def test_a_link_from_the_lesson(self):
+        self.open(f'{PLACE}?lesson=4')
+        self.wait(self.is_at_rest)
+        self.find('script').send_keys(Keys.CONTROL, 'a')
+        self.find('script').send_keys("#(ps,mine)'")
+        self.press('link')
+        self.wait(lambda: '#' in browser.current_url)
+        link = browser.current_url
+        for keeps in (False, True):
+            self.open(link, keeps)
+            self.wait(self.is_at_rest)
+            self.assertEqual((self.value('script'), self.is_shown('guide')), ("#(ps,mine)'", False))
+            self.assertEqual(browser.current_url, link)
+        self.press('lesson')
+        self.assertEqual((browser.current_url, self.value('part')[0]), (f'{PLACE}?lesson=1', '1'))
+
     def test_a_part_is_not_called_suspicious(self):
         self.choose('2. A comma parts, parentheses protect')
         self.run_it()

@@ -524,13 +524,16 @@ class Page {
         if (isEmbedded) this.start(readLink()?.step ?? null, MOST_UNASKED);
     }
 
-    /** Fills the boxes with what was kept, what the address carries, or the lesson's first part. */
+    /**
+     * Fills the boxes with what was kept, what the address carries, or the lesson's first part. An address with a
+     * script opens no lesson: that would take the script out of it.
+     */
     fillFirst() {
         const part = Guide.named();
         const isPart = part in this.lessons.lesson;
         if (this.boxes.load()) {
             this.lessons.recognise(this.boxes.texts);
-            if (isPart) this.guide.show(part);
+            if (isPart && !window.location.hash) this.guide.show(part);
         } else if (!this.fromLink()) {
             if (isPart) this.guide.go(part);
             else this.lessons.choose(this.lessons.first);
