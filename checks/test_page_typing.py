@@ -85,6 +85,15 @@ class Results(Lecture):
         self.settle()
         self.assertEqual((self.text('output'), self.text('fate')), ('', 'Not run yet.'))
 
+    def test_where_there_is_no_memory_only_a_run_says_so(self):
+        self.script("WebAssembly.instantiate = async () => { throw new RangeError('no memory'); }")
+        browser.get_log('browser')
+        self.retype("#(ps,one)'")
+        self.settle()
+        self.assertEqual((browser.get_log('browser'), self.text('fate')), ([], 'Not run yet.'))
+        self.run_it()
+        self.assertEqual(self.text('fate'), 'This browser can’t give the memory for so many cells.')
+
     def test_nothing_moves(self):
         self.put('script', LINES[:6000] + "#(ps,(one))'")
         self.press('through')

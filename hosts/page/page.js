@@ -233,13 +233,17 @@ class Page {
         const limits = limitsIn(limitIn);
         if (!limits || this.state.kind === 'running' || find('run').disabled) return;
         const { texts } = this.boxes;
-        await this.unpacked;
-        const isWanted = find('live').checked && limits.cells <= MOST_LIVE_CELLS;
-        const run = isWanted ? await makeRun(texts, limits, signal, MOST_LIVE) : null;
-        if (signal.aborted) return;
-        if (!run || run.history.isCut) this.lookAround(texts, limits);
-        else if (this.run) await this.showInstead(run, this.run, signal);
-        else this.showResult(run);
+        try {
+            await this.unpacked;
+            const isWanted = find('live').checked && limits.cells <= MOST_LIVE_CELLS;
+            const run = isWanted ? await makeRun(texts, limits, signal, MOST_LIVE) : null;
+            if (signal.aborted) return;
+            if (!run || run.history.isCut) this.lookAround(texts, limits);
+            else if (this.run) await this.showInstead(run, this.run, signal);
+            else this.showResult(run);
+        } catch {
+            // nobody asked for this run: where there is no memory or no engine for it, Run says so
+        }
     }
 
     /**
