@@ -11,6 +11,19 @@ const MOST_TRACED = 20000;
 const MOST_LETTERS = 2 ** 24;
 
 /**
+ * Makes a step of a trace: of the input, which is copied, it is given as much as it wants.
+ * @param {import('../js/trac.mjs').Trace} trace
+ * @param {Uint8Array} input what isn't read yet
+ */
+function tracedStep(trace, input) {
+    let told = trace.step();
+    for (let size = 4096; told.fate === 'wants input'; size *= 8) {
+        told = trace.step(input.subarray(0, size), { ended: size >= input.length });
+    }
+    return told;
+}
+
+/**
  * The lines of a run, from its first step on: as many as a file should have.
  * @param {Uint8Array} input
  * @param {{cells: number, steps: number}} limits
@@ -26,8 +39,7 @@ export async function traceOf(input, limits, { step: last, fate: end }) {
     const hasMore = () => step < most || (step === last && end !== 'going');
     let until = performance.now() + SLICE;
     while (fate === 'going' && hasMore() && letters < MOST_LETTERS) {
-        let told = trace.step();
-        if (told.fate === 'wants input') told = trace.step(input.subarray(from), { ended: true });
+        const told = tracedStep(trace, input.subarray(from));
         lines.push(told.lines);
         letters += told.lines.length;
         from += told.consumed;
