@@ -652,9 +652,10 @@ class Files(Saving):
         self.assertEqual(lines, whole_trace(ENDLESS.encode(), '--steps', str(last))[0][:len(lines)])
 
     def test_a_trace_in_front_of_much_input_takes_little_time(self):
-        for script in (LOOP.format(1000), "#(ds,loop,(#(ps,##(rc))#(cl,loop)))#(cl,loop)'"):
+        for script, size in ((LOOP.format(1000), 1000000),
+                             ("#(ds,loop,(#(ps,##(rc))#(cl,loop)))#(cl,loop)'", 6000000)):
             with self.subTest(script=script):
-                self.run_script(script, 'x' * 1000000, 65536, 20000)
+                self.run_script(script, 'x' * size, 65536, 20000)
                 start = time.monotonic()
                 self.trace()
                 self.assertLess(time.monotonic() - start, 6)
