@@ -651,6 +651,7 @@ class Files(Saving):
         self.assertEqual(traced(lines)[-1][0], last)
         self.assertEqual(lines, whole_trace(ENDLESS.encode(), '--steps', str(last))[0][:len(lines)])
 
+    @pytest.mark.timed
     def test_a_trace_in_front_of_much_input_takes_little_time(self):
         for script, size in ((LOOP.format(1000), 1000000),
                              ("#(ds,loop,(#(ps,##(rc))#(cl,loop)))#(cl,loop)'", 6000000)):

@@ -157,6 +157,7 @@ class Suspicions(Lecture):
         self.assertEqual(places, sorted(set(places)))
         self.assertEqual(self.sheet(), self.value('script') + '\n')
 
+    @pytest.mark.timed
     def test_many_warnings_in_a_long_line_take_little_time(self):
         self.put('script', ')' * 20000 + "'" + 'x' * 200000)
         start = time.monotonic()
