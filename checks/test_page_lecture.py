@@ -4,6 +4,7 @@ import base64
 import os
 import re
 import sys
+import time
 import unittest
 from pathlib import Path
 
@@ -12,7 +13,7 @@ import pytest
 from page import LOOP, PLACE, By, Lecture, Saving, example
 from selenium.webdriver.common.keys import Keys
 from test_exercise_check import CONSTANTS, RIGHT, WRONG
-from trac import TOP, run
+from trac import TOP, run, traced, whole_trace
 
 sys.path.insert(0, os.path.join(TOP, 'hosts', 'page'))
 import make  # noqa: E402
@@ -610,6 +611,62 @@ class Files(Saving):
         self.assertTrue(self.is_shown('step'))
         browser.find_element(By.TAG_NAME, 'body').send_keys(Keys.ARROW_RIGHT)
         self.assertEqual(self.steps()[0], 13)
+
+    def trace(self):
+        return self.saved('save-trace', 'trace.txt').decode().splitlines()
+
+    def test_the_end_of_a_trace(self):
+        for script, more, cells, steps in (
+                ("#(ps,a)#(hl)#(ps,b)'", '', 65536, 1000000), ("#(ps,a)'", '', 65536, 12), ("#(ps,a)'", '', 14, 1000),
+                ("#(ps,#(rs))#(ps,#(rc))'", "one'\ntwo", 65536, 1000000), (LOOP.format(100000), '', 65536, 20000)):
+            with self.subTest(script=script, cells=cells, steps=steps):
+                self.run_script(script, more, cells, steps)
+                lines, _ = whole_trace((script + more).encode(), '--cells', str(cells), '--steps', str(steps))
+                self.assertEqual(self.trace(), lines)
+
+    def test_the_trace_of_a_long_run(self):
+        script = LOOP.format(100000)
+        self.run_script(script, '', 65536, 20001)
+        lines = self.trace()
+        self.assertEqual(lines.pop(), '.. 1 more step; trac_trace writes all steps')
+        self.assertEqual(lines, whole_trace(script.encode(), '--steps', '20001')[0][:len(lines)])
+        self.assertEqual(traced(lines)[-1][0], 20000)
+
+    def test_the_trace_of_a_run_that_was_stopped(self):
+        self.script("""
+            const { now } = performance;
+            let ahead = 0;
+            performance.now = () => { ahead += 10; return now.call(performance) + ahead; };
+        """)
+        self.put('script', ENDLESS)
+        self.put('steps', '1000000000000')
+        self.find('run').click()
+        self.wait(lambda: re.match('Running: [1-9]', self.text('fate')))
+        self.find('stop').click()
+        self.wait(self.is_at_rest)
+        self.script('delete performance.now')
+        last = self.steps()[1]
+        self.assertLess(last, 20000)
+        lines = self.trace()
+        self.assertEqual(traced(lines)[-1][0], last)
+        self.assertEqual(lines, whole_trace(ENDLESS.encode(), '--steps', str(last))[0][:len(lines)])
+
+    @pytest.mark.timed
+    def test_a_trace_in_front_of_much_input_takes_little_time(self):
+        for script, size in ((LOOP.format(1000), 1000000),
+                             ("#(ds,loop,(#(ps,##(rc))#(cl,loop)))#(cl,loop)'", 6000000)):
+            with self.subTest(script=script):
+                self.run_script(script, 'x' * size, 65536, 20000)
+                start = time.monotonic()
+                self.trace()
+                self.assertLess(time.monotonic() - start, 6)
+
+    def test_a_trace_that_finds_no_memory(self):
+        self.run_script("#(ps,a)'")
+        self.script("WebAssembly.instantiate = async () => { throw new RangeError('no memory'); }")
+        self.press('save-trace')
+        self.wait(lambda: 'Writing' not in self.text('told'), 5)
+        self.assertEqual(self.text('told'), 'This browser can’t give the memory for so many cells.')
 
     def test_code_to_embed(self):
         self.run_script("#(ps,a&b<\"c)'")

@@ -239,6 +239,22 @@ class Parts(Lecture):
         self.press('lesson')
         self.assertEqual(self.value('part'), '6. Gaps')
 
+    def test_a_link_from_the_lesson(self):
+        self.open(f'{PLACE}?lesson=4')
+        self.wait(self.is_at_rest)
+        self.find('script').send_keys(Keys.CONTROL, 'a')
+        self.find('script').send_keys("#(ps,mine)'")
+        self.press('link')
+        self.wait(lambda: '#' in browser.current_url)
+        link = browser.current_url
+        for keeps in (False, True):
+            self.open(link, keeps)
+            self.wait(self.is_at_rest)
+            self.assertEqual((self.value('script'), self.is_shown('guide')), ("#(ps,mine)'", False))
+            self.assertEqual(browser.current_url, link)
+        self.press('lesson')
+        self.assertEqual((browser.current_url, self.value('part')[0]), (f'{PLACE}?lesson=1', '1'))
+
     def test_a_part_is_not_called_suspicious(self):
         self.choose('2. A comma parts, parentheses protect')
         self.run_it()
@@ -251,6 +267,18 @@ class Parts(Lecture):
         self.assertEqual(self.script("return document.querySelectorAll('.spot').length"), 0)
         self.type('#(zz)')
         self.wait(lambda: self.is_shown('suspicions'))
+
+    def test_a_part_that_was_typed_has_no_marks_when_it_is_chosen_again(self):
+        spots = "return document.querySelectorAll('.spot').length"
+        self.open(f'{PLACE}?lesson=2')
+        self.wait(self.is_at_rest)
+        self.type('x')
+        self.find('script').send_keys(Keys.BACKSPACE)
+        self.wait(lambda: self.script(spots))
+        self.press('first')
+        self.choose('2. A comma parts, parentheses protect', 'part')
+        self.wait(self.is_at_rest)
+        self.assertEqual((self.script(spots), self.is_shown('suspicions')), (0, False))
 
     def test_a_part_on_a_phone(self):
         browser.execute_cdp_cmd('Emulation.setDeviceMetricsOverride', {

@@ -1,5 +1,6 @@
 """What the page does while one types: what comes of it and what is suspicious stand there, the step stays, and a key is
 quick in a long script."""
+import time
 import unittest
 
 import page
@@ -84,6 +85,15 @@ class Results(Lecture):
         self.settle()
         self.assertEqual((self.text('output'), self.text('fate')), ('', 'Not run yet.'))
 
+    def test_where_there_is_no_memory_only_a_run_says_so(self):
+        self.script("WebAssembly.instantiate = async () => { throw new RangeError('no memory'); }")
+        browser.get_log('browser')
+        self.retype("#(ps,one)'")
+        self.settle()
+        self.assertEqual((browser.get_log('browser'), self.text('fate')), ([], 'Not run yet.'))
+        self.run_it()
+        self.assertEqual(self.text('fate'), 'This browser can’t give the memory for so many cells.')
+
     def test_nothing_moves(self):
         self.put('script', LINES[:6000] + "#(ps,(one))'")
         self.press('through')
@@ -128,6 +138,43 @@ class Suspicions(Lecture):
         self.wait(lambda: self.script(self.SPOTS) == [['script-marks', 7, ')']])
         self.put('script', "#(ps,(a'")
         self.wait(lambda: self.script(self.SPOTS) == [['script-marks', 5, '('], ['script-marks', 7, "'"]])
+
+    def sheet(self):
+        return self.script("return document.getElementById('script-marks').textContent")
+
+    def test_two_warnings_at_one_place_are_one_mark(self):
+        self.find('script').send_keys(Keys.CONTROL, 'a')
+        self.find('script').send_keys('#(ps,hello')
+        self.wait(lambda: self.is_shown('suspicions'))
+        self.assertEqual(len(browser.find_elements('css selector', '#warnings button')), 2)
+        self.assertEqual(self.script(self.SPOTS), [['script-marks', 0, '#']])
+        self.assertEqual(self.sheet(), self.value('script') + '\n')
+
+    def test_places_in_the_order_of_the_text(self):
+        self.put('script', "#(zz)#(ps,😀(a)\nü#(zz))'\n'#(yy)")
+        self.wait(lambda: self.is_shown('suspicions'))
+        places = [place for _, place, _ in self.script(self.SPOTS)]
+        self.assertEqual(places, sorted(set(places)))
+        self.assertEqual(self.sheet(), self.value('script') + '\n')
+
+    @pytest.mark.timed
+    def test_many_warnings_in_a_long_line_take_little_time(self):
+        self.put('script', ')' * 20000 + "'" + 'x' * 200000)
+        start = time.monotonic()
+        self.wait(lambda: self.is_shown('suspicions'))
+        self.assertIn('The first 200 of ', self.text('suspicions-told'))
+        self.assertLess(time.monotonic() - start, 8)
+
+    def test_what_is_filled_in_has_no_marks_of_the_former_text(self):
+        for fill in (lambda: self.script("document.getElementById('functions').querySelector('button').click()"),
+                     lambda: self.press('bring-back'), lambda: self.choose('6. Gaps')):
+            self.type('abc#(zz)')
+            self.wait(lambda: self.script(self.SPOTS))
+            before = self.value('script')
+            fill()
+            self.assertNotEqual(self.value('script'), before)
+            self.assertEqual(self.script(self.SPOTS), [])
+            self.assertEqual(self.sheet(), self.value('script') + '\n')
 
     def test_the_place_of_what_was_clicked_is_marked_too(self):
         self.put('script', "#(zz)#(yy)'")

@@ -29,8 +29,15 @@ const strict = new TextDecoder('utf-8', { fatal: true, ignoreBOM: true });
 export function bytesOfText(text) {
     const encoder = new TextEncoder();
     const parts = text.split(/([\udc00-\udcff])/u);
-    const rows = parts.map((part, index) => (index % 2
-        ? Uint8Array.of(part.charCodeAt(0) - 0xdc00) : encoder.encode(part)));
+    return joinedRows(parts.map((part, index) => (index % 2
+        ? Uint8Array.of(part.charCodeAt(0) - 0xdc00) : encoder.encode(part))));
+}
+
+/**
+ * Rows of bytes as one.
+ * @param {Uint8Array[]} rows
+ */
+export function joinedRows(rows) {
     const bytes = new Uint8Array(rows.reduce((sum, { length }) => sum + length, 0));
     let place = 0;
     for (const row of rows) {
@@ -130,10 +137,9 @@ class Box {
         if (this.text !== text) this.box.value = text;
         this.box.setSelectionRange(0, 0);
         this.box.scrollTop = 0;
-        this.centre = 0;
         this.box.blur();
         at.focus({ preventScroll: true });
-        this.draw();
+        this.refresh();
     }
 
     /**

@@ -230,9 +230,10 @@ export function byDepth(text, open = 0) {
  * How many parentheses are open in front of a place of a text.
  * @param {string} text
  * @param {number} place
+ * @param {number} [open] how many are open in front of the text
  */
-export function openAt(text, place) {
-    let depth = 0;
+export function openAt(text, place, open = 0) {
+    let depth = open;
     for (let at = 0; at < place; at += 1) {
         if (text[at] === '(') depth += 1;
         else if (text[at] === ')') depth = Math.max(0, depth - 1);

@@ -98,12 +98,9 @@ class Doing {
         return isSame && value.length > MOST_IN_LINE ? null : isSame;
     }
 
-    /**
-     * That the value is the default one, in words.
-     * @param {number} which the argument that is the default value
-     */
-    byDefault(which) {
-        const text = this.word(which);
+    /** That the value is the default one, in words. */
+    byDefault() {
+        const text = this.word(entry(this.words[0]).defaultArgument);
         return `so the value is the default, ${text ? quoted(text) : 'which is null'}.`;
     }
 }
@@ -221,7 +218,7 @@ function calledWords({ further }, { items, pointer }, name) {
 
 /** @type {(doing: Doing, found: StoredForm, name: string) => string} */
 function segmentWords(doing, { items, pointer }, name) {
-    if (pointer === items.length) return `The pointer of ${name} is at its end, ${doing.byDefault(2)}`;
+    if (pointer === items.length) return `The pointer of ${name} is at its end, ${doing.byDefault()}`;
     if (items[pointer] >= FIRST_GAP) return `A gap stands at the pointer of ${name}, so the value is null.`;
     const { later } = doing;
     if (!later) return `It takes ${name} from its pointer up to the next gap, or to its end.`;
@@ -233,7 +230,7 @@ function segmentWords(doing, { items, pointer }, name) {
 function characterWords(doing, { pointer }, name) {
     const { later } = doing;
     if (!later) return `It takes the next character of ${name}, or else its default.`;
-    return later.pointer === pointer ? `No character is left in ${name}, ${doing.byDefault(2)}`
+    return later.pointer === pointer ? `No character is left in ${name}, ${doing.byDefault()}`
         : `It takes the next character of ${name}.`;
 }
 
@@ -245,7 +242,7 @@ function charactersWords(doing, { pointer }, name) {
     const count = length === 1 ? 'character' : several(length, 'character');
     if (later.pointer > pointer) return `It takes the next ${count} of ${name}.`;
     if (later.pointer < pointer) return `It takes the ${count} in front of the pointer of ${name}.`;
-    return length ? `No character is there in ${name}, ${doing.byDefault(3)}`
+    return length ? `No character is there in ${name}, ${doing.byDefault()}`
         : `It takes no character of ${name}, so the value is null.`;
 }
 
@@ -255,7 +252,7 @@ function initialWords(doing, { pointer }, name) {
     const text = quoted(doing.word(2));
     if (!doing.word(2)) return `The null text is looked for in ${name}, so the value is null.`;
     if (!later) return `It takes ${name} from its pointer up to the next ${text}, or else its default.`;
-    return later.pointer === pointer ? `No ${text} stands behind the pointer of ${name}, ${doing.byDefault(3)}`
+    return later.pointer === pointer ? `No ${text} stands behind the pointer of ${name}, ${doing.byDefault()}`
         : `It takes ${name} from its pointer up to the next ${text}.`;
 }
 
@@ -315,7 +312,7 @@ function computed(verb, rest) {
     return (doing) => {
         const numbers = rest(quoted(doing.word(1)), quoted(doing.word(2)));
         const isDefault = isByDefault(doing);
-        if (isDefault) return `It can’t ${verb} ${numbers} in its range, ${doing.byDefault(3)}`;
+        if (isDefault) return `It can’t ${verb} ${numbers} in its range, ${doing.byDefault()}`;
         return `It ${verb}s ${numbers}${isDefault === null ? ', or else gives its default' : ''}.`;
     };
 }

@@ -71,6 +71,14 @@ function limitsIn(read) {
 }
 
 /**
+ * Why something that was begun came to nothing, in words.
+ * @param {unknown} error
+ */
+function failureWords(error) {
+    return error instanceof RangeError ? 'This browser can’t give the memory for so many cells.' : String(error);
+}
+
+/**
  * Closes what is opened beside the script around an element, and puts the focus on its heading.
  * @param {EventTarget | null} target
  */
@@ -169,8 +177,7 @@ class Page {
         } catch (error) {
             this.become({ kind: 'idle' });
             this.view.output.forget();
-            find('fate').textContent = error instanceof RangeError
-                ? 'This browser can’t give the memory for so many cells.' : String(error);
+            find('fate').textContent = failureWords(error);
         }
     }
 
@@ -226,13 +233,17 @@ class Page {
         const limits = limitsIn(limitIn);
         if (!limits || this.state.kind === 'running' || find('run').disabled) return;
         const { texts } = this.boxes;
-        await this.unpacked;
-        const isWanted = find('live').checked && limits.cells <= MOST_LIVE_CELLS;
-        const run = isWanted ? await makeRun(texts, limits, signal, MOST_LIVE) : null;
-        if (signal.aborted) return;
-        if (!run || run.history.isCut) this.lookAround(texts, limits);
-        else if (this.run) await this.showInstead(run, this.run, signal);
-        else this.showResult(run);
+        try {
+            await this.unpacked;
+            const isWanted = find('live').checked && limits.cells <= MOST_LIVE_CELLS;
+            const run = isWanted ? await makeRun(texts, limits, signal, MOST_LIVE) : null;
+            if (signal.aborted) return;
+            if (!run || run.history.isCut) this.lookAround(texts, limits);
+            else if (this.run) await this.showInstead(run, this.run, signal);
+            else this.showResult(run);
+        } catch {
+            // nobody asked for this run: where there is no memory or no engine for it, Run says so
+        }
     }
 
     /**
@@ -414,8 +425,12 @@ class Page {
         if (!run) return;
         tell('Writing the trace …');
         const { history: { limits, end }, input } = run;
-        saveFile('trace.txt', await traceOf(input, limits, end.step));
-        tell('The trace is saved.');
+        try {
+            saveFile('trace.txt', await traceOf(input, limits, end));
+            tell('The trace is saved.');
+        } catch (error) {
+            tell(failureWords(error));
+        }
     }
 
     /** @param {KeyboardEvent} event */
@@ -513,13 +528,16 @@ class Page {
         if (isEmbedded) this.start(readLink()?.step ?? null, MOST_UNASKED);
     }
 
-    /** Fills the boxes with what was kept, what the address carries, or the lesson's first part. */
+    /**
+     * Fills the boxes with what was kept, what the address carries, or the lesson's first part. An address with a
+     * script opens no lesson: that would take the script out of it.
+     */
     fillFirst() {
         const part = Guide.named();
         const isPart = part in this.lessons.lesson;
         if (this.boxes.load()) {
             this.lessons.recognise(this.boxes.texts);
-            if (isPart) this.guide.show(part);
+            if (isPart && !window.location.hash) this.guide.show(part);
         } else if (!this.fromLink()) {
             if (isPart) this.guide.go(part);
             else this.lessons.choose(this.lessons.first);

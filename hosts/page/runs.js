@@ -3,7 +3,7 @@
  * @module
  */
 
-import { bytesOfText, textOfBytes } from './boxes.js';
+import { bytesOfText, joinedRows, textOfBytes } from './boxes.js';
 import { counted, isSameRow, several } from './codes.js';
 import { changedForms } from './forms.js';
 import { History } from './history.js';
@@ -32,21 +32,6 @@ const FATES = {
  * What has been done in a run up to the step that is looked at.
  * @typedef {{scanned: Uint32Array, forms: import('../js/trac.mjs').StoredForm[], printed: Uint8Array}} Done
  */
-
-/**
- * Rows of bytes as one.
- * @param {Uint8Array[]} rows
- * @param {number} length of all
- */
-function joinedOutput(rows, length) {
-    const output = new Uint8Array(length);
-    let place = 0;
-    for (const row of rows) {
-        output.set(row, place);
-        place += row.length;
-    }
-    return output;
-}
 
 /**
  * The part of the texts that the string takes which is scanned at a step, without layout in front of it.
@@ -92,7 +77,7 @@ export async function makeRun(texts, limits, signal, most, onStep = () => {}) {
     const history = await History.of(input, limits);
     history.most = most;
     await history.run(signal, onStep);
-    const output = joinedOutput(history.output, history.end.printed);
+    const output = joinedRows(history.output);
     history.output = [];
     return { history, texts, input, output };
 }

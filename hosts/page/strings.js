@@ -3,7 +3,9 @@
  * @module
  */
 
-import { NEUTRAL_CALL, piecesOf, several } from './codes.js';
+import {
+    NEUTRAL_CALL, openAt, piecesOf, several,
+} from './codes.js';
 import { coloured, depthClass, element, find, mark, nodes, nodesOf } from './dom.js';
 
 const MOST_ROWS = 40;
@@ -153,10 +155,7 @@ function activeNodes(codes, open) {
     return piecesOf(codes).flatMap((piece) => {
         if (piece.kind !== 'text') return nodes([piece]);
         const made = coloured(piece.text, depth);
-        for (const letter of piece.text) {
-            if (letter === '(') depth += 1;
-            if (letter === ')') depth = Math.max(0, depth - 1);
-        }
+        depth = openAt(piece.text, piece.text.length, depth);
         return made;
     });
 }

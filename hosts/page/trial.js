@@ -13,7 +13,7 @@ import {
 
 /** What a script may print, in bytes. */
 const MOST_PRINTED = 1000000;
-/** From this exercise on the input begins on a new line. */
+/** From this exercise on the input begins on a new line; `examples/exercises/check` has the same number. */
 const FIRST_OF_LINES = 17;
 const GOOD_ENDS = new Set(['halted', 'input ended']);
 

@@ -30,18 +30,19 @@ const AS_WRITTEN = new RegExp('((?<=^in the value of ).*?(?=, column \\d)|(?<=(?
  * @param {number} column from 1, in characters
  */
 function placeIn(text, line, column) {
-    let from = 0;
-    for (let left = line; left > 1; left -= 1) from = text.indexOf('\n', from) + 1;
-    const end = text.indexOf('\n', from);
-    const front = [...text.slice(from, end < 0 ? text.length : end)].slice(0, column - 1);
-    return from + front.join('').length;
+    let place = 0;
+    for (let left = line; left > 1; left -= 1) place = text.indexOf('\n', place) + 1;
+    for (let left = column; left > 1 && place < text.length && text[place] !== '\n'; left -= 1) {
+        place += text.codePointAt(place) > 0xffff ? 2 : 1;
+    }
+    return place;
 }
 
 /** The list, made when a run is shown and when what is typed stands still. */
 export class Warnings {
     /**
      * @param {(place: number) => void} onPlace called with the place in the texts that is to be shown
-     * @param {(places: number[]) => void} onSpots called with all places, in order
+     * @param {(places: number[]) => void} onSpots called with the places of those that are listed, each once, in order
      */
     constructor(onPlace, onSpots) {
         this.onPlace = onPlace;
@@ -57,6 +58,7 @@ export class Warnings {
         this.looks += 1;
         find('suspicions').hidden = true;
         find('warnings').replaceChildren();
+        this.onSpots([]);
     }
 
     /**
@@ -89,15 +91,15 @@ export class Warnings {
      * @param {number} most how many steps were looked at; Infinity for all
      */
     show(text, warnings, most) {
-        find('warnings').replaceChildren(
-            ...warnings.slice(0, MOST_PLACES).map((warning) => this.item(text, warning)));
+        const listed = warnings.slice(0, MOST_PLACES);
+        find('warnings').replaceChildren(...listed.map((warning) => this.item(text, warning)));
         find('suspicions-told').textContent = [
             warnings.length > MOST_PLACES && `The first ${MOST_PLACES} of ${warnings.length}.`,
             most < Infinity && `The first ${several(most, 'step')} were looked at.`,
         ].filter(Boolean).join(' ');
         find('suspicions').hidden = !warnings.length;
         if (this.isOutdated) this.outdate();
-        else this.onSpots(warnings.map(({ line, column }) => placeIn(text, line, column)));
+        else this.onSpots([...new Set(listed.map(({ line, column }) => placeIn(text, line, column)))]);
     }
 
     /**
