@@ -540,6 +540,38 @@ def test_a_finaliser_can_not_change_the_arguments_that_are_asked_for(python_site
         "(b'x', b'y', b'z') the session is in the middle of a turn or another call"
 
 
+FINALISED_AMONG_LINES = """
+import gc
+from trac_t64 import Session
+class Trap:
+    def __init__(self): self.me = self
+    def __del__(self):
+        try: session.close()
+        except RuntimeError as error: told.add(str(error))
+session, told = Session(), set()
+session.feed("#(ps,hello)'", most=0)
+trace = session.trace()
+trace.step()
+# so many that none is left which could be made again without the collector
+held = [(number, number) for number in range(3000)]
+gc.collect()
+gc.disable()
+trap = Trap()
+del trap
+show, words = session._machine.show, trace._words
+gc.set_threshold(1)
+gc.enable()
+lines = show(words)[1]
+gc.disable()
+print(lines.decode()[:21], *told)
+"""
+
+
+def test_a_finaliser_can_not_close_the_session_whose_step_is_shown(python_site):
+    assert python_package.python(python_site, FINALISED_AMONG_LINES).strip() == \
+        '2  active call   the session is in the middle of a turn or another call'
+
+
 INTERRUPTED_AMONG_ARGUMENTS = """
 import signal
 from trac_t64 import Session

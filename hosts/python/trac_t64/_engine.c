@@ -569,8 +569,12 @@ static PyObject *machine_show(machine_object *self, PyObject *words) {
     memcpy(&trace, bytes, sizeof trace);
     if (!show_step(self, &trace))
         return PyErr_NoMemory();
-    return Py_BuildValue("y#y#", (const char *)&trace, (Py_ssize_t)sizeof trace,
-                         (const char *)self->lent + lent_length(self), (Py_ssize_t)trace.lines);
+    /* Objects are made, so the collector may run finalisers, which can't use the machine meanwhile. */
+    self->is_busy = 1;
+    PyObject *const shown = Py_BuildValue("y#y#", (const char *)&trace, (Py_ssize_t)sizeof trace,
+                                          (const char *)self->lent + lent_length(self), (Py_ssize_t)trace.lines);
+    self->is_busy = 0;
+    return shown;
 }
 
 /* ---- What is suspicious in a script. */
