@@ -250,6 +250,14 @@ def test_memory_that_is_refused(command):
         b'', 'trac_t64: no memory for 16777216 cells\n', 6)
 
 
+def test_a_trace_where_there_is_memory_for_a_run(command):
+    def limit():
+        resource.setrlimit(resource.RLIMIT_AS, (1000000000, 1000000000))
+    for words in ([], ['--trace', '--calls']):
+        _, lines, status = command('--cells', '16777216', *words, script=HELLO, preexec_fn=limit)
+        assert (lines, status) == ('', 0), words
+
+
 def test_what_is_printed_is_out_before_the_next_string_is_read(python_site):
     with subprocess.Popen([sys.executable, '-m', 'trac_t64'], stdin=subprocess.PIPE, stdout=subprocess.PIPE,
                           env=python_package.environment(python_site)) as running:
