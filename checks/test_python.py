@@ -129,6 +129,19 @@ def test_a_trace_has_the_lines_of_the_tracer(trac_t64):
             assert (session.feed(most=0), account(session)) == (whole.output, account(whole))
 
 
+def test_the_peak_behind_a_trace(trac_t64):
+    session = trac_t64.Session()
+    session.feed("#(ps,hello)'", most=0)
+    shown = session.trace()
+    for _ in range(20):
+        shown.step()
+    assert session.peak == 19
+    session.feed("#(ps,x)'", most=3)
+    assert 0 < session.peak < 19
+    shown.step()
+    assert (session.peak, session.take_peak()) == (19, 0)
+
+
 def test_a_trace_goes_on_behind_more_input(trac_t64):
     with trac_t64.Session() as session:
         shown = session.trace(calls=True)
