@@ -761,11 +761,3 @@ def test_the_programs_of_the_pages(python_site, tmp_path):
         assert found, name
         for text, output in found:
             assert python_package.python(python_site, text, cwd=tmp_path) == output, name
-
-
-def test_the_functions_are_those_of_the_manual(trac_t64):
-    with open(os.path.join(TOP, 'docs', 'LANGUAGE.md'), encoding='utf-8') as page:
-        rows = re.findall(r'^#### `([^`]+)`: (.*)$', page.read(), re.MULTILINE)
-    functions = trac_t64.FUNCTIONS
-    assert [(name, function.call, function.title) for name, function in functions.items()] == [
-        (usage[:2], usage, what) for usage, what in rows]
