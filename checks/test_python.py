@@ -698,22 +698,26 @@ def test_memory_that_is_refused(python_site):
 LINES_REFUSED = """
 import resource
 from trac_t64 import Session
-session = Session(65536)
-session.feed(b"#(ps,%s)#(ps,b)#(ps,c)'" % (b'\\x01' * 65000), most=0)
-shown = session.trace(calls=True, width=0, columns=8)
+session, views = Session(65536), {'calls': True, 'width': 0, 'columns': 8}
+session.feed(b"#(ps,(%s))#(ps,b)#(ps,c)'" % (b'\\x01' * 65000), most=0)
+session.end(most=0)
+whole, shown = session.copy().trace(**views), session.trace(**views)
 with open('/proc/self/statm') as file: used = int(file.read().split()[0]) * 4096
 resource.setrlimit(resource.RLIMIT_AS, (used + 10000000, resource.RLIM_INFINITY))
 try:
     while shown.step() is not None: pass
 except MemoryError: print(session.steps)
 resource.setrlimit(resource.RLIMIT_AS, (resource.RLIM_INFINITY, resource.RLIM_INFINITY))
+rest = list(type(shown)(session.copy()._machine, shown._words))
+print(len(rest), list(whole)[-len(rest):] == rest)
 print(session.step().number, session.steps)
 print(len(shown.step()), session.steps)
 """
 
 
 def test_a_step_is_made_whose_lines_find_no_memory(python_site):
-    assert python_package.python(python_site, LINES_REFUSED).splitlines() == ['9', '10 10', '0 11']
+    assert python_package.python(python_site, LINES_REFUSED).splitlines() == [
+        '9', '520110 True', '10 10', '0 11']
 
 
 # ---- The package itself.

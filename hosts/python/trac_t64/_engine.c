@@ -569,7 +569,7 @@ static int show_step(machine_object *self, trac_trace *trace) {
     return 1;
 }
 
-/* Makes a step by the words of a trace. Gives the words behind it, and the lines. */
+/* Makes a step by the words of a trace. Gives the words behind it, and the lines; none where there is no memory. */
 static PyObject *machine_show(machine_object *self, PyObject *words) {
     trac_trace trace;
     char *bytes;
@@ -579,12 +579,12 @@ static PyObject *machine_show(machine_object *self, PyObject *words) {
     if (length != (Py_ssize_t)sizeof trace)
         return PyErr_Format(PyExc_ValueError, "words must be %d bytes", (int)sizeof trace);
     memcpy(&trace, bytes, sizeof trace);
-    if (!show_step(self, &trace))
-        return PyErr_NoMemory();
+    const int is_shown = show_step(self, &trace);
+    const char *const lines = is_shown ? (const char *)self->lent + self->lent_length : NULL;
     /* Objects are made, so the collector may run finalisers, which can't use the machine meanwhile. */
     self->is_busy = 1;
-    PyObject *const shown = Py_BuildValue("y#y#", (const char *)&trace, (Py_ssize_t)sizeof trace,
-                                          (const char *)self->lent + self->lent_length, (Py_ssize_t)trace.lines);
+    PyObject *const shown = Py_BuildValue("y#y#", (const char *)&trace, (Py_ssize_t)sizeof trace, lines,
+                                          (Py_ssize_t)trace.lines);
     self->is_busy = 0;
     return shown;
 }

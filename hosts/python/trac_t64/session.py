@@ -266,6 +266,8 @@ class Trace:
         if Fate(self._machine.report()[0]).is_end:
             return None
         self._words, lines = self._machine.show(self._words)
+        if lines is None:
+            raise MemoryError
         if self._machine.report()[0] == Fate.WANTS_INPUT.value:
             return None
         return lines.decode(errors='replace').split('\n')[:-1]
