@@ -11,7 +11,6 @@ WORDS = os.path.join(HERE, 'fuzz', 'words.dict')
 FILES = [os.path.join(os.path.dirname(HERE), 'editors', *name) for name in (
     ('gtksourceview', 'trac.lang'), ('nano', 'trac.nanorc'), ('vim', 'syntax', 'trac.vim'))]
 ALTERNATIVES = re.compile(r'\b\w\w(?:\|\w\w)+\b')
-ALL_ARGUMENTS = 2 ** 32 - 1
 NAME = 0
 
 

@@ -171,6 +171,30 @@ for (const [name, views] of Object.entries({
     traces[name] = [lines, told.fate, Number(told.steps), told.peak];
 }
 
+/** What a trace tells of a print of so many control characters, and how many of its steps lose their lines. */
+async function shownControls(count, cells) {
+    const session = await Session.open({ cells });
+    const trace = session.trace({ calls: 'yes', width: 0, columns: 8 });
+    let [given, printed, lost, lines, told] = [`#(ps,(${'\x01'.repeat(count)}))'`, 0, 0, '', { fate: 'going' }];
+    while (told.fate === 'going') {
+        try {
+            told = trace.step(given, { ended: true });
+            lines += told.lines;
+        } catch (error) {
+            if (!error.report) throw error;
+            told = error.report;
+            lost++;
+        }
+        given = given.slice(told.consumed);
+        printed += told.output.length;
+    }
+    return { fate: told.fate, steps: Number(told.steps), printed, lost, lines };
+}
+
+const controls = await shownControls(65000, 65536);
+const manyControls = await shownControls(2500000, 2600000);
+delete manyControls.lines;
+
 const long = 3000000;
 const hundred = `#(ds,a,${'x'.repeat(1000)})#(ds,b,(#(ps,${'##(cl,a)'.repeat(100)})))`;
 const large = await run(`${hundred}${'#(cl,b)'.repeat(long / 100000)}'`,
@@ -181,7 +205,7 @@ const other = await Session.open({ cells: 10 });
 other.turn('abc', { ended: true });
 before.restore(other.save());
 console.log(JSON.stringify({
-    errors, looks, longCalls, traces, suspicions, endless, many: many.warnings.length, needs, failed, again, kept,
-    buffer, mark, parts, large: large.output.length, json,
+    errors, looks, longCalls, traces, controls, manyControls, suspicions, endless, many: many.warnings.length, needs,
+    failed, again, kept, buffer, mark, parts, large: large.output.length, json,
     shown: Object.keys(before),
 }));

@@ -58,6 +58,17 @@ class Npm(unittest.TestCase):
                 _, steps, peak, _ = report(script, '--cells', '500')
                 self.assertEqual(account, ['input ended', steps, peak])
 
+    def test_the_lines_of_a_great_call(self):
+        told = self.told['controls']
+        lines = trace(b"#(ps,(%s))'" % (b'\x01' * 65000), '--calls', '--width', '0', '--columns', '8')[0]
+        self.assertEqual(told.pop('lines').splitlines(), lines)
+        self.assertEqual(told, {'fate': 'input ended', 'steps': 25, 'printed': 65000, 'lost': 0})
+
+    def test_a_step_is_told_whose_lines_find_no_memory(self):
+        told = self.told['manyControls']
+        self.assertGreater(told.pop('lost'), 0)
+        self.assertEqual(told, {'fate': 'input ended', 'steps': 25, 'printed': 2500000})
+
     def test_what_is_suspicious(self):
         folder = os.path.join(TOP, 'examples', 'broken')
         self.assertGreater(len(self.told['suspicions']), 15)

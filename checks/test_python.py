@@ -129,6 +129,19 @@ def test_a_trace_has_the_lines_of_the_tracer(trac_t64):
             assert (session.feed(most=0), account(session)) == (whole.output, account(whole))
 
 
+def test_the_peak_behind_a_trace(trac_t64):
+    session = trac_t64.Session()
+    session.feed("#(ps,hello)'", most=0)
+    shown = session.trace()
+    for _ in range(20):
+        shown.step()
+    assert session.peak == 19
+    session.feed("#(ps,x)'", most=3)
+    assert 0 < session.peak < 19
+    shown.step()
+    assert (session.peak, session.take_peak()) == (19, 0)
+
+
 def test_a_trace_goes_on_behind_more_input(trac_t64):
     with trac_t64.Session() as session:
         shown = session.trace(calls=True)
@@ -540,6 +553,38 @@ def test_a_finaliser_can_not_change_the_arguments_that_are_asked_for(python_site
         "(b'x', b'y', b'z') the session is in the middle of a turn or another call"
 
 
+FINALISED_AMONG_LINES = """
+import gc
+from trac_t64 import Session
+class Trap:
+    def __init__(self): self.me = self
+    def __del__(self):
+        try: session.close()
+        except RuntimeError as error: told.add(str(error))
+session, told = Session(), set()
+session.feed("#(ps,hello)'", most=0)
+trace = session.trace()
+trace.step()
+# so many that none is left which could be made again without the collector
+held = [(number, number) for number in range(3000)]
+gc.collect()
+gc.disable()
+trap = Trap()
+del trap
+show, words = session._machine.show, trace._words
+gc.set_threshold(1)
+gc.enable()
+lines = show(words)[1]
+gc.disable()
+print(lines.decode()[:21], *told)
+"""
+
+
+def test_a_finaliser_can_not_close_the_session_whose_step_is_shown(python_site):
+    assert python_package.python(python_site, FINALISED_AMONG_LINES).strip() == \
+        '2  active call   the session is in the middle of a turn or another call'
+
+
 INTERRUPTED_AMONG_ARGUMENTS = """
 import signal
 from trac_t64 import Session
@@ -650,6 +695,31 @@ def test_memory_that_is_refused(python_site):
         *['True'] * 5, 'True', 'wants', 'output', *['True'] * 5]
 
 
+LINES_REFUSED = """
+import resource
+from trac_t64 import Session
+session, views = Session(65536), {'calls': True, 'width': 0, 'columns': 8}
+session.feed(b"#(ps,(%s))#(ps,b)#(ps,c)'" % (b'\\x01' * 65000), most=0)
+session.end(most=0)
+whole, shown = session.copy().trace(**views), session.trace(**views)
+with open('/proc/self/statm') as file: used = int(file.read().split()[0]) * 4096
+resource.setrlimit(resource.RLIMIT_AS, (used + 10000000, resource.RLIM_INFINITY))
+try:
+    while shown.step() is not None: pass
+except MemoryError: print(session.steps)
+resource.setrlimit(resource.RLIMIT_AS, (resource.RLIM_INFINITY, resource.RLIM_INFINITY))
+rest = list(type(shown)(session.copy()._machine, shown._words))
+print(len(rest), list(whole)[-len(rest):] == rest)
+print(session.step().number, session.steps)
+print(len(shown.step()), session.steps)
+"""
+
+
+def test_a_step_is_made_whose_lines_find_no_memory(python_site):
+    assert python_package.python(python_site, LINES_REFUSED).splitlines() == [
+        '9', '520110 True', '10 10', '0 11']
+
+
 # ---- The package itself.
 
 
@@ -695,11 +765,3 @@ def test_the_programs_of_the_pages(python_site, tmp_path):
         assert found, name
         for text, output in found:
             assert python_package.python(python_site, text, cwd=tmp_path) == output, name
-
-
-def test_the_functions_are_those_of_the_manual(trac_t64):
-    with open(os.path.join(TOP, 'docs', 'LANGUAGE.md'), encoding='utf-8') as page:
-        rows = re.findall(r'^#### `([^`]+)`: (.*)$', page.read(), re.MULTILINE)
-    functions = trac_t64.FUNCTIONS
-    assert [(name, function.call, function.title) for name, function in functions.items()] == [
-        (usage[:2], usage, what) for usage, what in rows]

@@ -150,8 +150,9 @@ def test_a_trace(command, written):
     assert lines == command('--steps', '50', 'greets', 'endless')[1] and 'allowance of 50 steps used up' in lines
     for words, said in ((['--calls'], '--trace is missing, which goes with --calls'),
                         (['--from', '3', '--width=8'], '--trace is missing, which goes with --from, --width'),
-                        (['--trace', '--width', '16777217'], "'16777217' is not in 0..=16777216")):
-        output, lines, status = command(*words, 'greets')
+                        (['--trace', '--width', '16777217'], "'16777217' is not in 0..=16777216"),
+                        (['--trace', '-i'], '--trace shows scripts, of which -i alone has none')):
+        output, lines, status = command(*words, *(() if '-i' in words else ('greets',)))
         assert (output, status) == (b'', 2) and said in lines, words
 
 
@@ -234,6 +235,15 @@ def test_devices_that_fail(python_site):
     assert (done.stderr, done.returncode) == (line, 5)
 
 
+def test_a_trace_whose_lines_can_not_be_written(python_site):
+    for words, lines in (([], b'<stdin>: 1 steps, peak 11 cells\n<stdin>:1:1: output failed\n'),
+                         (['--cells', '10'], b'<stdin>: 0 steps, peak 0 cells\n<stdin>:1:1: output failed\n')):
+        with open('/dev/full', 'wb') as full:
+            done = subprocess.run([sys.executable, '-m', 'trac_t64', '--trace', '--report', *words], input=HELLO,
+                                  stdout=full, stderr=subprocess.PIPE, env=python_package.environment(python_site))
+        assert (done.stderr, done.returncode) == (lines, 5), words
+
+
 def test_an_input_that_is_closed_or_not_there_yet(command):
     line = '<stdin>:1:1: input failed at step 9\n'
     assert command(preexec_fn=lambda: os.close(0)) == (b'', line, 4)
@@ -248,6 +258,14 @@ def test_memory_that_is_refused(command):
         resource.setrlimit(resource.RLIMIT_AS, (100000000, 100000000))
     assert command('--cells', '16777216', script=HELLO, preexec_fn=limit) == (
         b'', 'trac_t64: no memory for 16777216 cells\n', 6)
+
+
+def test_a_trace_where_there_is_memory_for_a_run(command):
+    def limit():
+        resource.setrlimit(resource.RLIMIT_AS, (1000000000, 1000000000))
+    for words in ([], ['--trace', '--calls']):
+        _, lines, status = command('--cells', '16777216', *words, script=HELLO, preexec_fn=limit)
+        assert (lines, status) == ('', 0), words
 
 
 def test_what_is_printed_is_out_before_the_next_string_is_read(python_site):

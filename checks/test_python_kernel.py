@@ -92,6 +92,9 @@ def test_commands_that_are_refused(kernel):
                  '%trace -1'):
         seen, status = run(kernel, code + "\n#(ps,never)'")
         assert status == 'error' and len(seen) == 1 and seen[0][0] == 'error', code
+    for words in ('form', 'calls forms', 'calls 0'):
+        assert run(kernel, f"%trace {words}\n#(ps,never)'") == red(
+            '%trace, behind which calls or forms may stand, wants one number, from 1 to 18446744073709551615')
     assert run(kernel, '%help')[1] == 'ok'
 
 

@@ -89,12 +89,22 @@ export const MOST_CELLS: 16777216;
  * @property {number} [columns] the most columns of a line, 0 for any number, to 16777216; 0 if left out
  */
 /**
+ * Makes a step as a turn does whose `most` is 1, and gives its lines too: a head in front of those of the first
+ * one, and behind those of the last one how the run ended. No lines where it wants input; output is never wanted. Each
+ * later step tells again how the run ended.
+ * @callback TraceStep
+ * @param {string | Uint8Array | ArrayBuffer} [input] the bytes to read; of a string, its bytes in UTF-8
+ * @param {{ended?: boolean}} [how] whether the input ends behind these bytes; it doesn't if left out
+ * @returns {TurnReport & {lines: string}}
+ * @throws {TypeError} where the input is no text, or an option unknown
+ * @throws {RangeError} where the memory for the input, the output or the lines can't be had. If that for the lines was
+ * too small, above some million cells, the error has a `report`, a TurnReport: it tells whether the step was made, what
+ * it read and what it printed, and only its lines are lost. Else nothing was read or printed
+ */
+/**
  * A run that is shown, step by step. Made by `Session.trace`.
  * @typedef {object} Trace
- * @property {(input?: string | Uint8Array | ArrayBuffer, how?: {ended?: boolean}) => TurnReport & {lines: string}} step
- * makes a step as a turn does whose `most` is 1, and gives its lines too: a head in front of those of the first
- * one, and behind those of the last one how the run ended. No lines where it wants input or output. Each later
- * step tells again how the run ended.
+ * @property {TraceStep} step makes a step, and gives its lines
  */
 /**
  * A form, as it stands.
@@ -449,19 +459,23 @@ export type Views = {
     columns?: number;
 };
 /**
+ * Makes a step as a turn does whose `most` is 1, and gives its lines too: a head in front of those of the first
+ * one, and behind those of the last one how the run ended. No lines where it wants input; output is never wanted. Each
+ * later step tells again how the run ended.
+ */
+export type TraceStep = (input?: string | Uint8Array | ArrayBuffer, how?: {
+    ended?: boolean;
+}) => TurnReport & {
+    lines: string;
+};
+/**
  * A run that is shown, step by step. Made by `Session.trace`.
  */
 export type Trace = {
     /**
-     * makes a step as a turn does whose `most` is 1, and gives its lines too: a head in front of those of the first
-     * one, and behind those of the last one how the run ended. No lines where it wants input or output. Each later
-     * step tells again how the run ended.
+     * makes a step, and gives its lines
      */
-    step: (input?: string | Uint8Array | ArrayBuffer, how?: {
-        ended?: boolean;
-    }) => TurnReport & {
-        lines: string;
-    };
+    step: TraceStep;
 };
 /**
  * A form, as it stands.

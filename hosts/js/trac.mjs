@@ -22,6 +22,7 @@ const WORDS_AT_ONCE = 64;
 const REPORT_SIZE = 40;
 const LARGEST = 2n ** 64n - 1n;
 const REFUSED = 9;
+const GOING = 0;
 const WANTS_OUTPUT = 8;
 const NO_MEMORY = 10;
 /** The bytes of a unit of the memory for lists, and those of the lines of a check that are tried first. */
@@ -33,7 +34,7 @@ const TRACE_LINES = 40;
 const MOST_WIDTH = 16777216;
 /** The bytes for the lists of a step that is shown, and as many for its lines: of any, and more for each cell. */
 const STEP_LISTS = 2 ** 20;
-const LISTS_OF_A_CELL = 96;
+const LISTS_OF_A_CELL = 256;
 const MOST_STEP_LISTS = 2 ** 28;
 const WARNING = /^line (\d+), column (\d+): (.*)$/s;
 /** The fates of a turn after which its run goes on. */
@@ -382,8 +383,8 @@ function traceWords(views) {
     const numbers = new DataView(words.buffer);
     numbers.setBigUint64(0, whole('from', from, 1n, LARGEST), true);
     numbers.setBigUint64(8, whole('to', to, 1n, LARGEST), true);
-    [whole('width', width, 0n, BigInt(MOST_WIDTH)), whole('columns', columns, 0n, BigInt(MOST_WIDTH)), calls, forms]
-        .forEach((value, i) => numbers.setUint32(16 + 4 * i, Number(value), true));
+    [whole('width', width, 0n, BigInt(MOST_WIDTH)), whole('columns', columns, 0n, BigInt(MOST_WIDTH)),
+        calls ? 1 : 0, forms ? 1 : 0].forEach((value, i) => numbers.setUint32(16 + 4 * i, Number(value), true));
     return words;
 }
 
@@ -516,12 +517,23 @@ function layPages(block, pages) {
  */
 
 /**
+ * Makes a step as a turn does whose `most` is 1, and gives its lines too: a head in front of those of the first
+ * one, and behind those of the last one how the run ended. No lines where it wants input; output is never wanted. Each
+ * later step tells again how the run ended.
+ * @callback TraceStep
+ * @param {string | Uint8Array | ArrayBuffer} [input] the bytes to read; of a string, its bytes in UTF-8
+ * @param {{ended?: boolean}} [how] whether the input ends behind these bytes; it doesn't if left out
+ * @returns {TurnReport & {lines: string}}
+ * @throws {TypeError} where the input is no text, or an option unknown
+ * @throws {RangeError} where the memory for the input, the output or the lines can't be had. If that for the lines was
+ * too small, above some million cells, the error has a `report`, a TurnReport: it tells whether the step was made, what
+ * it read and what it printed, and only its lines are lost. Else nothing was read or printed
+ */
+
+/**
  * A run that is shown, step by step. Made by `Session.trace`.
  * @typedef {object} Trace
- * @property {(input?: string | Uint8Array | ArrayBuffer, how?: {ended?: boolean}) => TurnReport & {lines: string}} step
- * makes a step as a turn does whose `most` is 1, and gives its lines too: a head in front of those of the first
- * one, and behind those of the last one how the run ended. No lines where it wants input or output. Each later
- * step tells again how the run ended.
+ * @property {TraceStep} step makes a step, and gives its lines
  */
 
 /**
@@ -947,15 +959,16 @@ export class Session {
                 BigInt(this.#output.size), how.ended ? 1 : 0, lists, BigInt(Math.floor(size / LIST_UNIT)), lines,
                 BigInt(size));
             told = reportAt(this.#engine.memory.buffer, this.#report);
+            words.set(this.#bytes(trace, TRACE_SIZE));
             if (told.fate !== WANTS_OUTPUT) break;
         }
-        words.set(this.#bytes(trace, TRACE_SIZE));
         this.#steps = told.steps;
-        if (told.fate === NO_MEMORY) throw new RangeError('there is no memory for the lines of a step');
-        const length = Number(new DataView(words.buffer).getBigUint64(TRACE_LINES, true));
+        const isLost = told.fate === NO_MEMORY;
         const printed = this.#bytes(this.#output.place, told.written).slice();
-        return Object.assign(this.#reportOf(told, printed, told.consumed), {
-            lines: textOf(this.#bytes(lines, length).slice()) });
+        const report = this.#reportOf(isLost ? { ...told, fate: GOING } : told, printed, told.consumed);
+        if (isLost) throw Object.assign(new RangeError('there is no memory for the lines of a step'), { report });
+        const length = Number(new DataView(words.buffer).getBigUint64(TRACE_LINES, true));
+        return Object.assign(report, { lines: textOf(this.#bytes(lines, length).slice()) });
     }
 
     /**

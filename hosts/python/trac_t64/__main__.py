@@ -176,6 +176,8 @@ def play(session: Session, source: Source, trace: Trace | None) -> Ending:
             for output in lines_of(trace) if trace else session.outputs():
                 write_all(1, output)
         except OSError:
+            if trace:  # the step whose lines fail was made
+                return Ending(OUTPUT_FAILED, 'output failed', session.steps, session.peak)
             return Ending(OUTPUT_FAILED, f'output failed at step {session.steps}', session.steps - 1, session.peak)
         if session.fate is not Fate.WANTS_INPUT:
             return Ending(STATUS.get(session.fate, DONE), fault_words(session), session.steps, session.peak)
@@ -373,6 +375,8 @@ def main(words: Sequence[str] | None = None) -> int:
     if views_of(given) and not given.trace:
         made.error('argument --trace is missing, which goes with ' + ', '.join(
             '--from' if name == 'first' else f'--{name}' for name in views_of(given)))
+    if given.trace and given.stays and not (given.files or given.scripts):
+        made.error('argument --trace shows scripts, of which -i alone has none')
     try:
         if not given.help:
             return perform(given)

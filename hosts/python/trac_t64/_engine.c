@@ -86,6 +86,7 @@ typedef struct {
     int has_ended; /* whether the input ends behind what the buffer holds */
     int is_busy;   /* whether a call uses it. Whoever asks meanwhile, as an object's finaliser does, is refused */
     uint8_t *lent; /* for the lists of a step that is shown, and behind them for its lines; null before one was */
+    size_t lent_length; /* the bytes of each of the two */
     trac_report report;
     uint64_t consumed;
 } machine_object;
@@ -514,9 +515,17 @@ static PyObject *machine_take_peak(machine_object *self, PyObject *nothing) {
 
 /* ---- A run that is shown. */
 
-/* The bytes for the lists of a step, and as many for its lines: what a step can need. Memory that isn't used costs
- * nothing. */
-static size_t lent_length(const machine_object *self) { return ((size_t)1 << 20) + 256 * self->cells; }
+/* Has memory for the lists and the lines of a step, as much as a step can need: it costs nothing as long as it isn't
+ * used. Where there is less, a step may find too little. Gives 0 where there is hardly any. */
+static int has_lent(machine_object *self) {
+    const size_t least = (size_t)1 << 20;
+    if (self->lent)
+        return 1;
+    self->lent_length = least + 256 * self->cells;
+    while (!(self->lent = (uint8_t *)malloc(2 * self->lent_length)) && self->lent_length > least)
+        self->lent_length /= 2;
+    return self->lent != NULL;
+}
 
 /* The words of a trace before its first step: what is shown. */
 static PyObject *module_trace(PyObject *module, PyObject *args) {
@@ -536,28 +545,31 @@ static PyObject *module_trace(PyObject *module, PyObject *args) {
     return PyBytes_FromStringAndSize((const char *)&trace, sizeof trace);
 }
 
-/* Makes a step that is shown. Gives 0 where there is no memory. */
+/* Makes a step that is shown. Gives 0 where there is no memory; the step may have been made then, without its lines. */
 static int show_step(machine_object *self, trac_trace *trace) {
-    const size_t length = lent_length(self);
     buffer *const input = &self->input, *const output = &self->output;
     do {
-        if (!reserve(output, self->report.wanted) || (!self->lent && !(self->lent = (uint8_t *)malloc(2 * length))))
+        if (!reserve(output, self->report.wanted) || !has_lent(self))
             return 0;
         const trac_report told = trac_trace_step(
             &self->machine, trace, front_of(input), length_of(input), self->has_ended,
-            output->bytes ? output->bytes + output->end : NULL, room_in(output), self->lent, length,
-            self->lent + length, length);
+            output->bytes ? output->bytes + output->end : NULL, room_in(output), self->lent, self->lent_length,
+            self->lent + self->lent_length, self->lent_length);
         discard(input, told.consumed);
         output->end += told.written;
         self->consumed += told.consumed;
-        if (told.fate == TRAC_NO_MEMORY)
+        if (told.fate == TRAC_NO_MEMORY) {
+            self->report.steps = told.steps;
+            free(self->lent);
+            self->lent = NULL; /* the next step may find more */
             return 0;
+        }
         self->report = told;
     } while (self->report.fate == TRAC_WANTS_OUTPUT);
     return 1;
 }
 
-/* Makes a step by the words of a trace. Gives the words behind it, and the lines. */
+/* Makes a step by the words of a trace. Gives the words behind it, and the lines; none where there is no memory. */
 static PyObject *machine_show(machine_object *self, PyObject *words) {
     trac_trace trace;
     char *bytes;
@@ -567,10 +579,14 @@ static PyObject *machine_show(machine_object *self, PyObject *words) {
     if (length != (Py_ssize_t)sizeof trace)
         return PyErr_Format(PyExc_ValueError, "words must be %d bytes", (int)sizeof trace);
     memcpy(&trace, bytes, sizeof trace);
-    if (!show_step(self, &trace))
-        return PyErr_NoMemory();
-    return Py_BuildValue("y#y#", (const char *)&trace, (Py_ssize_t)sizeof trace,
-                         (const char *)self->lent + lent_length(self), (Py_ssize_t)trace.lines);
+    const int is_shown = show_step(self, &trace);
+    const char *const lines = is_shown ? (const char *)self->lent + self->lent_length : NULL;
+    /* Objects are made, so the collector may run finalisers, which can't use the machine meanwhile. */
+    self->is_busy = 1;
+    PyObject *const shown = Py_BuildValue("y#y#", (const char *)&trace, (Py_ssize_t)sizeof trace, lines,
+                                          (Py_ssize_t)trace.lines);
+    self->is_busy = 0;
+    return shown;
 }
 
 /* ---- What is suspicious in a script. */

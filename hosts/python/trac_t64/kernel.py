@@ -187,7 +187,8 @@ class TracKernel(Kernel):
             self._steps = number_of(command, words, MOST_STEPS)
         elif command == '%trace':
             self._view = {word: True for word in words[:1] if word in ('calls', 'forms')}
-            self._shown_steps = number_of(command, words[len(self._view):] or [str(SHOWN_STEPS)], MOST_STEPS)
+            self._shown_steps = number_of('%trace, behind which calls or forms may stand,',
+                                          words[len(self._view):] or [str(SHOWN_STEPS)], MOST_STEPS)
         elif command == '%check' and not words:
             self._is_checked = True
         elif command == '%reset' and not words:

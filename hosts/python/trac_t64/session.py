@@ -251,8 +251,9 @@ def check(script: Text, cells: SupportsIndex = DEFAULT_CELLS, steps: SupportsInd
 
 
 class Trace:
-    """A run of a session that is shown as lines. A trace is of one run: behind `again` ask for another. Its steps count
-    the session's `peak` from there on; the greatest of all steps stands in its last line."""
+    """A run of a session that is shown as lines. A trace is of one run: behind `again` ask for another. The session's
+    `peak` is the trace's while its steps are made, and counts from 0 again behind them; the greatest of all its steps
+    stands in its last line."""
 
     __slots__ = ('_machine', '_words')
 
@@ -265,6 +266,8 @@ class Trace:
         if Fate(self._machine.report()[0]).is_end:
             return None
         self._words, lines = self._machine.show(self._words)
+        if lines is None:
+            raise MemoryError
         if self._machine.report()[0] == Fate.WANTS_INPUT.value:
             return None
         return lines.decode(errors='replace').split('\n')[:-1]
@@ -411,7 +414,8 @@ class Session:
 
     @property
     def peak(self) -> int:
-        """The greatest need of a step of the run so far, in cells."""
+        """The greatest need of a step, in cells: of the run so far, or since `take_peak` or the last step of a
+        trace."""
         return self._machine.report()[2]
 
     @property
