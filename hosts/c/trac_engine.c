@@ -4,7 +4,7 @@
  * and what compilers make of it (memcpy, memset) alone.
  *
  * Crates: trac_language trac_space trac_values trac_store trac_forms trac_devices trac_functions trac_laws trac_core trac_events trac_warnings trac_lent trac_views trac_tracer trac_checker trac_c
- * Sources: f007f21f154ed429432d9c914ec51ebe8f71aa23b20529d93e4697e4a0f56b8a
+ * Sources: 866adad453b34afe5be46e689a6e8bb809481136c2bb9ed6e5d67e0c5ff9a47b
  * Kit: rattle-kit-13f logic dac8208d650f15bf
  * Tools: wasm-opt version 108, wabt 1.0.32
  */

@@ -145,8 +145,8 @@ impl TracTrace {
 /// run, how it ended stands behind its lines, and in front of the first step's stands the head. The lists that this
 /// needs stand in the `units` units of 16 bytes at `memory`, which are aligned to 16, and are the caller's no more. If
 /// they are too few, `fate` is 10: either nothing was done, or the step was, as `steps`, `written` and `consumed` tell,
-/// and only its lines are lost. An end of the run that counts no step is told by the next call, without the head. The peak of the machine is taken over into that of the trace, which the report has, and
-/// counts from 0 again.
+/// and only its lines are lost. An end of the run that counts no step is told by the next call, without the head. The
+/// peak of the machine is taken over into that of the trace, which the report has, and counts from 0 again.
 #[unsafe(no_mangle)]
 pub unsafe extern "C" fn trac_engine_trace_step(
     machine: *mut u64,
